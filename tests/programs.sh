@@ -51,13 +51,25 @@ try 'a copy that holds bytes' 10 4 '^piper_pump: kept: .*--force' '$pump --tee k
 try 'a copy that can not be made' 10 4 '^piper_pump: no/such/file: ' '$pump --force -o kept --tee no/such/file < file'
 try 'an input that is not there' 10 3 '^piper_pump: no/such/file: ' '$pump --force -o kept -i no/such/file'
 try 'memory that is refused' 10 6 'out of memory' 'prlimit --as=8192000 $pump --capacity 64M --force -o kept < file'
+try 'a folder as the input, and a file' 10 3 '^piper_pump: reading the input failed: Is a directory' '$pump --force -i . -o kept'
+try 'an input that fails at its first read' 10 3 '^piper_pump: reading the input failed: Input/output' '$pump --force -i /proc/self/mem -o kept --tee new'
+try 'a folder as the input by the shell' 10 3 'Is a directory' '$pump --force -o new --tee kept < .'
 note 'what a file held stays where the pump does not begin' test "$(cat kept)" = kept
+try 'a new file, and a copy in no folder' 10 4 '^piper_pump: no/such/file: ' '$pump -o new --tee no/such/file < file'
+try 'a new file, and a copy that can not be made' 10 4 '^piper_pump: /proc/new: ' '$pump -o new --tee /proc/new < file'
+try 'a new file, and a copy that can not be opened' 10 4 '^piper_pump: ./piper_pump: Text file busy' '$pump --force -o new --tee $pump < file'
+try 'a new file, and a copy that is a folder' 10 4 '^piper_pump: /: is a directory' '$pump -o new --tee / < file'
+try 'a new file, and memory that is refused' 10 6 'out of memory' 'prlimit --as=8192000 $pump --capacity 64M -o new < file'
+try 'a new file, and words that are refused' 10 2 "^piper_pump: invalid value '-' for '--tee <FILE>'" '$pump -o new --tee - < file'
+note 'a run that is refused makes no file' test ! -e new -a ! -e ./-
+try 'a copy that can not be opened, and an idle input' 5 4 '^piper_pump: /proc/new: ' '$pump --tee /proc/new < <(echo a line; exec sleep 30)'
 : > empty
 try_silent 'a file that is empty' 10 0 '$pump -o empty < file && cmp empty file'
 cp file long
 lines 100 >> long
 try_silent 'a file that is overwritten' 10 0 '$pump --force -o long --tee kept < file && cmp long file && cmp kept file'
 try_silent 'a file that is overwritten by nothing' 10 0 '$pump --force -o long < /dev/null && test ! -s long'
+try_silent 'a new file and a copy of nothing' 10 0 '$pump -o none --tee nothing < /dev/null && test -e none -a -e nothing && rm none nothing'
 
 # Copies that fail: the output and the other copies get all bytes, and the file is named.
 try 'a copy that is full' 20 7 '^piper_pump: /dev/full: No space' '$pump --tee /dev/full --tee second < file > first; status=$?; cmp first file && cmp second file && exit $status'
@@ -107,9 +119,14 @@ try 'a rate that is none' 10 2 "invalid value 'x' for '--rate <N>': .* from 1 to
 try 'a size that is none' 10 2 "invalid value 'x' for '--size <N>': .* from 0 to " '$pump --size x < file'
 try 'a level that is none' 10 2 "invalid value '101' for '--start-at <N>': .* from 0 to 100" '$pump --start-at 101 < file'
 try_silent 'a size of none' 10 0 '$pump --size 0 < /dev/null'
+try 'a word that is none' 10 2 "^piper_pump: unexpected argument '--speed'" '$pump --speed'
+try 'a size that is none, of the pipe' 10 2 "^piper_pump: invalid value 'x' for '--capacity <N>'" '$pump --capacity x'
 try_silent 'names of the standard streams' 10 0 '$pump -i - -o - < file | cmp - file && test ! -e ./-'
 try 'the sum, quietly' 20 0 "$(sha256sum < short | cut -c1-64)" '$pump --quiet --progress --sha256 < short > /dev/null'
 note 'it is told alone' test "$(wc -l < told)" -eq 1
+note 'it is told as sha256sum does' eval 'sha256sum -c told < short > /dev/null 2>&1'
+try 'the sum of a file' 20 0 '  summed$' '$pump --sha256 -o summed < short'
+note 'it is told as sha256sum does, by its name' eval 'sha256sum -c told > /dev/null 2>&1'
 try_silent 'the help' 10 0 '$pump --help'
 note 'the help tells what a signal costs' grep -q 'is lost where a signal ends it' out
 
@@ -123,6 +140,9 @@ note "100,000 bytes at 100,000 a second, one by one, took $took ms" test "$took"
 # Progress.
 try 'progress that knows the size by the shell' 20 0 '; [0-9]*%, [0-9.]* [a-z]* left' '$pump --progress --rate 3m < file > /dev/null'
 try 'a part of a file' 20 0 '; 100%$' '(head -c 4000000 > /dev/null; $pump --progress) < file > /dev/null'
+try 'a size that is too small' 20 0 'KiB' '(lines 5000; sleep 0.6) | $pump --progress --size 2 > /dev/null'
+note 'it tells no percent of it' eval '! grep -q "[0-9]%$\|left" told'
+try_silent 'a reader of the progress that left' 20 0 '(lines 300000; sleep 1; lines 300000) | $pump --progress 2> >(exec head -n 1 > first) | cmp - <(lines 300000; lines 300000)'
 try 'progress at its longest' 20 0 '; 0%, 2[0-9] h left' '(lines 2000000; sleep 1) | $pump --progress --capacity 1m --size 99000000000 --rate 1m > /dev/null'
 note 'no line has more than 79 columns' awk 'length($0) > 79 { exit 1 }' told
 

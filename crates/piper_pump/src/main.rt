@@ -5,10 +5,10 @@
 use piper_transfer::Plain;
 use pump_engine::arguments::words;
 use pump_engine::ended::Ended;
+use pump_engine::files::SystemFile;
 use pump_engine::outcome::Outcome;
 use pump_engine::program::{Nothing, STACK, run_and_report};
 use pump_engine::streams::{Streams, is_open};
-use std::fs::File;
 use std::io::IsTerminal;
 use std::process::ExitCode;
 use std::sync::Arc;
@@ -39,7 +39,7 @@ fn main(rt: HostRuntime) -> ExitCode {
     let started = Builder::new()
         .stack_size(STACK)
         .spawn_with(&rt, Nothing, move || {
-            run_and_report::<_, File, _, _>(rt, words, source, dest, streams, theirs)
+            run_and_report::<_, SystemFile, _, _>(rt, words, source, dest, streams, theirs)
         });
     if let Err(refused) = started {
         (refused.value)();

@@ -20,6 +20,6 @@ pub use both_sides::{Sizes, transfer};
 pub use ends::{Destination, Plain, Source};
 pub use error::TransferError;
 pub use meter::{Meter, OfInput, OfOutput, Side};
-pub use patience::is_lasting;
+pub use patience::{flush_patiently, is_lasting};
 pub use size::{NotASize, parse_size};
 pub use start::grants_thread;

@@ -121,7 +121,7 @@ where
 }
 
 /// Flushes. Where that could not be done for now, it is tried again.
-pub(crate) fn flush_patiently<R, D>(rt: &R, dest: &mut D) -> io::Result<()>
+pub fn flush_patiently<R, D>(rt: &R, dest: &mut D) -> io::Result<()>
 where
     R: Wait + Clock,
     D: Destination,

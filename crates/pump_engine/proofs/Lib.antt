@@ -1,3 +1,4 @@
+mod Concluded
 mod Copied
 pub mod Named
 mod Passed

@@ -11,4 +11,5 @@ pub mod Pace
 pub mod Plan
 pub mod Progress
 pub mod Running
+pub mod Steps
 pub mod Streams

@@ -8,3 +8,4 @@ use Rattle.pump_engine.specs.declared.outcome.Failure.TheVariants as failure
 abbrev pub IsOfLasting : Failure → Type 0
 IsOfLasting (failure.Write e) = IsLasting e
 IsOfLasting failure.Full = ⊤
+IsOfLasting (failure.Unopened e) = ⊤

@@ -3,7 +3,7 @@ use Rattle.std.specs.Prelude.{◌≡◌, ◌⊎◌, ℕ, Bool, List, [], ◌++�
 use Rattle.std.specs.Io.KnownBytes.{Appends, Consumes, IsAtEnd}
 use Rattle.piper_transfer.specs.Transfer.{WritesAll}
 use Rattle.piper_transfer.specs.declared.error.TransferError.{TransferError}
-use Rattle.pump_engine.specs.Ended.{EndsAs, IsEarly}
+use Rattle.pump_engine.specs.Ended.{EndsAs, IsEarly, IsUnopened}
 use Rattle.pump_engine.specs.declared.ended.Ended.{Ended}
 
 -- it ended before the first byte
@@ -14,19 +14,25 @@ pub record StopsEarly
   pub input : input_new ≡ input_old
   pub output : output_new ≡ output_old
 
--- it ended as a transfer did: what was written is a front of what the input gave, and all of it
--- where the transfer wrote all; then it was flushed, as were the copies that have not failed. The
--- copies and the sum got what was written, and the error that is reported is one of the side that
--- it names, whatever became of the copies
+-- it ended as a transfer did, unless a file that is to be written could not be opened
+abbrev pub EndsSo : Type 0 → Result Unit TransferError → Bool → Ended → Type 0
+EndsSo is_refused answer has_copy_failed e =
+    (¬ is_refused → EndsAs answer has_copy_failed e) × (is_refused → IsUnopened e)
+
+-- it ended as a transfer did, or since a file could not be opened: what was written is a front of
+-- what the input gave, and all of it where the transfer wrote all; then it was flushed, as were the
+-- copies that have not failed. The copies and the sum got what was written, and the error that is
+-- reported is one of the side that it names, whatever became of the copies. Files that are written
+-- were opened where it ended well
 pub record EndsWithTransfer
     (input_old input_new output_old output_new : Option (List ℕ))
     (IsCopied : List ℕ → Type 0)
-    (is_flushed : Type 0)
+    (is_flushed is_open is_refused : Type 0)
     (IsFailed : TransferError → Type 0)
     (has_copy_failed : Bool)
     (e : Ended) : Type 0 where
   pub answer : Result Unit TransferError
-  pub ends : EndsAs answer has_copy_failed e
+  pub ends : EndsSo is_refused answer has_copy_failed e
   pub written : List ℕ
   pub left : List ℕ
   pub given : Consumes input_old input_new (written ++ left)
@@ -35,10 +41,13 @@ pub record EndsWithTransfer
   pub all : WritesAll answer → left ≡ []
   pub ended : OnOk answer (IsAtEnd input_new)
   pub flushed : WritesAll answer → is_flushed
+  pub opened : OnOk answer is_open
   pub reported : IfErr answer IsFailed
 
 -- one of the two
 abbrev pub Runs : (input_old input_new output_old output_new : Option (List ℕ))
-    → (List ℕ → Type 0) → Type 0 → (TransferError → Type 0) → Bool → Ended → Type 0
-Runs i j o p IsCopied is_flushed IsFailed has_copy_failed e =
-    StopsEarly i j o p e ⊎ EndsWithTransfer i j o p IsCopied is_flushed IsFailed has_copy_failed e
+    → (List ℕ → Type 0) → (is_flushed is_open is_refused : Type 0) → (TransferError → Type 0) → Bool
+    → Ended → Type 0
+Runs i j o p IsCopied is_flushed is_open is_refused IsFailed has_copy_failed e =
+    StopsEarly i j o p e
+    ⊎ EndsWithTransfer i j o p IsCopied is_flushed is_open is_refused IsFailed has_copy_failed e

@@ -20,8 +20,8 @@ use std::{env, io};
 const STATUSES: &str = "Exit status:
   0  all bytes were moved, or the help or the version was printed
   2  the words on the command line are refused
-  3  the input failed; what came before was written
-  4  the output failed, or takes no more bytes; or a file can't be written
+  3  the input failed, is closed or can't be opened; what came before was written
+  4  the output failed, is closed or full; or a file can't be written or is refused
   5  the program that reads the output has ended
   6  memory was refused
   7  all bytes were moved, but a file by --tee did not get them
@@ -155,7 +155,7 @@ fn command<'a>(alloc: Global) -> Result<Command<'a>, Error>
         .arg(flag(
             alloc,
             "sha256",
-            "Tells the SHA-256 of what passed, on standard error at the end",
+            "Tells the SHA-256 of what passed, on standard error at the end, as sha256sum does",
         ))?
         .arg(option(alloc, "capacity", "How many bytes it holds; 1M if left out"))?
         .arg(option(

@@ -60,15 +60,15 @@ impl<'a, R: Clock + Eprint, F: NamedFile> Copies<'a, R, F> {
         self.pace = rate.map(Pace::new);
     }
 
-    /// Reports the sum of all that passed, if it is wanted.
-    pub(crate) fn report_sum(&mut self)
+    /// Reports the sum of all that passed, if it is wanted: as that of the file of this name.
+    pub(crate) fn report_sum(&mut self, name: &str)
         ensures copies { (names : List (List ℕ)) (passed : List ℕ)
             → HavePassed F.name F.written F.fails self.old names passed
             → HavePassed F.name F.written F.fails self.new names passed }
         ensures tees { self.new.tees ≡ self.old.tees }
     {
         if let Some(digest) = digest_of(&self.sum) {
-            print_digest(self.rt, digest);
+            print_sum(self.rt, digest, name);
             self.digest = Some(digest);
         }
     }
@@ -149,11 +149,23 @@ fn keep_pace(clock: &impl Clock, pace: &mut Option<Pace>, count: usize)
     }
 }
 
-fn print_digest(rt: &impl Eprint, digest: [u8; 32]) {
+// In the form of `sha256sum`, which a backslash begins where the name has one or an end of line.
+fn print_sum(rt: &impl Eprint, digest: [u8; 32], name: &str) {
     // There is nowhere left to say that standard error is closed.
-    let _ = eprint!(rt; "SHA-256: ");
+    if name.chars().any(|c| matches!(c, '\\' | '\n' | '\r')) {
+        let _ = eprint!(rt; "\\");
+    }
     for byte in &digest {
         let _ = eprint!(rt; "{:02x}", byte);
+    }
+    let _ = eprint!(rt; "  ");
+    for c in name.chars() {
+        let _ = match c {
+            '\\' => eprint!(rt; "\\\\"),
+            '\n' => eprint!(rt; "\\n"),
+            '\r' => eprint!(rt; "\\r"),
+            c => eprint!(rt; "{c}"),
+        };
     }
     let _ = eprintln!(rt; "");
 }

@@ -2,11 +2,11 @@
 ghost use Rattle.std.specs.Prelude.{◌≡◌, ◌⊎◌, IfErr, IfOk, string_bytes};
 ghost use Rattle.std.specs.Process.{exit_status};
 ghost use Rattle.piper_protocol.specs.Reported.{HasFailed};
-ghost use Rattle.pump_engine.specs.Ended.{EndsAs, HasStatus, IsOfOption, IsOfRange, IsShown};
+ghost use Rattle.pump_engine.specs.Ended.{EndsAs, HasStatus, IsOfOption, IsOfRange, IsShown, IsUnopened};
 
 use piper_protocol::reported::reported;
 use piper_transfer::TransferError;
-use std::alloc::Global;
+use std::alloc::{AllocGlobal, Global};
 use std::io;
 use std::io::ErrorKind;
 use std::process::ExitCode;
@@ -28,6 +28,12 @@ impl Unopened {
     {
         let name = reported(String::from_str(alloc, name).map_err(|_| Ended::Memory))?;
         Ok(Unopened { name, error })
+    }
+
+    fn again(&self, alloc: Global) -> Result<Unopened, Ended>
+        ensures { IfErr result IsUnopened }
+    {
+        Unopened::new(alloc, self.name.as_str(), self.error)
     }
 }
 
@@ -100,8 +106,25 @@ impl Ended {
         }
     }
 
+    /// The same again, of an end for a file that can't be opened.
+    pub(crate) fn again(&self, alloc: Global) -> Ended
+        ensures { IsUnopened self.now → IsUnopened result }
+    {
+        match self {
+            Ended::NoInput(file) => match file.again(alloc) {
+                Ok(file) => Ended::NoInput(file),
+                Err(refused) => refused,
+            },
+            Ended::NoOutput(file) => match file.again(alloc) {
+                Ok(file) => Ended::NoOutput(file),
+                Err(refused) => refused,
+            },
+            _ => Ended::Memory,
+        }
+    }
+
     /// Says why it ended early, if it did, and returns the status.
-    pub fn report(&self, rt: &(impl Print + Eprint)) -> ExitCode
+    pub fn report(&self, rt: &(impl Print + Eprint + AllocGlobal)) -> ExitCode
         ensures { HasStatus self.now (exit_status result) }
     {
         let (reported, status) = match self {
@@ -134,23 +157,44 @@ impl Ended {
 // In the words that other options are refused in.
 fn report_not_taken(rt: &impl Eprint, word: &NotTaken) -> io::Result<()> {
     eprintln!(rt;
-        "error: invalid value '{}' for '{}': {}\n\nFor more information, try '--help'.",
+        "piper_pump: invalid value '{}' for '{}': {}\n\nFor more information, try '--help'.",
         word.text, word.option, word.range
     )
 }
 
 // Prints the help or the version, or why the words are refused. A help that can't be printed is an
 // output that failed.
-fn report_words<R: Print + Eprint>(rt: &R, error: &clap::Error) -> (io::Result<()>, u8)
+fn report_words<R: Print + Eprint + AllocGlobal>(
+    rt: &R,
+    error: &clap::Error,
+) -> (io::Result<()>, u8)
     ensures shown { IsShown error.now → (result.1 ≡ 0) ⊎ (result.1 ≡ 4) }
     ensures refused { ¬ IsShown error.now → result.1 ≡ 2 }
 {
     let status = error.exit_code() as u8;
+    if status != 0 {
+        return (print_refused(rt, error), status);
+    }
     match error.print(rt) {
-        Err(failed) if status == 0 => (
+        Err(failed) => (
             eprintln!(rt; "piper_pump: writing the output failed: {failed}"),
             4,
         ),
-        reported => (reported, status),
+        printed => (printed, status),
     }
+}
+
+// Prints why the words are refused, after the program's name, as all that it tells.
+fn print_refused<R>(rt: &R, error: &clap::Error) -> io::Result<()>
+where
+    R: Print + Eprint + AllocGlobal,
+{
+    let Ok(text) = format!(in rt.alloc(); "{error}") else {
+        return error.print(rt);
+    };
+    let text = text.as_str();
+    eprint!(rt;
+        "piper_pump: {}",
+        text.strip_prefix("error: ").unwrap_or(text)
+    )
 }

@@ -1,15 +1,25 @@
 //! What the program reads and writes: the standard streams or files.
-ghost use Rattle.std.specs.Prelude.{◌≡◌, ℕ, List};
-ghost use Rattle.pump_engine.specs.Copies.{AreFlushed, HavePassed};
-ghost use Rattle.pump_engine.specs.Ends.{drain_bytes, inlet_bytes, DrainFails, InletFails};
-ghost use Rattle.pump_engine.specs.Ends.{IsFlushed, IsFull};
+ghost use Rattle.std.specs.Prelude.{◌≡◌, ◌⊎◌, ◌↔◌, [], ℕ, List, IfErr, IsErr, IsTrue, OnOk};
+ghost use Rattle.std.specs.Io.KnownBytes.{Keeps};
+ghost use Rattle.piper_transfer.specs.Taken.{StaysTaken};
+ghost use Rattle.piper_transfer.specs.Transfer.{IsLasting, IsOfDestination};
+ghost use Rattle.pump_engine.specs.Copies.{HavePassed, has_failed};
+ghost use Rattle.pump_engine.specs.Ended.{EndsAs, IsUnopened};
+ghost use Rattle.pump_engine.specs.Ends.{drain_bytes, inlet_bytes, AreAllFlushed, DrainFails};
+ghost use Rattle.pump_engine.specs.Ends.{HaveTaken, InletFails, IsAnswered, IsAwaited, IsDone, IsFlushed, IsFull};
+ghost use Rattle.pump_engine.specs.Ends.{IsRefused, IsStreamFlushed, OutletFails, OutletTook};
 
 use crate::copies::Copies;
-use crate::files::NamedFile;
+use crate::ended::Ended;
+use crate::files::{NamedFile, Opens};
 use crate::outcome::{Failure, Outcome};
+use crate::outputs::open_outputs;
 use crate::progress::{Progress, Watched};
 use crate::sinks::Sink;
-use piper_transfer::{Destination, Meter, Source, TransferError, grants_thread, is_lasting};
+use piper_transfer::{
+    Destination, Meter, Source, TransferError, flush_patiently, grants_thread, is_lasting,
+};
+use std::alloc::AllocGlobal;
 use std::io;
 use std::sync::Wait;
 use std::thread::Threads;
@@ -29,12 +39,24 @@ pub enum Drain<D: Destination + Drop, F: NamedFile> {
     File(Sink<F>),
 }
 
+/// Whether the files that are written are open.
+#[derive(Drop)]
+pub enum Opening {
+    /// They are opened with the first bytes; those that they hold are to be overwritten, or not.
+    Awaited { overwrites: bool },
+    /// They are open, and may have got bytes.
+    Done,
+    /// One can't be opened, so that the run ends so, and none has got a byte.
+    Refused(Ended),
+}
+
 /// What is written, with all that is to be done with the bytes that pass.
 #[derive(Drop)]
 pub struct Outlet<'a, R: Wait + Clock + Eprint, D: Destination + Drop, F: NamedFile> {
     pub rt: &'a R,
     pub drain: Drain<D, F>,
     pub copies: Copies<'a, R, F>,
+    pub opening: Opening,
     /// Where a failure of the drain is reported at once.
     pub outcome: &'a Outcome,
     pub meter: &'a Meter,
@@ -50,7 +72,8 @@ where
 {
     /// What a thread that watches is to report. Where none is granted, the output reports it.
     pub(crate) fn ask_progress(&mut self, asked: Option<Watched>) -> Option<Watched>
-        ensures { (self.new.drain ≡ self.old.drain) × (self.new.copies ≡ self.old.copies) }
+        ensures { (self.new.drain ≡ self.old.drain) × (self.new.copies ≡ self.old.copies)
+            × (self.new.opening ≡ self.old.opening) }
     {
         let watched = asked?;
         if grants_thread(self.rt) {
@@ -64,6 +87,7 @@ where
     /// that was wanted and all that the input gave was written.
     pub(crate) fn report_rest(&mut self, moved: &Result<(), TransferError>)
         ensures drain { self.new.drain ≡ self.old.drain }
+        ensures opening { self.new.opening ≡ self.old.opening }
         ensures copies { (names : List (List ℕ)) (passed : List ℕ)
             → HavePassed F.name F.written F.fails self.old.copies names passed
             → HavePassed F.name F.written F.fails self.new.copies names passed }
@@ -71,16 +95,131 @@ where
     {
         self.report_last();
         if matches!(moved, Ok(()) | Err(TransferError::Read(_))) {
-            self.copies.report_sum();
+            self.copies.report_sum(self.drain.name());
         }
     }
 
     fn report_last(&mut self)
-        ensures { (self.new.drain ≡ self.old.drain) × (self.new.copies ≡ self.old.copies) }
+        ensures { (self.new.drain ≡ self.old.drain) × (self.new.copies ≡ self.old.copies)
+            × (self.new.opening ≡ self.old.opening) }
     {
         if let Some(progress) = &mut self.progress {
             progress.report(self.rt, self.meter, true);
         }
+    }
+}
+
+impl<R, D, F> Outlet<'_, R, D, F>
+where
+    R: Wait + Clock + Eprint + AllocGlobal + Opens<F>,
+    D: Destination + Drop,
+    F: NamedFile,
+{
+    /// Opens the files that are written, where the input has ended and gave no byte: each is left
+    /// with none.
+    pub(crate) fn conclude(&mut self) -> Result<(), TransferError>
+        ensures bytes { Keeps (drain_bytes D.contents F.written self.old.drain)
+            (drain_bytes D.contents F.written self.new.drain) }
+        ensures took { StaysTaken (OutletTook F.name F.written F.fails) self.old self.new }
+        ensures done { OnOk result (IsDone self.new.opening) }
+        ensures flushed { OnOk result (AreAllFlushed D.flushed F.flushed self.new.opening
+            self.new.drain self.new.copies.tees.items) }
+        ensures reported { IfErr result (IsOfDestination
+            (OutletFails D.fails F.fails self.new.opening self.new.drain)
+            (IsFull D.full F.full self.new.drain)) }
+    {
+        self.begin().map_err(TransferError::Write)?;
+        flush_patiently(self.rt, &mut self.drain).map_err(TransferError::Write)?;
+        self.copies.flush();
+        Ok(())
+    }
+
+    /// How the run ends that has moved the bytes so.
+    pub(crate) fn ended(&self, moved: Result<(), TransferError>) -> Ended
+        ensures opened { ¬ IsRefused self.now.opening
+            → EndsAs moved (has_failed self.now.copies.tees.items) result }
+        ensures refused { IsRefused self.now.opening → IsAnswered self.now.opening
+            → IsUnopened result }
+    {
+        match &self.opening {
+            Opening::Refused(ended) => ended.again(self.rt.alloc()),
+            _ => Ended::of(moved, self.copies.has_failed()),
+        }
+    }
+
+    // Opens the files that are written, if they are not open. Where one can't be opened, that is
+    // told at once, and each call of the output fails.
+    fn begin(&mut self) -> io::Result<()>
+        ensures bytes { drain_bytes D.contents F.written self.new.drain
+            ≡ drain_bytes D.contents F.written self.old.drain }
+        ensures took { StaysTaken (OutletTook F.name F.written F.fails) self.old self.new }
+        ensures done { OnOk result (IsDone self.new.opening) }
+        ensures refused { IfErr result (λ e. IsRefused self.new.opening × IsLasting e) }
+    {
+        match &self.opening {
+            Opening::Awaited { overwrites } => {
+                let overwrites = *overwrites;
+                self.open(overwrites)
+            }
+            Opening::Done => Ok(()),
+            Opening::Refused(_) => Err(cannot_open()),
+        }
+    }
+
+    fn open(&mut self, overwrites: bool) -> io::Result<()>
+        ensures bytes { drain_bytes D.contents F.written self.new.drain
+            ≡ drain_bytes D.contents F.written self.old.drain }
+        ensures took { (parts : List (List ℕ)) → HavePassed F.name F.written F.fails
+            self.old.copies parts [] → HaveTaken self.new.opening
+            (HavePassed F.name F.written F.fails self.new.copies parts []) [] }
+        ensures done { OnOk result (IsDone self.new.opening) }
+        ensures refused { IfErr result (λ e. IsRefused self.new.opening × IsLasting e) }
+    {
+        let tees = self.copies.tees.as_mut_slice();
+        match open_outputs(self.rt, overwrites, &mut self.drain, tees) {
+            Ok(()) => {
+                self.turn(Opening::Done);
+                Ok(())
+            }
+            Err(ended) => {
+                let told = ended.again(self.rt.alloc());
+                self.outcome.fail(self.rt, Failure::Unopened(told));
+                self.turn(Opening::Refused(ended));
+                Err(cannot_open())
+            }
+        }
+    }
+
+    fn turn(&mut self, opening: Opening)
+        ensures { self.new ≡ record self.old { opening = opening } }
+    {
+        self.opening = opening;
+    }
+}
+
+// What the output answers where a file can't be opened.
+fn cannot_open() -> io::Error
+    ensures { IsLasting result }
+{
+    io::Error::other("a file can't be opened")
+}
+
+impl<D: Destination + Drop, F: NamedFile> Drain<D, F> {
+    // What it is called: `-` is the standard stream.
+    fn name(&self) -> &str {
+        match self {
+            Drain::Standard(_) => "-",
+            Drain::File(sink) => sink.name.as_str(),
+        }
+    }
+}
+
+impl Opening {
+    /// Whether they are not open yet.
+    pub(crate) fn is_awaited(&self) -> bool
+        ensures { IsTrue result ↔ IsAwaited self.now }
+    {
+        matches!(self, Opening::Awaited { .. })
     }
 }
 
@@ -130,27 +269,45 @@ impl<D: Destination + Drop, F: NamedFile> Destination for Drain<D, F> {
     }
 }
 
+// Flushes the standard stream, if it is written.
+fn flush_stream<D, F>(drain: &mut Drain<D, F>) -> io::Result<()>
+where
+    D: Destination + Drop,
+    F: NamedFile,
+    ensures bytes { Keeps (drain_bytes D.contents F.written drain.old)
+        (drain_bytes D.contents F.written drain.new) }
+    ensures done { OnOk result (IsStreamFlushed D.flushed drain.new) }
+    ensures error { IfErr result (DrainFails D.fails F.fails drain.new) }
+{
+    match drain {
+        Drain::Standard(standard) => standard.flush(),
+        Drain::File(_) => Ok(()),
+    }
+}
+
 impl<R, D, F> Destination for Outlet<'_, R, D, F>
 where
-    R: Wait + Clock + Eprint,
+    R: Wait + Clock + Eprint + AllocGlobal + Opens<F>,
     D: Destination + Drop,
     F: NamedFile,
 {
     ghost contents = { λ o. drain_bytes D.contents F.written o.drain };
 
-    // the copies got just what the output took
-    ghost took = { λ o. HavePassed F.name F.written F.fails o.copies };
+    // the copies got just what the output took, which is nothing before all are open
+    ghost took = { OutletTook F.name F.written F.fails };
 
     // the drain was flushed, and each copy that has not failed
-    ghost flushed = { λ o. IsFlushed D.flushed F.flushed o.drain
-        × AreFlushed F.flushed o.copies.tees.items };
+    ghost flushed = { λ o. AreAllFlushed D.flushed F.flushed o.opening o.drain
+        o.copies.tees.items };
 
     ghost full = { λ o. IsFull D.full F.full o.drain };
 
-    ghost fails = { λ o. DrainFails D.fails F.fails o.drain };
+    // one of the files can't be opened, or a call of the drain has failed so
+    ghost fails = { λ o. OutletFails D.fails F.fails o.opening o.drain };
 
     // A copy that fails changes nothing of what the drain gets.
     fn write(&mut self, buf: &[u8]) -> io::Result<usize> {
+        self.begin()?;
         let most = self.copies.begin(buf.len());
         match self.drain.write(&buf[..most]) {
             Ok(0) if 0 < most => {
@@ -171,9 +328,16 @@ where
         }
     }
 
+    // A file that is not open yet has got nothing.
     fn flush(&mut self) -> io::Result<()> {
-        self.drain.flush()?;
-        self.copies.flush();
-        Ok(())
+        match &self.opening {
+            Opening::Awaited { .. } => flush_stream(&mut self.drain),
+            Opening::Refused(_) => Err(cannot_open()),
+            Opening::Done => {
+                self.drain.flush()?;
+                self.copies.flush();
+                Ok(())
+            }
+        }
     }
 }

@@ -1,24 +1,36 @@
-//! Files that are opened by their names.
+//! Files that are opened by their names: those that are written later than they are named.
 ghost use Rattle.std.specs.Prelude.{◌≡◌, ◌<◌, ℕ, List, [], length, Option, None, Ok, OnOk, IfOk, IfErr, ⊤};
 ghost use Rattle.std.specs.Io.{ReadsAtMost, WritesAtMost};
 ghost use Rattle.std.specs.Io.KnownBytes.{append_known, ReadConsumes};
 ghost use Rattle.piper_protocol.specs.Reported.{HasFailed, IsOfStd};
-ghost use Rattle.pump_engine.specs.Files.{IsJust, Writes};
+ghost use Rattle.pump_engine.specs.Files.{HoldsNothing, IsFileOf, IsJust, IsOpenedBy, Writes, keeps, makes, reads};
 
 use piper_protocol::reported::reported;
 use std::fs::{File, Files, Metadata, OpenFile, OpenOptions};
-use std::io;
 use std::io::{Read, Write};
+use std::{fs, io};
 
-/// A file that was opened by its name.
+/// A file that has a name.
 ///
-/// It can say by which one, what was written to it since then, whether that is flushed, and how its
-/// calls fail. Of the system's files nothing of that is said, but each answer is one of theirs.
+/// It can say which one, whether it is open, what was written to it since then, whether that is
+/// flushed, and how its calls fail. Of the system's files nothing of that is said, but each answer is one of theirs.
 pub trait NamedFile: Drop {
     ghost use Rattle.std.specs.declared.io.Error.{Error};
 
-    // the name that it was opened by, where that is known
+    // the name that it is opened by, where that is known
     ghost name: { Self → Option (List ℕ) } = { λ _. None };
+
+    // it was opened to be read alone
+    ghost is_read: { Self → Type 0 } = { λ _. ⊤ };
+
+    // it was there and was opened to be written, which left what it holds
+    ghost is_kept: { Self → Type 0 } = { λ _. ⊤ };
+
+    // it was not there, and was made
+    ghost is_made: { Self → Type 0 } = { λ _. ⊤ };
+
+    // it holds no byte but those that were written to it
+    ghost is_cut: { Self → Type 0 } = { λ _. ⊤ };
 
     // the bytes that reads will give from here on, where they are known
     ghost remaining: { Self → Option (List ℕ) } = { λ _. None };
@@ -37,6 +49,7 @@ pub trait NamedFile: Drop {
 
     /// What the system reports of it.
     fn attributes(&self) -> io::Result<Metadata>
+        ensures empty { IfOk result (λ m. HoldsNothing m → is_cut self.now) }
         ensures reported { IsOfStd result }
         ensures failed { IfErr result HasFailed };
 
@@ -49,6 +62,9 @@ pub trait NamedFile: Drop {
 
     /// Cuts off what it held where it was opened.
     fn cut(&mut self) -> io::Result<()>
+        ensures cut { OnOk result (is_cut self.new) }
+        ensures opened { (is_kept self.old → is_kept self.new)
+            × (is_made self.old → is_made self.new) }
         ensures name { name self.new ≡ name self.old }
         ensures bytes { written self.new ≡ written self.old }
         ensures error { IfErr result (fails self.new) }
@@ -83,50 +99,136 @@ pub trait NamedFile: Drop {
 pub trait Opens<F: NamedFile> {
     /// Opens it to be read.
     fn open(&self, name: &str) -> io::Result<F>
+        ensures read { IfOk result F.is_read }
         ensures name { IfOk result (λ file. IsJust (F.name file) name.now) }
+        ensures failed { IfErr result HasFailed };
+
+    /// What the system reports of it, whether it can be opened or not.
+    fn look(&self, name: &str) -> io::Result<Metadata>
         ensures reported { IsOfStd result }
         ensures failed { IfErr result HasFailed };
 
-    /// Opens it to be written, or makes it where there is none. It keeps what it holds.
-    fn open_to_write(&self, name: &str) -> io::Result<F>
-        ensures name { IfOk result (λ file. IsJust (F.name file) name.now) }
-        ensures bytes { IfOk result (λ file. IsJust (F.written file) []) }
-        ensures reported { IsOfStd result }
+    /// It is to be written, and is not open yet.
+    fn to_write(&self, name: &str) -> F
+        ensures name { IsJust (F.name result) name.now }
+        ensures bytes { IsJust (F.written result) [] };
+
+    /// Opens it, where there is one. It keeps what it holds.
+    fn open_to_write(&self, name: &str, file: &mut F) -> io::Result<()>
+        ensures name { F.name file.new ≡ F.name file.old }
+        ensures bytes { F.written file.new ≡ F.written file.old }
+        ensures opened { OnOk result (F.is_kept file.new) }
         ensures failed { IfErr result HasFailed };
+
+    /// Makes it, where there is none, and opens it.
+    fn make(&self, name: &str, file: &mut F) -> io::Result<()>
+        ensures name { F.name file.new ≡ F.name file.old }
+        ensures bytes { F.written file.new ≡ F.written file.old }
+        ensures opened { OnOk result (F.is_made file.new × F.is_cut file.new) }
+        ensures failed { IfErr result HasFailed };
+
+    /// Takes it away.
+    fn remove(&self, name: &str) -> io::Result<()>
+        ensures reported { IsOfStd result };
 }
 
-impl NamedFile for File {
+/// A file of the system. One that is to be written is named first, and opened later.
+#[derive(Drop)]
+pub enum SystemFile {
+    Named,
+    Open(File),
+}
+
+impl NamedFile for SystemFile {
+    ghost is_read = { IsFileOf reads };
+
+    ghost is_kept = { IsFileOf keeps };
+
+    ghost is_made = { IsFileOf makes };
+
     fn attributes(&self) -> io::Result<Metadata> {
-        reported(self.metadata())
+        match self {
+            SystemFile::Open(file) => reported(file.metadata()),
+            SystemFile::Named => reported(Err(not_open())),
+        }
     }
 
     fn read(&mut self, buf: &mut [u8]) -> io::Result<usize> {
-        reported(Read::read(self, buf))
+        match self {
+            SystemFile::Open(file) => reported(Read::read(file, buf)),
+            SystemFile::Named => reported(Err(not_open())),
+        }
     }
 
     fn cut(&mut self) -> io::Result<()> {
-        reported(self.set_len(0))
+        match self {
+            SystemFile::Open(file) => reported(file.set_len(0)),
+            SystemFile::Named => reported(Err(not_open())),
+        }
     }
 
     fn write(&mut self, buf: &[u8]) -> io::Result<usize> {
-        reported(Write::write(self, buf))
+        match self {
+            SystemFile::Open(file) => reported(Write::write(file, buf)),
+            SystemFile::Named => reported(Err(not_open())),
+        }
     }
 
     fn write_all(&mut self, buf: &[u8]) -> io::Result<()> {
-        reported(Write::write_all(self, buf))
+        match self {
+            SystemFile::Open(file) => reported(Write::write_all(file, buf)),
+            SystemFile::Named => reported(Err(not_open())),
+        }
     }
 
     fn flush(&mut self) -> io::Result<()> {
-        reported(Write::flush(self))
+        match self {
+            SystemFile::Open(file) => reported(Write::flush(file)),
+            SystemFile::Named => reported(Err(not_open())),
+        }
     }
 }
 
-impl<R: Files<File = File>> Opens<File> for R {
-    fn open(&self, name: &str) -> io::Result<File> {
-        reported(OpenOptions::new().read(true).open(self, name))
+fn not_open() -> io::Error {
+    io::Error::other("it is not open")
+}
+
+impl<R: Files<File = File>> Opens<SystemFile> for R {
+    fn open(&self, name: &str) -> io::Result<SystemFile> {
+        Ok(SystemFile::Open(open_so(self, OpenOptions::new().read(true), name)?))
     }
 
-    fn open_to_write(&self, name: &str) -> io::Result<File> {
-        reported(OpenOptions::new().write(true).create(true).open(self, name))
+    fn look(&self, name: &str) -> io::Result<Metadata> {
+        reported(fs::metadata(self, name))
     }
+
+    fn to_write(&self, _name: &str) -> SystemFile {
+        SystemFile::Named
+    }
+
+    fn open_to_write(&self, name: &str, file: &mut SystemFile) -> io::Result<()> {
+        *file = SystemFile::Open(open_so(self, OpenOptions::new().write(true), name)?);
+        Ok(())
+    }
+
+    fn make(&self, name: &str, file: &mut SystemFile) -> io::Result<()> {
+        let mut how = OpenOptions::new();
+        let opened = open_so(self, how.write(true).create_new(true), name)?;
+        *file = SystemFile::Open(opened);
+        Ok(())
+    }
+
+    fn remove(&self, name: &str) -> io::Result<()> {
+        reported(fs::remove_file(self, name))
+    }
+}
+
+// Opens a file in this way.
+fn open_so<R>(files: &R, how: &OpenOptions, name: &str) -> io::Result<File>
+where
+    R: Files<File = File>,
+    ensures opened { IfOk result (IsOpenedBy how.now name.now) }
+    ensures failed { IfErr result HasFailed }
+{
+    reported(how.open(files, name))
 }

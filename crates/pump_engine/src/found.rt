@@ -1,6 +1,6 @@
 //! What the system reports of a file where it is opened: which one it is, and how much it holds.
 ghost use Rattle.std.specs.Prelude.{IfErr, IfOk};
-ghost use Rattle.piper_protocol.specs.Reported.{HasFailed};
+ghost use Rattle.piper_protocol.specs.Reported.{HasFailed, IsOfStd};
 ghost use Rattle.pump_engine.specs.Found.{IsFound, TellsFound};
 
 use crate::files::NamedFile;
@@ -40,6 +40,14 @@ impl Found {
     {
         let attributes = file.attributes()?;
         Ok(of_answer(&Ok(attributes)))
+    }
+
+    /// Of a file that is to be written, by what the system reported of its name.
+    pub(crate) fn of_name(looked: &io::Result<Metadata>) -> Found
+        requires asked { IsOfStd looked.now }
+        ensures found { IsFound result }
+    {
+        of_answer(looked)
     }
 
     /// Of the file that is read.

@@ -11,6 +11,7 @@ mod found;
 mod lines;
 mod opening;
 pub mod outcome;
+mod outputs;
 mod pace;
 mod plan;
 pub mod program;

@@ -1,5 +1,5 @@
-//! The files that are named: they are opened, and those that may not be written are refused, before
-//! one of them changes.
+//! The files that are named: the input is opened, and those that are to be written are looked at.
+//! Those that may not be written are refused, before one of them is opened.
 ghost use Rattle.std.specs.Prelude.{◌≡◌, ◌++◌, ◌∷◌, [], None, Ok, OnErr, OnOk, IfErr, IfOk, IfSome, IsSomeAnd, Result, Some, false, map, string_bytes};
 ghost use Rattle.std.specs.Fs.{IsFile, file_type, metadata_len};
 ghost use Rattle.std.specs.List.{All};
@@ -10,7 +10,7 @@ ghost use Rattle.pump_engine.specs.Arguments.{text_in};
 ghost use Rattle.pump_engine.specs.Copies.{HavePassed, IsCopy, names_of};
 ghost use Rattle.pump_engine.specs.Asked.{parts_wanted};
 ghost use Rattle.pump_engine.specs.Ended.{IsOfFailure, IsToldOf, IsUnopened};
-ghost use Rattle.pump_engine.specs.Ends.{KeepsHeld};
+ghost use Rattle.pump_engine.specs.Ends.{Awaits};
 ghost use Rattle.pump_engine.specs.Files.{IsJust};
 ghost use Rattle.pump_engine.specs.Found.{IsFound};
 ghost use Rattle.pump_engine.specs.Opening.{AreApart, AreDistinct, HoldNothing, OpensNamed};
@@ -19,11 +19,11 @@ ghost use Rattle.pump_engine.specs.Pace.{HasRate};
 
 use crate::arguments::Arguments;
 use crate::ended::{Ended, Unopened};
-use crate::ends::{Drain, Inlet, Outlet};
+use crate::ends::{Drain, Inlet, Opening, Outlet};
 use crate::files::{NamedFile, Opens};
 use crate::found::{FileId, Found, STANDARD_INPUT};
 use crate::plan::named;
-use crate::sinks::Sink;
+use crate::sinks::{HOLDS_BYTES, Sink};
 use piper_protocol::reported::reported;
 use piper_transfer::{Destination, Source};
 use std::alloc::{AllocGlobal, Global};
@@ -49,10 +49,10 @@ struct Opened<F: NamedFile> {
     places: Places,
 }
 
-/// Opens the files that are named, and takes them in place of what represents them; none is changed
-/// by that. Where one can't be opened, both stay. A regular file is refused that is the input or
-/// another output, too; and one that holds bytes, unless those are to be overwritten. Returns what
-/// the system reports of what is read, and of what is written.
+/// Opens the input that is named, looks at the files that are to be written, and takes them in place
+/// of what represents them. Where one is refused, both stay. A regular file is refused that is the
+/// input or another output, too; and one that holds bytes, unless those are to be overwritten.
+/// Returns what the system reports of what is read, and of what is written.
 pub fn open_files<R, F, S, D>(
     rt: &R,
     arguments: &Arguments<'_>,
@@ -72,7 +72,7 @@ where
         input.old input.new) }
     ensures output { IfOk result (λ places. WritesNamed F.name
         (text_in arguments.now.texts.output) places.output output.old.drain output.new.drain) }
-    ensures kept { KeepsHeld output.old.drain → OnOk result (KeepsHeld output.new.drain) }
+    ensures awaited { OnOk result (Awaits arguments.now.overwrites output.new.opening) }
     ensures copies { OnOk result (HavePassed F.name F.written F.fails output.new.copies
         (parts_wanted arguments.now) [] × HasRate rate output.new.copies.pace) }
     ensures apart { IfOk result (λ places. AreApart
@@ -93,6 +93,9 @@ where
     take_input(input, source);
     take_output(&mut output.drain, dest);
     output.copies.ask(tees, arguments.shows_sum, rate);
+    output.opening = Opening::Awaited {
+        overwrites: arguments.overwrites,
+    };
     Ok(places)
 }
 
@@ -116,15 +119,13 @@ where
     D: Destination + Drop,
     ensures none { sink ≡ None → output.new ≡ output.old }
     ensures some { IfSome sink (λ s. output.new ≡ Drain.File s) }
-    ensures kept { KeepsHeld output.old → IfSome sink (λ s. s.has_begun ≡ false)
-        → KeepsHeld output.new }
 {
     if let Some(sink) = sink {
         *output = Drain::File(sink);
     }
 }
 
-// Opens the files that are named.
+// Opens the input that is named, and looks at the files that are to be written.
 fn open_all<R, F>(rt: &R, arguments: &Arguments<'_>) -> Result<Opened<F>, Ended>
 where
     R: Files + Opens<F> + AllocGlobal,
@@ -136,16 +137,14 @@ where
         (text_in arguments.now.texts.output) opened.output) }
     ensures found { IfOk result (λ opened. IfSome opened.output
         (λ sink. sink.found ≡ opened.places.output)) }
-    ensures kept { IfOk result (λ opened. IfSome opened.output
-        (λ sink. sink.has_begun ≡ false)) }
     ensures names { IfOk result (λ opened. names_of opened.tees.items
         ≡ map (λ name. name.now) arguments.now.tees.items) }
     ensures copies { IfOk result (λ opened.
         All (IsCopy F.name F.written F.fails []) opened.tees.items) }
 {
     let input = open_input(rt, rt.alloc(), named(arguments.texts.input))?;
-    let output = open_output(rt, rt.alloc(), named(arguments.texts.output))?;
-    let tees = open_tees(rt, rt.alloc(), arguments.tees.as_slice())?;
+    let output = look_at_output(rt, rt.alloc(), named(arguments.texts.output))?;
+    let tees = look_at_tees(rt, rt.alloc(), arguments.tees.as_slice())?;
     let places = Places {
         input: found_of_input(rt, &input),
         output: found_of_output(rt, &output),
@@ -197,8 +196,8 @@ where
     }
 }
 
-// Opens the file that is written in place of standard output, if one is named.
-fn open_output<R, F>(rt: &R, alloc: Global, name: Option<&str>) -> Result<Option<Sink<F>>, Ended>
+// Looks at the file that is written in place of standard output, if one is named.
+fn look_at_output<R, F>(rt: &R, alloc: Global, name: Option<&str>) -> Result<Option<Sink<F>>, Ended>
 where
     R: Opens<F>,
     F: NamedFile,
@@ -206,35 +205,33 @@ where
     ensures none { name.entry ≡ None → result ≡ Ok None }
     ensures file { IfSome name.entry (λ text. IfOk result (λ opened.
         IsSomeAnd opened (λ sink. IsJust (F.name sink.file) text.now))) }
-    ensures kept { IfOk result (λ opened. IfSome opened (λ sink. sink.has_begun ≡ false)) }
     ensures failed { IfErr result IsOfFailure }
 {
     match name {
         None => Ok(None),
-        Some(name) => Ok(Some(open_sink(rt, alloc, name)?)),
+        Some(name) => Ok(Some(look_at(rt, alloc, name)?)),
     }
 }
 
-// Opens a file that is written.
-fn open_sink<R, F>(rt: &R, alloc: Global, name: &str) -> Result<Sink<F>, Ended>
+// Looks at a file that is to be written.
+fn look_at<R, F>(rt: &R, alloc: Global, name: &str) -> Result<Sink<F>, Ended>
 where
     R: Opens<F>,
     F: NamedFile,
     ensures early { IfErr result IsUnopened }
     ensures named { IfErr result (IsToldOf name.now) }
     ensures name { IfOk result (λ sink. string_bytes sink.name ≡ name.now) }
-    ensures kept { IfOk result (λ sink. sink.has_begun ≡ false) }
     ensures copy { IfOk result (IsCopy F.name F.written F.fails []) }
     ensures failed { IfErr result IsOfFailure }
 {
-    match Sink::open(rt, alloc, name) {
+    match Sink::look(rt, alloc, name) {
         Ok(sink) => Ok(sink),
         Err(error) => Err(Ended::NoOutput(Unopened::new(alloc, name, error)?)),
     }
 }
 
-// Opens the files that get what passes, too.
-fn open_tees<R, F>(rt: &R, alloc: Global, names: &[&str]) -> Result<Vec<Sink<F>>, Ended>
+// Looks at the files that get what passes, too.
+fn look_at_tees<R, F>(rt: &R, alloc: Global, names: &[&str]) -> Result<Vec<Sink<F>>, Ended>
 where
     R: Opens<F>,
     F: NamedFile,
@@ -245,7 +242,7 @@ where
 {
     let mut tees = Vec::new(alloc);
     for name in names {
-        let sink = open_sink(rt, alloc, *name)?;
+        let sink = look_at(rt, alloc, *name)?;
         add_tee(&mut tees, sink)?;
     }
     Ok(tees)
@@ -325,7 +322,7 @@ fn refuse_held<F: NamedFile>(alloc: Global, sink: &Sink<F>) -> Result<(), Ended>
     if sink.found.held == 0 {
         return Ok(());
     }
-    let error = io::Error::other("it holds bytes, which --force overwrites");
+    let error = io::Error::other(HOLDS_BYTES);
     Err(Ended::NoOutput(Unopened::new(alloc, sink.name.as_str(), error)?))
 }
 

@@ -12,8 +12,10 @@ use std::{io, mem};
 const GRACE: u64 = 200;
 
 /// How an output failed.
-#[derive(Clone, Copy)]
+#[derive(Drop)]
 pub enum Failure {
+    /// A file that is to be written can't be opened, which ends the run so.
+    Unopened(Ended),
     /// A write failed with this error.
     Write(io::Error),
     /// A write took no byte.
@@ -39,6 +41,7 @@ impl Failure {
     // How a run ends that fails so.
     fn ended(self) -> Ended {
         match self {
+            Failure::Unopened(ended) => ended,
             Failure::Write(error) => Ended::of(Err(TransferError::Write(error)), false),
             Failure::Full => Ended::of(Err(TransferError::Full), false),
         }

@@ -1,6 +1,7 @@
 //! What is done, from what the words ask for: the rate, the size and the level in numbers, and
 //! whether there is an input and an output.
 ghost use Rattle.std.specs.Prelude.{◌≡◌, ◌≢◌, ◌≤◌, Some, None, IfErr, IfOk, OnOk, IfNone, IfSome, codes, true};
+ghost use Rattle.std.specs.List.{All};
 ghost use Rattle.pump_engine.specs.Arguments.{IsSizeOf, text_in};
 ghost use Rattle.pump_engine.specs.Ended.{IsEarly, IsOfOption};
 ghost use Rattle.pump_engine.specs.Plan.{IsOfClosed, IsOfStream, IsRead, IsTotalOf};
@@ -20,6 +21,8 @@ const TOTALS: &str =
     "a size is a number of bytes from 0 to 9223372036854775807, as 4096, 64K, 16m or 2GiB";
 
 const PERCENTS: &str = "a level is a number of percent from 0 to 100";
+
+const COPIES: &str = "a copy goes to a file, which - is not";
 
 /// The numbers that are asked for.
 #[derive(Clone, Copy)]
@@ -117,6 +120,20 @@ pub fn named<'a>(text: Option<&'a str>) -> Option<&'a str>
         Some("-") => None,
         text => text,
     }
+}
+
+/// Refuses a copy to `-`: of the standard streams only the output is written, without a copy.
+pub fn refuse_dashes(alloc: Global, tees: &[&str]) -> Result<(), Ended>
+    ensures early { IfErr result IsEarly }
+    ensures named { IfErr result (IsOfOption (codes "--tee <FILE>") (codes "-")) }
+    ensures files { OnOk result (All (λ name. name.now ≢ codes "-") tees.now) }
+{
+    for name in tees {
+        if *name == "-" {
+            return Err(not_taken(alloc, "--tee <FILE>", *name, COPIES));
+        }
+    }
+    Ok(())
 }
 
 /// Refuses a standard stream that was closed, where no file is named in its place.

@@ -2,7 +2,7 @@
 ghost use Rattle.std.specs.Prelude.{⊤};
 
 use crate::copies::Copies;
-use crate::ends::{Drain, Inlet, Outlet};
+use crate::ends::{Drain, Inlet, Opening, Outlet};
 use crate::files::{NamedFile, Opens};
 use crate::outcome::Outcome;
 use crate::running::run;
@@ -54,6 +54,7 @@ where
         rt: &rt,
         drain: Drain::Standard(dest),
         copies: Copies::new(&rt, Vec::new(rt.alloc())),
+        opening: Opening::Awaited { overwrites: false },
         outcome: &outcome,
         meter: &meter,
         progress: None,

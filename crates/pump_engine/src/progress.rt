@@ -1,11 +1,15 @@
 //! Lines on standard error that report how far a transfer is.
-ghost use Rattle.std.specs.Prelude.{◌≡◌, ◌-◌, ◌*◌, ◌/◌, ◌^◌, min, max, IsSome, Some};
+ghost use Rattle.std.specs.Prelude.{◌≡◌, ◌≤◌, ◌-◌, ◌*◌, ◌/◌, ◌^◌, ◌↔◌, min, max, IsErrAnd, IsSome, IsSomeAnd, IsTrue, Result, Some};
 ghost use Rattle.std.specs.Duration.{as_nanos};
+ghost use Rattle.std.specs.declared.io.Error.{Error};
+ghost use Rattle.piper_protocol.specs.Reported.{IsOfStd};
+ghost use Rattle.piper_transfer.specs.Transfer.{IsLasting};
 ghost use Rattle.pump_engine.specs.Pace.{IsOfClock};
 
 use crate::lines::{Done, Line};
 use piper_protocol::reported::reported;
-use piper_transfer::Meter;
+use piper_transfer::{Meter, is_lasting};
+use std::io;
 use std::sync::{Condvar, Mutex, Wait};
 use std::time::{Clock, Duration, Instant};
 
@@ -83,9 +87,12 @@ pub struct Progress {
     bytes: u64,
     /// Bytes a second, as an average over the last seconds.
     average: Option<u64>,
+    /// Whether a line could not be printed, so that nobody reads them.
+    is_unread: bool,
 }
 
-/// Prints a line four times a second until the transfer is over, and then one of the whole.
+/// Prints a line four times a second until the transfer is over, and then one of the whole. Where
+/// nobody reads them any more, it prints no more.
 pub fn watch<R>(rt: &R, meter: &Meter, watched: Watched, over: &Over)
 where
     R: Wait + Clock + Eprint,
@@ -94,7 +101,7 @@ where
     for _ in rt.forever() {
         let is_over = over.wait(rt, Duration::from_millis(PAUSE));
         progress.report(rt, meter, is_over);
-        if is_over {
+        if is_over || progress.is_unread {
             return;
         }
     }
@@ -115,6 +122,7 @@ impl Progress {
             reported: now,
             bytes: 0,
             average: None,
+            is_unread: false,
         }
     }
 
@@ -128,7 +136,7 @@ impl Progress {
             Some(reported) => reported.elapsed(rt).unwrap_or(Duration::ZERO),
             None => Duration::ZERO,
         };
-        if Duration::from_millis(PAUSE) <= since {
+        if Duration::from_millis(PAUSE) <= since && !self.is_unread {
             self.report(rt, meter, false);
         }
     }
@@ -139,6 +147,8 @@ impl Progress {
         ensures begun { self.new.begun ≡ self.old.begun }
         ensures average { IsSome self.new.average }
         ensures reported { IsOfClock self.new.reported }
+        ensures read { (answer : Result Unit Error) × IsOfStd answer
+            × (IsTrue self.new.is_unread ↔ IsErrAnd answer IsLasting) }
     {
         let bytes = meter.output.bytes();
         let (moved, since) = if is_last {
@@ -157,15 +167,17 @@ impl Progress {
             empty: meter.output.waited(rt),
         };
         let done = self.done(bytes, is_last);
-        print(rt, &line, done, self.watched.redraws, is_last);
+        self.is_unread = is_unread(&print(rt, &line, done, self.watched.redraws, is_last));
         self.bytes = bytes;
         self.reported = reported(Instant::now(rt)).ok();
     }
 
     // How much of all that comes has passed, and how long the rest takes; that is left out at the
-    // end, where more came than was reported, and where none comes.
-    fn done(&self, bytes: u64, is_last: bool) -> Option<Done> {
-        let total = self.watched.total?;
+    // end, and where none comes. Where more came than was reported, it is not known how much does.
+    fn done(&self, bytes: u64, is_last: bool) -> Option<Done>
+        ensures { IsSome result → IsSomeAnd self.now.watched.total (λ total. bytes ≤ total) }
+    {
+        let total = self.watched.total.filter(|total| bytes <= *total)?;
         let average = self.average.unwrap_or(0);
         let left = total.saturating_sub(bytes) as u128 * 1_000 / (average as u128).max(1);
         let is_shown = !is_last && 0 < average && bytes < total && left <= LONGEST;
@@ -188,18 +200,35 @@ fn elapsed(clock: &impl Clock, since: Option<Instant>) -> Duration {
     }
 }
 
-// Prints a line, or draws it over the one before. Where standard error is closed, the bytes still
-// go on.
-fn print(rt: &impl Eprint, line: &Line, done: Option<Done>, redraws: bool, is_last: bool) {
+// Prints a line, or draws it over the one before: then a terminal that is too narrow cuts it off.
+fn print(
+    rt: &impl Eprint,
+    line: &Line,
+    done: Option<Done>,
+    redraws: bool,
+    is_last: bool,
+) -> io::Result<()>
+    ensures { IsOfStd result }
+{
     let (before, after) = match (redraws, is_last) {
         (false, _) => ("", "\n"),
-        (true, false) => ("\r", "\u{1b}[K"),
-        (true, true) => ("\r", "\u{1b}[K\n"),
+        (true, false) => ("\r\u{1b}[?7l", "\u{1b}[K\u{1b}[?7h"),
+        (true, true) => ("\r\u{1b}[?7l", "\u{1b}[K\u{1b}[?7h\n"),
     };
-    let _ = match done {
+    reported(match done {
         None => eprint!(rt; "{before}{line}{after}"),
         Some(done) => eprint!(rt; "{before}{line}{done}{after}"),
-    };
+    })
+}
+
+// Whether nobody reads what is printed, by what a print of it answered.
+fn is_unread(answer: &io::Result<()>) -> bool
+    ensures { IsTrue result ↔ IsErrAnd answer.now IsLasting }
+{
+    match answer {
+        Ok(()) => false,
+        Err(error) => is_lasting(error),
+    }
 }
 
 // Bytes a second.

@@ -3,10 +3,11 @@ ghost use Rattle.std.specs.Prelude.{◌≡◌, ◌≢◌, ◌∷◌, [], OnErr, 
 ghost use Rattle.clap.specs.Words.{fault_of, first_of};
 ghost use Rattle.piper_transfer.specs.Transfer.{IsOfSide, Transfers, WritesAll};
 ghost use Rattle.pump_engine.specs.Arguments.{AreSizedBy, NamesNoFile, ShowsAsAsked, pump_command, said_by};
-ghost use Rattle.pump_engine.specs.Copies.{AreFlushed, HaveGot, has_failed};
+ghost use Rattle.pump_engine.specs.Copies.{HaveGot, has_failed};
 ghost use Rattle.pump_engine.specs.Ended.{IsEarly};
-ghost use Rattle.pump_engine.specs.Ends.{drain_bytes, inlet_bytes, InletFails, IsFlushed};
-ghost use Rattle.pump_engine.specs.Ends.{DrainFails, IsFull};
+ghost use Rattle.pump_engine.specs.Ends.{drain_bytes, inlet_bytes, AreAllFlushed, HaveTaken};
+ghost use Rattle.pump_engine.specs.Ends.{InletFails, IsAwaited, IsDone, IsFull, IsRefused};
+ghost use Rattle.pump_engine.specs.Ends.{OutletFails, OutletTook};
 ghost use Rattle.pump_engine.specs.Opening.{AreApart, ReadsNamed, WritesNamed, founds_of};
 ghost use Rattle.pump_engine.specs.Running.{Runs};
 
@@ -15,7 +16,7 @@ use crate::ended::Ended;
 use crate::ends::{Inlet, Outlet};
 use crate::files::{NamedFile, Opens};
 use crate::opening::{Places, open_files, size_of};
-use crate::plan::{numbers_of, refuse_closed};
+use crate::plan::{numbers_of, refuse_closed, refuse_dashes};
 use crate::progress::{Over, Watched, watch};
 use crate::streams::Streams;
 use piper_transfer::{Destination, Meter, Sizes, Source, TransferError, transfer};
@@ -62,22 +63,55 @@ where
         (inlet_bytes S.remaining F.remaining input.new)
         (drain_bytes D.contents F.written output.old.drain)
         (drain_bytes D.contents F.written output.new.drain)
-        (HaveGot F.name F.written F.fails (map string_bytes words.now) output.new.copies)
-        (IsFlushed D.flushed F.flushed output.new.drain
-        × AreFlushed F.flushed output.new.copies.tees.items)
+        (λ passed. HaveTaken output.new.opening (HaveGot F.name F.written F.fails
+        (map string_bytes words.now) output.new.copies passed) passed)
+        (AreAllFlushed D.flushed F.flushed output.new.opening output.new.drain
+        output.new.copies.tees.items)
+        (IsDone output.new.opening) (IsRefused output.new.opening)
         (IsOfSide (InletFails S.fails F.fails input.new)
-        (DrainFails D.fails F.fails output.new.drain)
+        (OutletFails D.fails F.fails output.new.opening output.new.drain)
         (IsFull D.full F.full output.new.drain)) (has_failed output.new.copies.tees.items) result }
 {
     let task = match prepare(rt, words, input, output, streams) {
         Ok(task) => task,
         Err(ended) => return ended,
     };
-    let meter = output.meter;
     let watched = output.ask_progress(task.asked);
-    let moved = pump(rt, input, output, task.sizes, meter, watched);
+    let moved = move_all(rt, input, output, task.sizes, watched);
     output.report_rest(&moved);
-    Ended::of(moved, output.copies.has_failed())
+    output.ended(moved)
+}
+
+// Moves all bytes. The files that are written are opened by that, also where there are none.
+fn move_all<R, F, S, D>(
+    rt: &R,
+    input: &mut Inlet<S, F>,
+    output: &mut Outlet<'_, R, D, F>,
+    sizes: Sizes,
+    watched: Option<Watched>,
+) -> Result<(), TransferError>
+where
+    R: Wait + Threads + Clock + RandomSource + AllocGlobal + Files + Opens<F>,
+    R: Eprint + Clone + Drop + Send + Sync,
+    F: NamedFile + Send,
+    S: Source + Send + Drop,
+    D: Destination + Drop,
+    ensures moved { Transfers result (inlet_bytes S.remaining F.remaining input.old)
+        (inlet_bytes S.remaining F.remaining input.new)
+        (λ o. drain_bytes D.contents F.written o.drain)
+        (OutletTook F.name F.written F.fails) output.old output.new }
+    ensures flushed { WritesAll result → AreAllFlushed D.flushed F.flushed output.new.opening
+        output.new.drain output.new.copies.tees.items }
+    ensures opened { OnOk result (IsDone output.new.opening) }
+    ensures reported { IfErr result (IsOfSide (InletFails S.fails F.fails input.new)
+        (OutletFails D.fails F.fails output.new.opening output.new.drain)
+        (IsFull D.full F.full output.new.drain)) }
+{
+    let meter = output.meter;
+    match pump(rt, input, output, sizes, meter, watched) {
+        Ok(()) if output.opening.is_awaited() => output.conclude(),
+        moved => moved,
+    }
 }
 
 // Reads the words, and opens the files that they name.
@@ -104,6 +138,7 @@ where
         ShowsAsAsked (map string_bytes words.now) task.asked) }
     ensures copies { OnOk result (HaveGot F.name F.written F.fails
         (map string_bytes words.now) output.new.copies []) }
+    ensures awaited { OnOk result (IsAwaited output.new.opening) }
     ensures sizes { IfOk result (λ task. AreSizedBy (map string_bytes words.now) task.sizes) }
     ensures input { OnOk result (ReadsNamed F.name
         (first_of (codes "input") (said_by (map string_bytes words.now))) input.old input.new) }
@@ -118,6 +153,7 @@ where
         Err(error) => return Err(Ended::Words(error)),
     };
     let numbers = numbers_of(rt.alloc(), arguments.sizes, arguments.texts)?;
+    refuse_dashes(rt.alloc(), arguments.tees.as_slice())?;
     refuse_closed(rt.alloc(), arguments.texts, streams)?;
     let places = open_files(rt, &arguments, numbers.rate, input, output)?;
     let watched = Watched {

@@ -1,51 +1,157 @@
-//! Files that are written. What one held is cut off at the first write, and not where it is opened.
+//! Files that are written. One is looked at by its name first, and opened and cut off once the input
+//! has given its first bytes.
 ghost use Rattle.std.specs.Prelude.{◌≡◌, ◌<◌, ◌++◌, ℕ, List, [], length, false, true, Ok, OnOk, IfOk, IfErr, string_bytes};
 ghost use Rattle.std.specs.Io.{WritesAtMost};
 ghost use Rattle.std.specs.Io.KnownBytes.{append_known};
-ghost use Rattle.piper_protocol.specs.Reported.{HasFailed};
+ghost use Rattle.piper_protocol.specs.Reported.{HasFailed, IsOfStd};
 ghost use Rattle.pump_engine.specs.Copies.{IsCopy, IsFlushedOrFailed, SameSink};
+ghost use Rattle.pump_engine.specs.Ended.{IsToldOf, IsUnopened};
 ghost use Rattle.pump_engine.specs.Files.{Writes};
 ghost use Rattle.pump_engine.specs.Found.{IsFound};
+ghost use Rattle.pump_engine.specs.Steps.{GetsBy, IsOpened, NeedsFor};
 
+use crate::ended::{Ended, Unopened};
 use crate::files::{NamedFile, Opens};
 use crate::found::Found;
 use piper_protocol::reported::reported;
 use std::alloc::Global;
+use std::fs::Metadata;
 use std::io;
+use std::io::ErrorKind;
+
+/// What is said of a file that holds bytes, where those are not to be overwritten.
+pub(crate) const HOLDS_BYTES: &str = "it holds bytes, which --force overwrites";
+
+/// What is done for each file that is written, for one after another.
+#[derive(Clone, Copy)]
+pub(crate) enum Step {
+    /// It is opened if it is there; bytes that it holds are to be overwritten, or it is refused.
+    Open { overwrites: bool },
+    /// It is made if it is not there.
+    Make,
+    /// What it holds is cut off.
+    Cut,
+}
 
 /// A file that is written.
 #[derive(Drop)]
 pub struct Sink<F: NamedFile> {
     pub name: String,
-    /// Which file it is, and how many bytes it held, where it was opened.
+    /// Which file it is, and how many bytes it held, where it was looked at.
     pub found: Found,
-    /// Whether what it held was cut off, or it was flushed.
-    pub has_begun: bool,
+    /// Whether there was one of this name.
+    pub is_there: bool,
+    /// Whether this run made it.
+    pub is_made: bool,
     /// Whether a write or a flush failed by which it was given a copy.
     pub has_failed: bool,
     pub file: F,
 }
 
 impl<F: NamedFile> Sink<F> {
-    /// Opens the file, or makes it where there is none. It keeps what it holds.
-    pub fn open<R>(rt: &R, alloc: Global, name: &str) -> io::Result<Sink<F>>
+    /// Looks at the file of this name, and neither opens nor makes it. Where there is none, there
+    /// has to be the folder that it is made in.
+    pub fn look<R>(rt: &R, alloc: Global, name: &str) -> io::Result<Sink<F>>
     where
         R: Opens<F>,
-        ensures kept { IfOk result (λ sink. sink.has_begun ≡ false) }
         ensures named { IfOk result (λ sink. string_bytes sink.name ≡ name.now) }
         ensures copy { IfOk result (IsCopy F.name F.written F.fails []) }
         ensures found { IfOk result (λ sink. IsFound sink.found) }
         ensures failed { IfErr result HasFailed }
     {
-        let file = rt.open_to_write(name)?;
-        let found = Found::of_output(&file)?;
+        let looked = rt.look(name);
+        let is_there = can_be_written(&looked)?;
+        if !is_there {
+            look_at_folder(rt, name)?;
+        }
         Ok(Sink {
             name: reported(String::from_str(alloc, name).map_err(io::Error::from))?,
-            found,
-            has_begun: false,
+            found: Found::of_name(&looked),
+            is_there,
+            is_made: false,
             has_failed: false,
-            file,
+            file: rt.to_write(name),
         })
+    }
+
+    /// Does this for the file, and reports by its name where that fails.
+    pub(crate) fn take(
+        &mut self,
+        rt: &impl Opens<F>,
+        alloc: Global,
+        step: Step,
+    ) -> Result<(), Ended>
+        requires needs { NeedsFor step F.is_kept F.is_made self.old }
+        ensures copy { IsCopy F.name F.written F.fails [] self.old
+            → IsCopy F.name F.written F.fails [] self.new }
+        ensures name { self.new.name ≡ self.old.name }
+        ensures bytes { F.written self.new.file ≡ F.written self.old.file }
+        ensures gets { OnOk result (GetsBy step F.is_kept F.is_made F.is_cut self.new) }
+        ensures early { IfErr result IsUnopened }
+        ensures named { IfErr result (IsToldOf (string_bytes self.old.name)) }
+    {
+        if self.has_failed {
+            return Ok(());
+        }
+        let taken = match step {
+            Step::Open { overwrites } => self.open(rt, overwrites),
+            Step::Make => self.make(rt),
+            Step::Cut => self.cut(),
+        };
+        match taken {
+            Ok(()) => Ok(()),
+            Err(error) => Err(Ended::NoOutput(Unopened::new(alloc, self.name.as_str(), error)?)),
+        }
+    }
+
+    // Opens the file, if there is one. It is to be the one that was looked at, and to hold no bytes
+    // unless those are to be overwritten.
+    fn open(&mut self, rt: &impl Opens<F>, overwrites: bool) -> io::Result<()>
+        ensures same { SameSink F.name self.old self.new }
+        ensures bytes { F.written self.new.file ≡ F.written self.old.file }
+        ensures opened { OnOk result (self.new.is_there ≡ true → F.is_kept self.new.file) }
+    {
+        if !self.is_there {
+            return Ok(());
+        }
+        rt.open_to_write(self.name.as_str(), &mut self.file)?;
+        let found = Found::of_output(&self.file)?;
+        if found.id != self.found.id {
+            return Err(io::Error::other("it has become another file"));
+        }
+        if 0 < found.held && !overwrites {
+            return Err(io::Error::other(HOLDS_BYTES));
+        }
+        Ok(())
+    }
+
+    // Makes the file, if there is none.
+    fn make(&mut self, rt: &impl Opens<F>) -> io::Result<()>
+        requires kept { self.old.is_there ≡ true → F.is_kept self.old.file }
+        ensures same { SameSink F.name self.old self.new }
+        ensures bytes { F.written self.new.file ≡ F.written self.old.file }
+        ensures opened { OnOk result (IsOpened F.is_kept F.is_made self.new) }
+    {
+        if self.is_there {
+            return Ok(());
+        }
+        rt.make(self.name.as_str(), &mut self.file)?;
+        self.is_made = true;
+        Ok(())
+    }
+
+    /// Takes the file away, if this run made it and its name is still its own.
+    pub(crate) fn unmake(&self, rt: &impl Opens<F>) {
+        if !self.is_made {
+            return;
+        }
+        let named = Found::of_name(&rt.look(self.name.as_str()));
+        if let Ok(made) = Found::of_output(&self.file)
+            && made.id == named.id
+        {
+            // It is empty, and there is nothing to be said of one that stays.
+            let _ = rt.remove(self.name.as_str());
+        }
     }
 
     /// Writes all these bytes. Where that fails, it reports so, once, by the file's name, and the
@@ -88,17 +194,17 @@ impl<F: NamedFile> Sink<F> {
         let _ = eprintln!(rt; "piper_pump: {}: {error}; it gets no more", self.name);
     }
 
-    // Cuts off what it held, once.
-    fn begin(&mut self) -> io::Result<()>
+    // Cuts off what it holds.
+    fn cut(&mut self) -> io::Result<()>
         ensures same { SameSink F.name self.old self.new }
         ensures bytes { F.written self.new.file ≡ F.written self.old.file }
-        ensures error { IfErr result (F.fails self.new.file) }
+        ensures opened { IsOpened F.is_kept F.is_made self.old
+            → IsOpened F.is_kept F.is_made self.new }
+        ensures cut { OnOk result (F.is_cut self.new.file) }
     {
-        if !self.has_begun {
-            if 0 < self.found.held {
-                self.file.cut()?;
-            }
-            self.has_begun = true;
+        let attributes = self.file.attributes()?;
+        if attributes.is_file() && 0 < attributes.len() {
+            self.file.cut()?;
         }
         Ok(())
     }
@@ -111,7 +217,6 @@ impl<F: NamedFile> Sink<F> {
         ensures full { result ≡ Ok 0 → 0 < length buf.now → F.full self.new.file }
         ensures error { IfErr result (F.fails self.new.file) }
     {
-        self.begin()?;
         self.file.write(buf)
     }
 
@@ -121,7 +226,6 @@ impl<F: NamedFile> Sink<F> {
             (F.written self.new.file ≡ append_known (F.written self.old.file) buf.now) }
         ensures error { IfErr result (F.fails self.new.file) }
     {
-        self.begin()?;
         self.file.write_all(buf)
     }
 
@@ -132,7 +236,37 @@ impl<F: NamedFile> Sink<F> {
         ensures done { OnOk result (F.flushed self.new.file) }
         ensures error { IfErr result (F.fails self.new.file) }
     {
-        self.begin()?;
         self.file.flush()
+    }
+}
+
+// Whether there is a file, by what the system reported of its name.
+fn can_be_written(looked: &io::Result<Metadata>) -> io::Result<bool>
+    requires asked { IsOfStd looked.now }
+    ensures failed { IfErr result HasFailed }
+{
+    match looked {
+        Ok(attributes) if attributes.is_dir() => {
+            reported(Err(io::Error::from(ErrorKind::IsADirectory)))
+        }
+        Ok(_) => Ok(true),
+        Err(error) if error.kind() == ErrorKind::NotFound => Ok(false),
+        Err(error) => reported(Err(*error)),
+    }
+}
+
+// Looks at the folder that a file of this name is made in.
+fn look_at_folder<R, F>(rt: &R, name: &str) -> io::Result<()>
+where
+    R: Opens<F>,
+    F: NamedFile,
+    ensures failed { IfErr result HasFailed }
+{
+    match name.rsplit_once('/') {
+        Some((folder, _)) if !folder.is_empty() => {
+            rt.look(folder)?;
+            Ok(())
+        }
+        _ => Ok(()),
     }
 }

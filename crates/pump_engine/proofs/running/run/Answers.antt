@@ -1,44 +1,54 @@
-use Rattle.std.proofs.Common.{[], inr, sym, subst, ◌++◌, ◌∙◌}
-use Rattle.std.specs.Prelude.{IfErr}
+use Rattle.std.proofs.Common.{◌≡◌, List, ℕ, [], inr, ap, map, string_bytes, sym, subst, ◌++◌, ◌∙◌}
+use Rattle.std.specs.Prelude.{IfErr, OnOk}
 use Rattle.std.specs.Io.KnownBytes.{Appends, Consumes}
 use Rattle.piper_transfer.specs.Transfer.{IsOfSide}
-use Rattle.pump_engine.specs.Copies.{AreFlushed, HavePassed}
-use Rattle.pump_engine.specs.Ended.{EndsAs}
-use Rattle.pump_engine.specs.Ends.{drain_bytes, inlet_bytes, DrainFails, InletFails, IsFlushed, IsFull}
+use Rattle.pump_engine.specs.Copies.{HaveGot, HavePassed}
+use Rattle.pump_engine.specs.Ends.{drain_bytes, inlet_bytes, HaveTaken, InletFails, IsDone, IsFull, OutletFails}
+use Rattle.pump_engine.proofs.Concluded.{all_flushed_same, awaiting_taken, map_taken, taken_answered}
 use Rattle.pump_engine.proofs.running.run.Goals as goal
 
 pub returns-clause-runs : goal.returns-clause-runs
 returns-clause-runs g c = λ unnamed.
     let file = g.F.NamedFile in
+    let words : List (List ℕ) = map string_bytes c.args.words.now in
     let input_bytes = inlet_bytes g.S.Source.remaining file.remaining in
     let output_bytes = drain_bytes g.D.Destination.contents file.written in
     let begun = c.in-Ok.ensures in
     let asked = c.ask_progress-watched.ensures in
     let ended = c.report_rest.ensures in
-    let answer = c.pump-moved.result in
-    let moved = c.pump-moved.ensures.moved in
+    let answer = c.move_all-moved.result in
+    let all = c.move_all-moved.ensures in
+    let moved = all.moved in
     let parts = begun.copies.parts in
+    let before = c.ask_progress-watched.new.self in
+    let after = c.move_all-moved.new.output in
+    let last = c.report_rest.new.self in
+    let start : HaveTaken before.opening (HavePassed file.name file.written file.fails before.copies parts []) [] =
+    subst (λ o. HaveTaken o (HavePassed file.name file.written file.fails before.copies parts []) []) (sym asked.2)
+    (awaiting_taken _ _ begun.awaited (subst (λ copies. HavePassed file.name file.written file.fails copies parts []) (sym asked.1) begun.copies.have)) in
+    let taken : HaveTaken after.opening (HavePassed file.name file.written file.fails after.copies parts moved.written) moved.written =
+    moved.gets.more parts [] start in
+    let copied : HaveTaken last.opening (HaveGot file.name file.written file.fails words last.copies moved.written) moved.written =
+    subst (λ o. HaveTaken o (HaveGot file.name file.written file.fails words last.copies moved.written) moved.written) (sym ended.opening)
+    (map_taken after.opening (HavePassed file.name file.written file.fails after.copies parts moved.written)
+    (HaveGot file.name file.written file.fails words last.copies moved.written) moved.written
+    (λ have. record { parts = parts; asked = begun.copies.asked; have = ended.copies parts moved.written have }) taken) in
     inr (record {
       answer = answer;
-      ends = subst (λ b. EndsAs answer b c.of.result) c.has_failed.ensures c.of.ensures;
+      ends = (c.ended.ensures.opened, λ refused. c.ended.ensures.refused refused (taken_answered last.opening _ _ refused copied));
       written = moved.written;
       left = moved.left;
-      given = subst (λ x. Consumes (input_bytes x) (input_bytes c.pump-moved.new.source) (moved.written ++ moved.left)) (begun.unnamed unnamed).0 moved.given;
-      appended = subst (λ x. Appends (output_bytes x) (output_bytes c.report_rest.new.self.drain) moved.written) (asked.0 ∙ (begun.unnamed unnamed).1)
-          (subst (λ x. Appends (output_bytes c.ask_progress-watched.new.self.drain) (output_bytes x) moved.written) (sym ended.drain) moved.gets.appended);
-      copied = record {
-        parts = parts;
-        asked = begun.copies.asked;
-        have = ended.copies parts moved.written (moved.gets.more parts []
-            (subst (λ copies. HavePassed file.name file.written file.fails copies parts []) (sym asked.1) begun.copies.have));
-      };
+      given = subst (λ x. Consumes (input_bytes x) (input_bytes c.move_all-moved.new.input) (moved.written ++ moved.left)) (begun.unnamed unnamed).0 moved.given;
+      appended = subst (λ x. Appends (output_bytes x) (output_bytes last.drain) moved.written) (asked.0 ∙ (begun.unnamed unnamed).1)
+          (subst (λ x. Appends (output_bytes before.drain) (output_bytes x) moved.written) (sym ended.drain) moved.gets.appended);
+      copied = copied;
       all = moved.all;
       ended = moved.ended;
-      flushed = λ writes.
-          let flushed = c.pump-moved.ensures.flushed writes in (
-            subst (IsFlushed g.D.Destination.flushed file.flushed) (sym ended.drain) flushed.0,
-            subst (λ tees. AreFlushed file.flushed tees.items) (sym ended.failed) flushed.1,
-          );
-      reported = subst (λ d. IfErr answer (IsOfSide (InletFails g.S.Source.fails file.fails c.pump-moved.new.source)
-          (DrainFails g.D.Destination.fails file.fails d) (IsFull g.D.Destination.full file.full d))) (sym ended.drain) c.pump-moved.ensures.reported;
+      flushed = λ writes. all_flushed_same g.D.Destination.flushed file.flushed after.opening last.opening after.drain last.drain after.copies.tees.items last.copies.tees.items
+          ended.opening ended.drain (ap (λ tees. tees.items) ended.failed) (all.flushed writes);
+      opened = subst (λ o. OnOk answer (IsDone o)) (sym ended.opening) all.opened;
+      reported = subst (λ o. IfErr answer (IsOfSide (InletFails g.S.Source.fails file.fails c.move_all-moved.new.input)
+          (OutletFails g.D.Destination.fails file.fails o last.drain) (IsFull g.D.Destination.full file.full last.drain))) (sym ended.opening)
+          (subst (λ d. IfErr answer (IsOfSide (InletFails g.S.Source.fails file.fails c.move_all-moved.new.input)
+          (OutletFails g.D.Destination.fails file.fails after.opening d) (IsFull g.D.Destination.full file.full d))) (sym ended.drain) all.reported);
     })

@@ -2,7 +2,7 @@
 use Rattle.std.proofs.Common.{◌≡◌, [], map, take}
 use Rattle.std.specs.List.{All}
 use Rattle.pump_engine.specs.Copies.{IsCopy, names_of}
-use Rattle.pump_engine.proofs.opening.open_tees.Given as goal
+use Rattle.pump_engine.proofs.opening.look_at_tees.Given as goal
 
 abbrev pub invariant-loop-name : goal.invariant-loop-name
 invariant-loop-name g l =

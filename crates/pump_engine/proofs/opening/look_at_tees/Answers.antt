@@ -3,7 +3,7 @@ use Rattle.std.specs.List.{All}
 use Rattle.std.proofs.lemmas.List.Elements.{All-push}
 use Rattle.pump_engine.specs.Copies.{IsCopy}
 use Rattle.pump_engine.proofs.Tees.{named_more}
-use Rattle.pump_engine.proofs.opening.open_tees.Goals as goal
+use Rattle.pump_engine.proofs.opening.look_at_tees.Goals as goal
 
 pub loop-name-preserved : goal.loop-name-preserved
 loop-name-preserved g c =
