@@ -24,9 +24,8 @@ fn write_frame<W: AsyncWrite>(rt: &impl Abort, cx: &mut Context<'_>, writer: &mu
 
 /// The bytes of a length, to be written by hand.
 fn encode(rt: &impl Abort) {
-    if TWO_BYTES.can_encode(258) {
-        same_bytes(rt, TWO_BYTES.encode(258).as_slice(), &[2, 1]);
-    }
+    assert!(rt; TWO_BYTES.can_encode(258));
+    same_bytes(rt, TWO_BYTES.encode(258).as_slice(), &[2, 1]);
 }
 
 /// A frame past the limit is skipped, or taken with another limit. The reader below stays at hand.

@@ -4,7 +4,7 @@ use Rattle.futures.specs.declared.task.context.Context.{Context}
 use Rattle.piper.specs.declared.error.PipeError.{PipeError}
 use Rattle.piper_lines.proofs.Sending.{sends_then}
 use Rattle.piper_lines.proofs.Staying.{writer_stays}
-use Rattle.piper_futures.specs.Writing.{WritesOn, WroteAll, Idles, ComesBack}
+use Rattle.piper_futures.specs.Writing.{WritesOn, WroteAll, Idles, ComesBack, WroteAndClosed}
 use Rattle.piper_futures.specs.declared.failed.Failed.{Failed}
 
 module _ {W : Type 0} (sent : W → List ℕ) (saw : W → Bool) (woken : W → Type 0) where
@@ -30,3 +30,11 @@ module _ {W : Type 0} (sent : W → List ℕ) (saw : W → Bool) (woken : W → 
       → (output : Result W (Failed W)) → ComesBack sent saw woken fails P w1 output → ComesBack sent saw woken fails P w0 output
   comes_back_then fails P w0 w1 first (Ok done) gave = (idles_then w0 w1 done first gave.0, gave.1)
   comes_back_then fails P w0 w1 first (Err failed) gave = (idles_then w0 w1 failed.left first gave.0, gave.1)
+
+  -- the same of a writer that is closed then
+  pub wrote_and_closed_then : (fails : W → Context → PipeError → Type 0) (flushed : W → Type 0) (bytes : List ℕ) (w0 w1 : W) (n0 n1 : ℕ) → WritesOn sent saw woken bytes w0 n0 w1 n1
+      → (output : Result ℕ (Failed ℕ)) → WroteAndClosed sent saw woken fails flushed bytes w1 n1 output → WroteAndClosed sent saw woken fails flushed bytes w0 n0 output
+  wrote_and_closed_then fails flushed bytes w0 w1 n0 n1 first (Ok count) gave =
+      (gave.0, gave.1, wrote_then fails bytes w0 w1 n0 n1 first (Ok (gave.0, count)) gave.2, gave.3)
+  wrote_and_closed_then fails flushed bytes w0 w1 n0 n1 first (Err failed) gave =
+      (gave.0, writes_then bytes w0 w1 gave.0 n0 n1 failed.left first gave.1, gave.2)

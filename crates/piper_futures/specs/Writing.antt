@@ -7,11 +7,17 @@ use Rattle.piper_lines.specs.Stays.{WriterStays}
 use Rattle.piper_futures.specs.declared.failed.Failed.{Failed}
 use Rattle.piper_futures.specs.declared.write_end.Closing.{Closing}
 use Rattle.piper_futures.specs.declared.write_end.Flushing.{Flushing}
+use Rattle.piper_futures.specs.declared.write_and_close.WriteAllAndClose.{WriteAllAndClose}
 use Rattle.piper_futures.specs.declared.write_whole.WriteAll.{WriteAll}
 
 -- it is about to write these bytes to the writer
 abbrev pub StartsWriting : {W : Type 0} → WriteAll W → W → List ℕ → Type 0
 StartsWriting future writer bytes =
+    (future.writer ≡ Some writer) × (future.bytes.now ≡ bytes) × (future.written ≡ 0)
+
+-- the same, and to close it then
+abbrev pub StartsWritingToClose : {W : Type 0} → WriteAllAndClose W → W → List ℕ → Type 0
+StartsWritingToClose future writer bytes =
     (future.writer ≡ Some writer) × (future.bytes.now ≡ bytes) × (future.written ≡ 0)
 
 -- it is about to flush the writer
@@ -26,6 +32,9 @@ StartsClosing future writer = future.writer ≡ Some writer
 abbrev pub write_end : {W : Type 0} → WriteAll W → Option W
 write_end future = future.writer
 
+abbrev pub closing_writer : {W : Type 0} → WriteAllAndClose W → Option W
+closing_writer future = future.writer
+
 abbrev pub flush_end : {W : Type 0} → Flushing W → Option W
 flush_end future = future.writer
 
@@ -35,6 +44,9 @@ close_end future = future.writer
 -- there is a writer, and no more bytes are counted as written than there are
 abbrev pub WritesWithin : {W : Type 0} → WriteAll W → Type 0
 WritesWithin future = IsSome future.writer × (future.written ≤ length future.bytes.now)
+
+abbrev pub WritesToClose : {W : Type 0} → WriteAllAndClose W → Type 0
+WritesToClose future = IsSome future.writer × (future.written ≤ length future.bytes.now)
 
 -- some of the bytes are left to write
 abbrev pub HasLeft : {W : Type 0} → WriteAll W → Type 0
@@ -69,6 +81,19 @@ module _ {W : Type 0} (sent : W → List ℕ) (saw : W → Bool) (woken : W → 
   ComesBack fails P w (Ok done) = Idles w done × P done
   ComesBack fails P w (Err failed) = Idles w failed.left × FailsOnce fails failed.left failed.error
 
+  -- its pipe is closed, and what was written is on its way
+  abbrev pub IsClosed : (W → Type 0) → W → Type 0
+  IsClosed flushed closed = (saw closed ≡ true) × flushed closed
+
+  -- all were written, as WroteAll says, and then the writer was closed; or the writer failed
+  abbrev pub WroteAndClosed : (W → Context → PipeError → Type 0) → (W → Type 0) → List ℕ → W → ℕ
+      → Result ℕ (Failed ℕ) → Type 0
+  WroteAndClosed fails flushed bytes w n (Ok count) = (before : W) × (closed : W)
+      × WroteAll fails bytes w n (Ok (before, count))
+      × ComesBack fails (IsClosed flushed) before (Ok closed)
+  WroteAndClosed fails flushed bytes w n (Err failed) = (last : W)
+      × WritesOn bytes w n last failed.left × FailsOnce fails last failed.error
+
   -- what a future may give, of the writer that it holds
   abbrev pub GivesWritten : (W → Context → PipeError → Type 0) → WriteAll W
       → Result (W × ℕ) (Failed (W × ℕ)) → Type 0
@@ -84,4 +109,9 @@ module _ {W : Type 0} (sent : W → List ℕ) (saw : W → Bool) (woken : W → 
   abbrev pub GivesClosed : (W → Context → PipeError → Type 0) → (W → Type 0) → Closing W
       → Result W (Failed W) → Type 0
   GivesClosed fails flushed future output = IsSomeAnd future.writer (λ writer.
-      ComesBack fails (λ closed. (saw closed ≡ true) × flushed closed) writer output)
+      ComesBack fails (IsClosed flushed) writer output)
+
+  abbrev pub GivesWrittenAndClosed : (W → Context → PipeError → Type 0) → (W → Type 0)
+      → WriteAllAndClose W → Result ℕ (Failed ℕ) → Type 0
+  GivesWrittenAndClosed fails flushed future output = IsSomeAnd future.writer (λ writer.
+      WroteAndClosed fails flushed future.bytes.now writer future.written output)

@@ -4,7 +4,7 @@ ghost use Rattle.piper_futures.specs.Draining.{StartsDraining};
 ghost use Rattle.piper_futures.specs.Filling.{StartsFilling};
 ghost use Rattle.piper_futures.specs.Reading.{StartsReading, StartsReadingUpTo, StartsReadingAll};
 ghost use Rattle.piper_futures.specs.Until.{StartsReadingThrough};
-ghost use Rattle.piper_futures.specs.Writing.{StartsWriting, StartsFlushing, StartsClosing};
+ghost use Rattle.piper_futures.specs.Writing.{StartsWriting, StartsWritingToClose, StartsFlushing, StartsClosing};
 
 use crate::drain::{Draining, drain_into};
 use crate::fill::{AsyncFill, Filling, fill_from};
@@ -12,6 +12,7 @@ use crate::read_all::{ReadToEnd, read_to_end};
 use crate::read_some::{ReadOnce, read};
 use crate::read_through::{ReadUntil, read_until};
 use crate::read_up_to::{ReadExact, read_exact};
+use crate::write_and_close::{WriteAllAndClose, write_all_and_close};
 use crate::write_end::{Closing, Flushing, close, flush};
 use crate::write_whole::{WriteAll, write_all};
 use piper::io::{AsyncBufRead, AsyncRead, AsyncWrite};
@@ -73,7 +74,7 @@ pub trait AsyncBufReadExt: AsyncBufRead {
 
 impl<R: AsyncBufRead> AsyncBufReadExt for R {}
 
-/// Calls of a writer, each a future that owns it and gives it back.
+/// Calls of a writer, each a future that owns it; all but one give it back.
 pub trait AsyncWriteExt: AsyncWrite {
     /// As the function [`write_all`].
     final fn write_all<'a>(self, bytes: &'a [u8]) -> WriteAll<'a, Self>
@@ -82,6 +83,15 @@ pub trait AsyncWriteExt: AsyncWrite {
         ensures { StartsWriting result self bytes.now }
     {
         write_all(self, bytes)
+    }
+
+    /// As the function [`write_all_and_close`].
+    final fn write_all_and_close<'a>(self, bytes: &'a [u8]) -> WriteAllAndClose<'a, Self>
+    where
+        Self: Sized + Drop,
+        ensures { StartsWritingToClose result self bytes.now }
+    {
+        write_all_and_close(self, bytes)
     }
 
     /// As the function [`flush`].

@@ -1,8 +1,8 @@
 //! Futures over any reader that lends, and over any writer, named as in `futures` and `tokio`.
 //!
-//! Each owns its ends and gives them back, also where it fails: pass `&mut` to keep one. One that
-//! is dropped before it gives its result drops what it owns, and the bytes that it gathered with
-//! it.
+//! Each owns its ends and gives them back, also where it fails: pass `&mut` to keep one.
+//! [`write_all_and_close`] alone drops its writer. One that is dropped before it gives its result
+//! drops what it owns, and the bytes that it gathered with it.
 #![tactic(auto)]
 
 mod copy_across;
@@ -16,6 +16,7 @@ mod read_some;
 mod read_through;
 mod read_up_to;
 mod threads;
+mod write_and_close;
 mod write_end;
 mod write_whole;
 
@@ -29,5 +30,6 @@ pub use read_some::{ReadOnce, read};
 pub use read_through::{ReadUntil, poll_read_until, read_until};
 pub use read_up_to::{ReadExact, read_exact};
 pub use threads::{Drained, Drains, Filled, Fills, spawn_drain, spawn_fill};
+pub use write_and_close::{WriteAllAndClose, write_all_and_close};
 pub use write_end::{Closing, Flushing, close, flush};
 pub use write_whole::{WriteAll, write_all};

@@ -9,6 +9,8 @@ mod compare;
 #[cfg(test)]
 mod crossing;
 #[cfg(test)]
+mod joined;
+#[cfg(test)]
 mod machine;
 #[cfg(test)]
 mod methods;

@@ -16,7 +16,8 @@ where
     let writer = ends(rt, writer.flush());
     let source: &[u8] = b"ij";
     let (writer, _source, _copied) = ends(rt, writer.fill_from(source));
-    drop(ends(rt, writer.close()));
+    let writer = ends(rt, writer.close());
+    let _count = ends(rt, writer.write_all_and_close(b"late"));
     // Of a `&mut` they keep none.
     let (_reader, line) = ends(rt, (&mut reader).read_until(b'\n', Vec::new(rt.alloc())));
     same_bytes(rt, &line, b"ab\n");

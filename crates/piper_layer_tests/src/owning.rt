@@ -6,10 +6,12 @@ use crate::compare::{confirm, same};
 use crate::running::{come, ends, kept, next_of, same_bytes, sends};
 use futures::StreamExt;
 use futures::executor::block_on;
+use futures::task::Poll;
+use futures::test::MockTask;
 use piper::io::Copied;
 use piper::{OwnedReader, OwnedWriter, PipeError, owned_pipe};
 use piper_futures::{close, copy, drain_into, fill_from, read_to_end, read_until, write_all};
-use piper_lines::{ByteOrder, FrameHeader, into_line_text};
+use piper_lines::{ByteOrder, FrameAnswer, FrameHeader, Frames, into_line_text};
 use piper_streams::{FrameSink, FrameStream, LineSink, LineStream, WriteSink};
 use std::alloc::AllocGlobal;
 use std::io::{self, ErrorKind};
@@ -115,6 +117,19 @@ fn kind_of(item: Option<Result<Vec<u8>, PipeError>>) -> Option<ErrorKind> {
     }
 }
 
+/// The frame that was too long is kept, and comes where its bytes are within the limit.
+fn takes_with_another_limit<H>(rt: &H, below: Frames<OwnedReader>, wanted: &[u8])
+where
+    H: Abort + RandomSource + AllocGlobal,
+{
+    let mut frames = below;
+    let mut body = Vec::new(rt.alloc());
+    let task = MockTask::new(rt).expect(rt, "a task");
+    let answer = task.enter(|cx| frames.poll_frame(cx, &mut body, wanted.len()));
+    confirm(rt, matches!(answer, Poll::Ready(Ok(FrameAnswer::Frame))));
+    same_bytes(rt, &body, wanted);
+}
+
 fn frames_pass<H>(rt: &H)
 where
     H: Abort + Wait + RandomSource + AllocGlobal,
@@ -127,6 +142,7 @@ where
     let long = kind_of(next_of(rt, &mut frames));
     same(rt, long, Some(ErrorKind::InvalidData));
     confirm(rt, next_of(rt, &mut frames).is_none());
+    takes_with_another_limit(rt, frames.into_frames(), b"three");
 }
 
 #[test]
