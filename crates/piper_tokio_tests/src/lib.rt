@@ -1,9 +1,7 @@
-//! Tests of `tokio`, its codecs, `tungstenite` and `hyper` over pipes. They are a crate of their
-//! own, so that the crate is proved once.
+//! Tests of `tokio` and its codecs over pipes. They are a crate of their own, so that the crate is
+//! proved once; what needs more crates of the web is in `piper_web_tests`.
 #![tactic(auto)]
 
-#[cfg(test)]
-mod blocking;
 #[cfg(test)]
 mod codecs;
 #[cfg(test)]
@@ -11,10 +9,6 @@ mod compare;
 #[cfg(test)]
 mod copies;
 #[cfg(test)]
-mod http_over_duplex;
-#[cfg(test)]
 mod pattern;
 #[cfg(test)]
 mod pieces;
-#[cfg(test)]
-mod sockets;
