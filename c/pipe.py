@@ -1,6 +1,6 @@
-"""Sends a line through a pipe of bytes. LIBRARY is a shared object of the archive:
+"""Sends a line through a pipe of bytes, by the shared library of C:
 
-    make -C c libpiper.so && python3 c/pipe.py c/libpiper.so
+    make -C c && python3 c/pipe.py c/build/x86_64/libpiper.so.0
 """
 import ctypes
 import sys
@@ -32,7 +32,7 @@ def declare(name, result, *arguments):
 
 
 handle = ctypes.POINTER(Handle)
-pipe_open = declare("open", ctypes.c_bool, size, handle, handle)
+pipe_open = declare("open_abi_1", ctypes.c_bool, size, handle, handle)
 write = declare("writer_write", Moved, handle, ctypes.c_char_p, size)
 read = declare("reader_read", Moved, handle, ctypes.c_char_p, size)
 reader_drop = declare("reader_drop", Left, handle)

@@ -9,14 +9,17 @@
  * - A handle that a call takes is open: `piper_open` filled it, and it was not dropped since.
  *   `at` belongs to the pipe. A handle may be moved, and then its old place is not used again.
  * - A handle is used by one thread at a time. The two handles of a pipe may be used by two threads
- *   at the same time. A handle may go to another thread, ordered by a lock, a start or join of a
- *   thread, or a sequentially consistent atomic.
+ *   at the same time. A handle may go to another thread, by anything that has what the one thread
+ *   did happen before what the other does: a lock, a start or join of a thread, a release and an
+ *   acquire.
  * - Each open handle is dropped once, by `piper_reader_drop` or `piper_writer_drop`.
  * - A pointer is not null, and the memory at it is the caller's for as long as the call runs. That
- *   of a pointer and a length (`to`, `from`) is at least that long, and is no part of the pipe.
+ *   of a pointer and a length (`to`, `from`) is at least that long. It may lie in a pipe, even in
+ *   the same one: the bytes that `peek` gave are the reader's to read, and room that is lent is the
+ *   writer's to write, until another call of that side is made.
  * - No call is made from a signal handler, nor in the forked child of a process with threads.
  *
- * Memory comes from `malloc` and goes back by `free`: link with liblibc_c.a of the toolchain.
+ * Memory comes from `malloc` and goes back by `free`.
  */
 #ifndef PIPER_H
 #define PIPER_H
@@ -110,6 +113,13 @@ typedef struct {
     /* Words that this handle had left and that nobody took, if any: they are this side's again. */
     piper_words mine;
 } piper_left;
+
+/* The version of these declarations. A pipe is opened under a name that has it, so that a program
+ * which was compiled with others does not link. */
+#define PIPER_ABI 1
+#define PIPER_NAME_OF(abi) piper_open_abi_##abi
+#define PIPER_NAME(abi) PIPER_NAME_OF(abi)
+#define piper_open PIPER_NAME(PIPER_ABI)
 
 /* Opens a pipe that holds `capacity` bytes. `*reader` and `*writer` are overwritten, whatever they
  * held. Returns false, and makes both null, where the capacity is 0 or 2^63 or more, or where

@@ -1,18 +1,21 @@
 #!/usr/bin/env bash
-# Tries the cargo package over the library as it is built here: its tests, a build without `std`, its tests under the
-# sanitizer of addresses where the toolchain has it, and under valgrind.
+# Tries the cargo package, by cargo alone: its tests and examples, with and without `std`, as clippy and cargo doc see it, packed,
+# in a shared library, with what stands for the library under Miri, under the sanitizer of addresses where the toolchain has it, and
+# under valgrind.
 #
 #     rust/check.sh [--install]
 #
-# It needs cargo (1.83), gcc, valgrind, and the sources of other packages as Debian has them, which --install gets by apt-get.
-# PIPER_C_LIB may name a built libpiper_c.a; else `rt lib` builds it. The last line is 'rust: N passed, M failed'. The status is
-# 1 where something failed, and 2 where a tool is missing and nothing was tried.
+# It needs cargo, gcc, valgrind, and the sources of other packages as Debian has them, which --install gets by apt-get. The last
+# line is 'rust: N passed, M failed'. The status is 1 where something failed, and 2 where a tool is missing and nothing was tried.
 set -uo pipefail
 cd "$(dirname "$0")"
 top=$(cd .. && pwd)
 sources=${CARGO_SOURCES:-/usr/share/cargo/registry}
 packages=(valgrind librust-futures-io-dev librust-fastrand-dev librust-futures-lite-dev librust-easy-parallel-dev
-    librust-async-channel-dev librust-async-executor-dev librust-async-io-dev)
+    librust-async-channel-dev librust-async-executor-dev librust-async-io-dev librust-tokio-dev librust-tokio-util-dev
+    librust-futures-util-dev)
+room=$(mktemp -d)
+trap 'rm -rf "$room"' EXIT
 passed=0
 failed=0
 
@@ -38,8 +41,76 @@ tests() { # NAME, and how cargo is called
     echo "$name: $one_passed passed, $one_failed failed"
 }
 
-offline() { # cargo's words
-    cargo --config "source.crates-io.replace-with='here'" --config "source.here.directory='$sources'" "$@" --offline
+# Counts what either holds or not, and shows what was printed where it doesn't.
+holds() { # NAME COMMAND..
+    local name=$1
+    shift
+    if "$@" > "$room/said" 2>&1; then
+        echo "$name: passed"
+        passed=$((passed + 1))
+    else
+        cat "$room/said"
+        echo "$name: FAILED"
+        failed=$((failed + 1))
+    fi
+}
+
+# The options stand behind the command's name, since `cargo clippy` hands on none that stand before it.
+offline() { # COMMAND, and what else it takes
+    cargo "$1" --offline --config "source.crates-io.replace-with='here'" --config "source.here.directory='$sources'" "${@:2}"
+}
+
+# The folder as whoever has no `rt` and no environment of ours gets it.
+packed() {
+    cmp LICENSE-MIT ../LICENSE-MIT && cmp LICENSE-APACHE ../LICENSE-APACHE || return
+    offline package --quiet --allow-dirty --target-dir "$room/target" || return
+    local list
+    list=$(tar -tzf "$room"/target/package/piper-*.crate)
+    for file in lib/x86_64-unknown-linux-gnu.s lib/aarch64-unknown-linux-gnu.s LICENSE-MIT LICENSE-APACHE README.md CHANGELOG.md; do
+        grep -q "/$file\$" <<< "$list" || { echo "the package lacks $file"; return 1; }
+    done
+}
+
+# A shared library that is made with this crate shows none of it.
+shows_nothing() {
+    mkdir -p "$room/shared/src"
+    printf '%s\n' '[package]' 'name = "shared"' 'version = "0.1.0"' 'edition = "2021"' '[lib]' 'crate-type = ["cdylib"]' \
+        '[dependencies]' "piper = { path = \"$top/rust\" }" > "$room/shared/Cargo.toml"
+    cat > "$room/shared/src/lib.rs" <<< '#[no_mangle]
+pub extern "C" fn sends(byte: u8) -> usize {
+    let (mut reader, mut writer) = piper::pipe(4);
+    writer.try_fill(&[byte]) + reader.try_drain(&mut [0; 4])
+}'
+    (cd "$room/shared" && offline build --release --target-dir "$room/target") || return
+    nm -D --defined-only "$room/target/release/libshared.so" | tee "$room/shown"
+    [ "$(awk '{ print $3 }' "$room/shown")" = sends ]
+}
+
+# A program that has this crate by a shared library of Rust, and takes parts of it inline.
+links_to_a_dylib() {
+    mkdir -p "$room/between/src" "$room/above/src"
+    printf '%s\n' '[package]' 'name = "between"' 'version = "0.1.0"' 'edition = "2021"' '[lib]' 'crate-type = ["dylib"]' \
+        '[dependencies]' "piper = { path = \"$top/rust\", features = [\"dylib\"] }" > "$room/between/Cargo.toml"
+    echo 'pub use piper;' > "$room/between/src/lib.rs"
+    printf '%s\n' '[package]' 'name = "above"' 'version = "0.1.0"' 'edition = "2021"' \
+        '[dependencies]' 'between = { path = "../between" }' > "$room/above/Cargo.toml"
+    cat > "$room/above/src/main.rs" <<< 'use between::piper::pipe;
+use std::task::{Context, Poll, Waker};
+fn main() {
+    let (mut reader, mut writer) = pipe(8);
+    let (mut cx, mut came) = (Context::from_waker(Waker::noop()), Vec::new());
+    assert!(reader.poll(&mut cx).is_pending());
+    while writer.poll_fill(&mut cx, &b"abc"[..]).is_pending() {}
+    while reader.poll_drain(&mut cx, &mut came).is_pending() {}
+    assert_eq!(came, b"abc");
+    assert!(writer.poll(&mut cx).is_ready());
+    writer.write_buf(1)[0] = 7;
+    writer.produced(1);
+    assert_eq!(reader.poll(&mut cx), Poll::Ready(true));
+    assert_eq!(reader.peek_buf(), [7]);
+    reader.consume(1);
+}'
+    (cd "$room/above" && offline run --target-dir "$room/target" && offline run --release --target-dir "$room/target")
 }
 
 if [ "${1-}" = --install ]; then
@@ -48,7 +119,7 @@ if [ "${1-}" = --install ]; then
 elif [ $# -gt 0 ]; then
     refuse "there is no option $1"
 fi
-for tool in cargo gcc valgrind; do
+for tool in cargo gcc nm valgrind; do
     command -v "$tool" > /dev/null || refuse "$tool is missing"
 done
 for package in "${packages[@]:1}"; do
@@ -59,33 +130,43 @@ done
 
 export CARGO_TARGET_DIR=${CARGO_TARGET_DIR:-$top/out/cargo}
 host=$(rustc -vV | sed -n 's/^host: //p')
-if [ -z "${PIPER_C_LIB-}" ]; then
-    command -v rt > /dev/null || refuse 'rt is missing, which builds the library, and PIPER_C_LIB names none'
-    (cd "$top/crates/piper_c" && rt lib < /dev/null) || refuse 'the library was not built'
-    export PIPER_C_LIB=$top/crates/piper_c/out/libpiper_c.a
-fi
+runtime=$(rustc --print sysroot)/lib/rustlib/$host/lib
+# All tests but that of the example programs, which are built once.
+suites=(--lib)
+for file in tests/*.rs; do
+    [ "$file" = tests/examples.rs ] || suites+=(--test "$(basename "$file" .rs)")
+done
 
-tests 'tests' offline test
-offline build --no-default-features > /dev/null 2>&1 && echo 'without std: built' || {
-    echo 'without std: FAILED to build'
-    failed=$((failed + 1))
-}
+tests 'tests, examples of the page and example programs' offline test
+CARGO_PROFILE_RELEASE_LTO=fat CARGO_PROFILE_RELEASE_CODEGEN_UNITS=1 tests 'optimized as one unit' offline test --release "${suites[@]}"
+RUSTFLAGS=-Dwarnings holds 'without std' offline build --no-default-features --target-dir "$CARGO_TARGET_DIR/strict"
+RUSTDOCFLAGS=-Dwarnings holds 'cargo doc' offline doc --no-deps
+if cargo clippy --version > /dev/null 2>&1; then
+    holds 'clippy' offline clippy --all-targets -- -D warnings
+    holds 'clippy without std' offline clippy --no-default-features -- -D warnings
+    holds 'clippy for a dylib' offline clippy --features dylib -- -D warnings
+else
+    echo 'clippy: left out, this toolchain has none'
+fi
+holds 'cargo package' packed
+holds 'a shared library shows nothing of it' shows_nothing
+holds 'a program links to a dylib' links_to_a_dylib
 
 export PIPER_TEST_CALLS=200000 PIPER_TEST_SHARE=4
-runtime=$(rustc --print sysroot)/lib/rustlib/$host/lib
+RUSTFLAGS='--cfg miri' tests 'what stands for the library under Miri' offline test "${suites[@]}" --target-dir "$CARGO_TARGET_DIR/miri"
 if compgen -G "$runtime/librustc-*_rt.asan.a" > /dev/null; then
-    export RUSTC_BOOTSTRAP=1 RUSTFLAGS=-Zsanitizer=address
-    tests 'under the sanitizer of addresses' offline test --tests --target "$host" --target-dir "$CARGO_TARGET_DIR/asan"
-    unset RUSTC_BOOTSTRAP RUSTFLAGS
+    RUSTC_BOOTSTRAP=1 RUSTFLAGS=-Zsanitizer=address \
+        tests 'under the sanitizer of addresses' offline test "${suites[@]}" --target "$host" --target-dir "$CARGO_TARGET_DIR/asan"
 else
     echo 'under the sanitizer of addresses: left out, this toolchain has none'
 fi
+echo 'under the sanitizer of threads: left out, it sees neither the library nor std'
 
 export PIPER_TEST_CALLS=20000 PIPER_TEST_SHARE=50
 triple=${host//-/_}
 export "CARGO_TARGET_${triple^^}_RUNNER=valgrind -q --leak-check=full --show-leak-kinds=definite,indirect
     --errors-for-leak-kinds=definite,indirect --error-exitcode=9"
-tests 'under valgrind' offline test --tests
+tests 'under valgrind' offline test "${suites[@]}"
 
 echo "rust: $passed passed, $failed failed"
 [ "$failed" -eq 0 ]

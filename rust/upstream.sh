@@ -3,8 +3,8 @@
 #
 #     rust/upstream.sh FOLDER
 #
-# FOLDER has the sources of piper 0.2.5, as from crates.io or from Debian's librust-piper-dev. PIPER_C_LIB and CARGO_SOURCES
-# are those of check.sh. The status is that of cargo.
+# FOLDER has the sources of piper 0.2.5, as from crates.io or from Debian's librust-piper-dev. CARGO_SOURCES is
+# that of check.sh. The status is that of cargo.
 set -euo pipefail
 here=$(cd "$(dirname "$0")" && pwd)
 sources=${CARGO_SOURCES:-/usr/share/cargo/registry}

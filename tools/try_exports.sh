@@ -1,11 +1,14 @@
 #!/usr/bin/env bash
-# Tries the exports from Rust and from C: `rust/check.sh` and `make -C c check`. The last line counts both. What can't be
-# tried, since cargo, gcc or the sources of Debian's cargo packages are missing and can't be installed, is left out, and said.
+# Tries the packages for cargo and for C, on a PATH that has no `rt`: `rust/check.sh`, the tests of crates that stand on such a
+# pipe by `rust/clients.sh`, `make -C c check`, and the same for aarch64 under qemu. The last line counts them. What can't be
+# tried, since a tool or sources of Debian's are missing and can't be installed, is left out, and said.
 set -u
 cd "$(dirname "$0")/.."
 room=$(mktemp -d)
 trap 'rm -rf "$room"' EXIT
 failed=0
+PATH=$(tools/path_without.sh rt "$room/bin")
+! command -v rt > /dev/null || { echo 'try_exports.sh: there is still an rt on the PATH' >&2; exit 1; }
 
 # Runs a check, and keeps its last line. A status of 2 says that a tool is missing.
 check() { # NAME COMMAND..
@@ -17,22 +20,62 @@ check() { # NAME COMMAND..
     return "$status"
 }
 
-if command -v cargo > /dev/null && command -v gcc > /dev/null; then
-    check rust rust/check.sh
-    status=$?
-    [ "$status" -ne 2 ] || { check rust rust/check.sh --install; status=$?; }
-    case $status in
-        0) ;;
-        2) echo 'rust: left out' > "$room/rust" ;;
-        *) failed=1 ;;
-    esac
-else
-    echo 'rust: left out' > "$room/rust"
-fi
-if command -v gcc > /dev/null && command -v make > /dev/null; then
-    check c make -s -C c check || { failed=1; echo 'c: FAILED' > "$room/c"; }
-else
-    echo 'c: left out' > "$room/c"
-fi
-echo "$(cat "$room/rust"); $(cat "$room/c")"
+# The same, where to be left out is no failure. A second try may install what is missing.
+try() { # NAME COMMAND..
+    local status=0
+    check "$@" || status=$?
+    if [ "$status" -eq 2 ]; then
+        echo "$1: left out" > "$room/$1"
+    elif [ "$status" -ne 0 ]; then
+        failed=1
+        echo "$1: FAILED" >> "$room/$1"
+    fi
+}
+
+has() { # TOOL..
+    local tool
+    for tool; do
+        command -v "$tool" > /dev/null || return 1
+    done
+}
+
+rust() {
+    has cargo gcc || return 2
+    rust/check.sh
+    local status=$?
+    [ "$status" -ne 2 ] || { rust/check.sh --install; status=$?; }
+    return "$status"
+}
+
+clients() {
+    has cargo || return 2
+    rust/clients.sh rust
+    local status=$?
+    [ "$status" -ne 2 ] || {
+        apt-get install -y --no-install-recommends librust-blocking-dev librust-async-fs-dev librust-async-process-dev \
+            librust-smol-dev librust-doc-comment-dev > /dev/null 2>&1 && rust/clients.sh rust
+        status=$?
+    }
+    return "$status"
+}
+
+c() {
+    has gcc make || return 2
+    make -s -C c check
+}
+
+aarch64() {
+    has make taskset aarch64-linux-gnu-gcc qemu-aarch64 ||
+        apt-get install -y --no-install-recommends qemu-user gcc-aarch64-linux-gnu libc6-dev-arm64-cross > /dev/null 2>&1
+    has make taskset aarch64-linux-gnu-gcc qemu-aarch64 || { echo 'aarch64: not tried'; return 2; }
+    # On the first processor that this shell may use.
+    local one
+    one=$(taskset -pc $$ | sed 's/.*: //; s/[-,].*//')
+    make -s -C c check CC=aarch64-linux-gnu-gcc RUN="taskset -c $one qemu-aarch64 -L /usr/aarch64-linux-gnu"
+}
+
+for name in rust clients c aarch64; do
+    try "$name" "$name"
+done
+echo "$(cat "$room/rust"); $(tail -n 1 "$room/clients"); $(cat "$room/c"); $(cat "$room/aarch64")"
 exit "$failed"

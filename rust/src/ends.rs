@@ -1,10 +1,11 @@
-//! The two sides of a pipe as the library has them, made safe. All unsafe lines of the crate are
-//! in this module.
+//! The two sides of a pipe as the library has them, made safe. All unsafe lines of the crate are in
+//! this module and in that of the heap.
 //!
 //! What the library asks of its callers is kept here: a handle is open until its owner is dropped,
 //! it is used by one thread at a time, and lent memory is borrowed from the handle that lends it.
 
 mod reading;
+mod turns;
 mod writing;
 
 pub(crate) use reading::ReadEnd;
@@ -23,7 +24,7 @@ pub(crate) fn open(capacity: usize) -> Option<(ReadEnd, WriteEnd)> {
         at: ptr::null_mut(),
     };
     // SAFETY: both pointers are to values of ours.
-    if !unsafe { sys::piper_open(capacity, &mut reader, &mut writer) } {
+    if !unsafe { sys::piper_open_abi_1(capacity, &mut reader, &mut writer) } {
         return None;
     }
     Some((
@@ -70,15 +71,15 @@ unsafe fn waker_of(words: Words) -> Option<Waker> {
 #[inline]
 fn wake(words: Words) {
     // SAFETY: the library hands out the words of a waiting side once, and this crate left them.
-    if let Some(waker) = unsafe { waker_of(words) } {
-        waker.wake();
-    }
+    call(unsafe { waker_of(words) });
 }
 
-/// Drops a waker that came back.
-fn release(words: Words) {
-    // SAFETY: as in `wake`: words that come back are no longer in the pipe.
-    drop(unsafe { waker_of(words) });
+/// Calls a waker, if there is one.
+#[inline]
+fn call(waker: Option<Waker>) {
+    if let Some(waker) = waker {
+        waker.wake();
+    }
 }
 
 /// What a look or a poll found; `false` is the end.
@@ -93,24 +94,24 @@ fn found(outcome: u32) -> Poll<bool> {
 }
 
 impl Polled {
-    /// Takes in the words that came back.
+    /// Takes in the words that came back. Both are wakers before one is called or dropped, which may
+    /// panic.
     fn settle(self) -> Poll<bool> {
+        // SAFETY: as in `wake`: words that come back are no longer in the pipe.
+        let (_before, mine) = unsafe { (waker_of(self.before), waker_of(self.mine)) };
         if self.outcome == sys::AGAIN {
             // Nothing was left, so nobody else will wake this task.
-            wake(self.mine);
-        } else {
-            release(self.mine);
+            call(mine);
         }
-        release(self.before);
         found(self.outcome)
     }
 }
 
 impl Left {
-    /// Wakes the other side, and hands the words of this one to `own`.
-    fn settle(self, own: fn(Words)) {
-        wake(self.wake);
-        own(self.mine);
+    /// The wakers of the other side and of this one.
+    fn wakers(self) -> (Option<Waker>, Option<Waker>) {
+        // SAFETY: as in `wake`, and as in `settle`.
+        unsafe { (waker_of(self.wake), waker_of(self.mine)) }
     }
 }
 

@@ -40,22 +40,53 @@ impl Reader {
     }
 
     /// Whether no byte is unread now.
+    ///
+    /// ```
+    /// let (mut reader, mut writer) = piper::pipe(16);
+    /// assert!(reader.is_empty());
+    /// writer.try_fill(b"a");
+    /// assert!(!reader.is_empty());
+    /// reader.try_drain(&mut [0; 4]);
+    /// assert!(reader.is_empty());
+    /// ```
     pub fn is_empty(&self) -> bool {
         self.len() == 0
     }
 
     /// How many bytes the pipe can hold at a time.
+    ///
+    /// ```
+    /// let (reader, _writer) = piper::pipe(200);
+    /// assert_eq!(reader.capacity(), 200);
+    /// ```
     pub fn capacity(&self) -> usize {
         self.end.capacity()
     }
 
     /// Whether as many bytes are unread as the pipe can hold.
+    ///
+    /// ```
+    /// let (reader, mut writer) = piper::pipe(3);
+    /// writer.try_fill(b"ab");
+    /// assert!(!reader.is_full());
+    /// writer.try_fill(b"c");
+    /// assert!(reader.is_full());
+    /// ```
     pub fn is_full(&self) -> bool {
         self.len() == self.capacity()
     }
 
     /// Whether the pipe is closed: a handle was dropped, or the writer closed it. Bytes may still be
     /// unread then.
+    ///
+    /// ```
+    /// let (mut reader, mut writer) = piper::pipe(16);
+    /// writer.try_fill(b"last");
+    /// assert!(!reader.is_closed());
+    /// drop(writer);
+    /// assert!(reader.is_closed());
+    /// assert_eq!(reader.try_drain(&mut [0; 8]), 4);
+    /// ```
     pub fn is_closed(&self) -> bool {
         self.end.is_closed()
     }
@@ -83,6 +114,15 @@ impl Reader {
 
     /// The bytes that this side knows of and that lie in one piece. It never looks for more: that
     /// is for [`poll`](Reader::poll).
+    ///
+    /// ```
+    /// # use futures_lite::future::{block_on, poll_fn};
+    /// let (mut reader, mut writer) = piper::pipe(16);
+    /// writer.try_fill(b"abc");
+    /// assert_eq!(reader.peek_buf(), b"", "nothing was looked for");
+    /// block_on(poll_fn(|cx| reader.poll(cx)));
+    /// assert_eq!(reader.peek_buf(), b"abc");
+    /// ```
     #[inline]
     pub fn peek_buf(&self) -> &[u8] {
         self.end.known()
@@ -93,6 +133,15 @@ impl Reader {
     /// # Panics
     ///
     /// If `amt` is more than `peek_buf` shows.
+    ///
+    /// ```
+    /// # use futures_lite::future::{block_on, poll_fn};
+    /// let (mut reader, mut writer) = piper::pipe(4);
+    /// writer.try_fill(b"abcd");
+    /// block_on(poll_fn(|cx| reader.poll(cx)));
+    /// reader.consume(3);
+    /// assert_eq!(writer.try_fill(b"efgh"), 3, "the places are the writer's again");
+    /// ```
     #[inline]
     pub fn consume(&mut self, amt: usize) {
         assert!(
@@ -120,7 +169,18 @@ impl Reader {
     /// Waits for a byte, and copies what is there to `dest`. `Ready(0)` says that the pipe is closed
     /// and all of its bytes are consumed, or that `dest` is empty.
     ///
-    /// Once in a hundred calls, on average, it yields though there are bytes.
+    /// Once in a hundred calls, on average, it yields though there are bytes: it wakes its own task and
+    /// is pending.
+    ///
+    /// ```
+    /// # use futures_lite::future::{block_on, poll_fn};
+    /// let (mut reader, mut writer) = piper::pipe(16);
+    /// writer.try_fill(b"abcde");
+    /// drop(writer);
+    /// let mut place = [0; 3];
+    /// let mut drain = || block_on(poll_fn(|cx| reader.poll_drain_bytes(cx, &mut place)));
+    /// assert_eq!((drain(), drain(), drain()), (3, 2, 0));
+    /// ```
     pub fn poll_drain_bytes(&mut self, cx: &mut Context<'_>, dest: &mut [u8]) -> Poll<usize> {
         match self.end.poll(cx.waker()) {
             Poll::Ready(true) if self.draws.draw() => yield_now(cx),

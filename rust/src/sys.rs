@@ -1,9 +1,42 @@
-//! The functions of the static library, declared as its header `c/piper.h` has them.
-//!
-//! Nothing compares these declarations with the library: change both together. What the crate has no
-//! use for is left out.
+//! The library: its text, which the assembler reads, and its functions, declared as the header
+//! `c/piper.h` has them. What the crate has no use for is left out.
 
 use core::ffi::c_void;
+
+/// Includes the text for a target. Its braces are no arguments.
+macro_rules! library_for {
+    ($target:literal, $($option:ident),*) => {
+        core::arch::global_asm!(
+            include_str!(concat!("../lib/", $target, "-unknown-linux-gnu.s")),
+            options($($option),*)
+        );
+    };
+}
+
+#[cfg(all(
+    target_arch = "x86_64",
+    target_os = "linux",
+    target_pointer_width = "64"
+))]
+library_for!("x86_64", raw, att_syntax);
+#[cfg(all(
+    target_arch = "aarch64",
+    target_os = "linux",
+    target_pointer_width = "64",
+    target_endian = "little"
+))]
+library_for!("aarch64", raw);
+#[cfg(not(any(all(
+    any(
+        target_arch = "x86_64",
+        all(target_arch = "aarch64", target_endian = "little")
+    ),
+    target_os = "linux",
+    target_pointer_width = "64"
+))))]
+compile_error!(
+    "the library of this piper is compiled for Linux on x86_64 and on aarch64 (64 bits, little endian), and for no other target"
+);
 
 /// Two words that a side leaves while it waits. Here they are the data and the vtable of a waker;
 /// a null vtable says that there are none.
@@ -73,8 +106,44 @@ pub(crate) struct Left {
     pub(crate) mine: Words,
 }
 
-extern "C" {
-    pub(crate) fn piper_open(
+/// Declares functions of the library.
+#[cfg(not(feature = "dylib"))]
+macro_rules! library {
+    ($($(#[cfg($cfg:meta)])? pub(crate) fn $name:ident($($value:ident: $of:ty),* $(,)?) $(-> $result:ty)?;)*) => {
+        extern "C" {
+            $($(#[cfg($cfg)])? pub(crate) fn $name($($value: $of),*) $(-> $result)?;)*
+        }
+    };
+}
+
+/// Declares functions of the library, and makes one of ours of each. Theirs are hidden: what a program takes
+/// inline of this crate doesn't find them in a shared library of Rust, a `dylib`, which shows ours.
+#[cfg(feature = "dylib")]
+macro_rules! library {
+    ($($(#[cfg($cfg:meta)])? pub(crate) fn $name:ident($($value:ident: $of:ty),* $(,)?) $(-> $result:ty)?;)*) => {
+        mod hidden {
+            use super::*;
+
+            extern "C" {
+                $($(#[cfg($cfg)])? pub(super) fn $name($($value: $of),*) $(-> $result)?;)*
+            }
+        }
+        $(
+            /// # Safety
+            ///
+            /// The call is one that the header allows.
+            $(#[cfg($cfg)])?
+            #[inline(never)]
+            pub(crate) unsafe extern "C" fn $name($($value: $of),*) $(-> $result)? {
+                // SAFETY: as above.
+                unsafe { hidden::$name($($value),*) }
+            }
+        )*
+    };
+}
+
+library! {
+    pub(crate) fn piper_open_abi_1(
         capacity: usize,
         reader: *mut RawReader,
         writer: *mut RawWriter,
@@ -92,6 +161,7 @@ extern "C" {
     pub(crate) fn piper_writer_look(writer: *mut RawWriter) -> u32;
     pub(crate) fn piper_writer_poll(writer: *mut RawWriter, mine: Words) -> Polled;
     pub(crate) fn piper_writer_lend(writer: *mut RawWriter, max: usize, at: *mut *mut u8) -> usize;
+    #[cfg(feature = "std")]
     pub(crate) fn piper_writer_offer(writer: *mut RawWriter, max: usize, at: *mut *mut u8) -> Seen;
     pub(crate) fn piper_writer_publish(writer: *mut RawWriter, at: *mut u8, n: usize) -> Words;
     pub(crate) fn piper_writer_next(

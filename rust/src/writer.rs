@@ -46,21 +46,48 @@ impl Writer {
     }
 
     /// Whether no byte is unread now.
+    ///
+    /// ```
+    /// let (_reader, mut writer) = piper::pipe(16);
+    /// assert!(writer.is_empty());
+    /// writer.try_fill(b"a");
+    /// assert!(!writer.is_empty());
+    /// ```
     pub fn is_empty(&self) -> bool {
         self.len() == 0
     }
 
     /// How many bytes the pipe can hold at a time.
+    ///
+    /// ```
+    /// let (_reader, writer) = piper::pipe(200);
+    /// assert_eq!(writer.capacity(), 200);
+    /// ```
     pub fn capacity(&self) -> usize {
         self.end.capacity()
     }
 
     /// Whether as many bytes are unread as the pipe can hold.
+    ///
+    /// ```
+    /// let (mut reader, mut writer) = piper::pipe(3);
+    /// assert_eq!(writer.try_fill(b"abcd"), 3);
+    /// assert!(writer.is_full());
+    /// reader.try_drain(&mut [0; 1]);
+    /// assert!(!writer.is_full());
+    /// ```
     pub fn is_full(&self) -> bool {
         self.len() == self.capacity()
     }
 
     /// Whether the pipe is closed: a handle was dropped, or this one closed it.
+    ///
+    /// ```
+    /// let (reader, writer) = piper::pipe(16);
+    /// assert!(!writer.is_closed());
+    /// drop(reader);
+    /// assert!(writer.is_closed());
+    /// ```
     pub fn is_closed(&self) -> bool {
         self.end.is_closed()
     }
@@ -90,6 +117,12 @@ impl Writer {
     /// `poll_close` it lends nothing.
     ///
     /// Call [`produced`](Writer::produced) once they are written.
+    ///
+    /// ```
+    /// let (_reader, mut writer) = piper::pipe(16);
+    /// assert_eq!(writer.write_buf(5).len(), 5);
+    /// assert_eq!(writer.write_buf(100).len(), 16);
+    /// ```
     #[inline]
     pub fn write_buf(&mut self, max: usize) -> &mut [u8] {
         let room = self.end.lend(max);
@@ -105,6 +138,17 @@ impl Writer {
     ///
     /// If `n` is more than what is left of that slice. Every copy into the pipe, and `poll_close`,
     /// leave nothing of it.
+    ///
+    /// ```
+    /// let (mut reader, mut writer) = piper::pipe(16);
+    /// writer.write_buf(4).copy_from_slice(b"abcd");
+    /// writer.produced(3);
+    /// let mut place = [0; 8];
+    /// assert_eq!(reader.try_drain(&mut place), 3);
+    /// writer.produced(1);
+    /// assert_eq!(reader.try_drain(&mut place), 1);
+    /// assert_eq!(place[0], b'd');
+    /// ```
     #[inline]
     pub fn produced(&mut self, n: usize) {
         assert!(
@@ -117,8 +161,9 @@ impl Writer {
             let room = self.end.lend(self.lent);
             assert_eq!(room.len(), self.lent, "the pipe lent less than before");
         }
-        self.end.publish(n);
+        // Before the publish, which wakes: a waker may panic.
         self.lent -= n;
+        self.end.publish(n);
     }
 
     /// Copies bytes from `src` into the pipe, and returns how many. It never waits: 0 says that there
@@ -139,7 +184,16 @@ impl Writer {
     /// Waits for room, and copies bytes from `bytes` into the pipe. `Ready(0)` says that the pipe is
     /// closed, or that `bytes` is empty.
     ///
-    /// Once in a hundred calls, on average, it yields though there is room.
+    /// Once in a hundred calls, on average, it yields though there is room: it wakes its own task and is
+    /// pending.
+    ///
+    /// ```
+    /// # use futures_lite::future::{block_on, poll_fn};
+    /// let (reader, mut writer) = piper::pipe(4);
+    /// assert_eq!(block_on(poll_fn(|cx| writer.poll_fill_bytes(cx, b"abcdef"))), 4);
+    /// drop(reader);
+    /// assert_eq!(block_on(poll_fn(|cx| writer.poll_fill_bytes(cx, b"ef"))), 0);
+    /// ```
     pub fn poll_fill_bytes(&mut self, cx: &mut Context<'_>, bytes: &[u8]) -> Poll<usize> {
         self.lent = 0;
         match self.end.poll(cx.waker()) {

@@ -127,6 +127,7 @@ fn room_is_lent_and_published() {
 }
 
 #[test]
+#[cfg_attr(miri, ignore = "what stands for the library lends as much as there is")]
 fn the_first_loans_of_a_large_pipe_are_small() {
     let (_reader, mut writer) = pipe(200_000);
     assert_eq!(writer.write_buf(131_072).len(), 4_096);
@@ -389,4 +390,20 @@ fn the_handles_can_be_sent_and_shared() {
     let (reader, writer) = pipe(1);
     can(&reader);
     can(&writer);
+}
+
+#[test]
+fn a_pipe_may_be_copied_into_itself() {
+    let (mut reader, mut writer) = pipe(16);
+    let mut place = [0; 16];
+    assert_eq!(writer.try_fill(b"abcd"), 4);
+    assert_eq!(poll_reader(&mut reader), Poll::Ready(true));
+    // From bytes that are unread.
+    assert_eq!(writer.try_fill(reader.peek_buf()), 4);
+    // Into room that is lent.
+    let count = reader.try_drain(writer.write_buf(8));
+    assert_eq!(count, 4, "as many as are known");
+    writer.produced(count);
+    assert_eq!(reader.try_drain(&mut place), 8);
+    assert_eq!(&place[..8], b"abcdabcd");
 }

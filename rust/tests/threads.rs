@@ -6,6 +6,8 @@ use common::{byte_at, bytes_from, number, within_minutes, Counter, Numbers, Slee
 use futures_lite::{AsyncBufRead, AsyncRead, AsyncWrite};
 use piper::{pipe, Reader, Writer};
 use std::pin::Pin;
+use std::sync::atomic::{AtomicBool, Ordering};
+use std::sync::Mutex;
 use std::task::Poll;
 use std::thread;
 
@@ -294,6 +296,58 @@ fn a_shared_handle_is_asked_by_many_threads() {
                         assert_eq!(reader.peek_buf(), b"abc");
                     }
                 });
+            }
+        });
+    });
+}
+
+/// A place by which two threads hand a value to and fro, by releases and acquires alone.
+struct Place<T>(Mutex<Option<T>>, AtomicBool);
+
+impl<T> Place<T> {
+    fn new() -> Place<T> {
+        Place(Mutex::new(None), AtomicBool::new(false))
+    }
+
+    fn put(&self, value: T) {
+        *self.0.lock().unwrap() = Some(value);
+        self.1.store(true, Ordering::Release);
+    }
+
+    fn take(&self) -> T {
+        while !self.1.swap(false, Ordering::Acquire) {
+            thread::yield_now();
+        }
+        self.0.lock().unwrap().take().unwrap()
+    }
+}
+
+#[test]
+fn a_handle_goes_to_and_fro_between_threads() {
+    within_minutes(|| {
+        let (mut reader, mut writer) = pipe(7);
+        let (there, back) = (Place::new(), Place::new());
+        let rounds = 500;
+        thread::scope(|scope| {
+            scope.spawn(|| {
+                for round in 0..rounds {
+                    let mut writer: Writer = there.take();
+                    let bytes = [round as u8; 5];
+                    let mut count = 0;
+                    while count < 5 {
+                        count += writer.try_fill(&bytes[count..]);
+                    }
+                    back.put(writer);
+                }
+            });
+            for round in 0..rounds {
+                there.put(writer);
+                writer = back.take();
+                let (mut place, mut count) = ([0; 5], 0);
+                while count < 5 {
+                    count += reader.try_drain(&mut place[count..]);
+                }
+                assert_eq!(place, [round as u8; 5]);
             }
         });
     });

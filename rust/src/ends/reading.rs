@@ -1,14 +1,15 @@
 //! The side that reads.
 
-use super::{address, found, release, wake, words_of};
+use super::turns::Turns;
+use super::{address, call, found, wake, words_of};
 use crate::sys::{self, RawReader};
-use crate::turns::Turns;
 use core::ptr::{self, NonNull};
 use core::slice;
 use core::task::{Poll, Waker};
 
 // SAFETY: the header lets a handle go to another thread, and whoever sends a value orders both.
 unsafe impl Send for RawReader {}
+
 /// The known bytes in one piece. They stay as they are until this side consumes any.
 #[derive(Clone, Copy)]
 struct Piece {
@@ -51,7 +52,7 @@ impl Piece {
     /// The pipe gave this piece, and its handle is borrowed for `'a`.
     #[inline]
     unsafe fn bytes<'a>(self) -> &'a [u8] {
-        // SAFETY: the library lends these bytes until some are consumed, for which the handle has to
+        // SAFETY: the library lends these bytes until they are consumed, for which the handle has to
         // be borrowed mutably.
         unsafe { slice::from_raw_parts(self.at.as_ptr(), self.len) }
     }
@@ -71,7 +72,7 @@ impl ReadEnd {
     /// and called once there may be. The pipe is asked only where no byte is known.
     #[inline]
     pub(crate) fn poll(&mut self, waker: &Waker) -> Poll<bool> {
-        if self.known.map_or(false, |known| known.len > 0) {
+        if self.known.is_some_and(|known| known.len > 0) {
             return Poll::Ready(true);
         }
         // A waker is cloned only where a look says that it will be left. One that was left before
@@ -131,6 +132,7 @@ impl ReadEnd {
     #[inline]
     pub(crate) fn consume(&mut self, n: usize) {
         let known = self.known_now();
+        // What is left stays where it is: the pipe moves no byte, and writes only where bytes were consumed.
         let rest = &known[n..];
         self.known = Some(Piece {
             at: NonNull::from(rest).cast(),
@@ -189,6 +191,7 @@ impl Drop for ReadEnd {
         self.known = None;
         // SAFETY: the handle is open and ours alone, and this is the last call with it.
         let left = unsafe { sys::piper_reader_drop(self.raw.get_mut()) };
-        left.settle(release);
+        let (other, _mine) = left.wakers();
+        call(other);
     }
 }

@@ -44,7 +44,11 @@ fn words_that_come_back_are_dropped_and_those_to_poll_again_are_woken() {
 #[test]
 fn no_words_are_no_waker() {
     wake(NONE);
-    release(NONE);
+    let none = || Left {
+        wake: NONE,
+        mine: NONE,
+    };
+    assert!(none().wakers().0.is_none() && none().wakers().1.is_none());
 }
 
 #[test]

@@ -1,8 +1,8 @@
 //! The side that writes.
 
-use super::{address, found, release, wake, words_of};
+use super::turns::Turns;
+use super::{address, call, found, wake, words_of};
 use crate::sys::{self, RawWriter};
-use crate::turns::Turns;
 use core::ptr::{self, NonNull};
 use core::slice;
 use core::task::{Poll, Waker};
@@ -105,6 +105,7 @@ impl WriteEnd {
     }
 
     /// As `poll`; and where there is room, it lends at most `max` bytes of it.
+    #[cfg(feature = "std")]
     #[inline]
     pub(crate) fn offer(&mut self, waker: &Waker, max: usize) -> Poll<bool> {
         let mut at = ptr::null_mut();
@@ -131,6 +132,7 @@ impl WriteEnd {
     }
 
     /// As `leave`; and where there is room now, it lends some.
+    #[cfg(feature = "std")]
     #[cold]
     fn leave_to_lend(&mut self, waker: &Waker, max: usize) -> Poll<bool> {
         let found = self.leave(waker);
@@ -209,7 +211,10 @@ impl WriteEnd {
     #[cfg(feature = "std")]
     pub(crate) fn close(&mut self) {
         // SAFETY: the handle is open and ours alone, and no slice of lent room is left.
-        unsafe { sys::piper_writer_close(self.free()) }.settle(wake);
+        let left = unsafe { sys::piper_writer_close(self.free()) };
+        let (other, mine) = left.wakers();
+        call(other);
+        call(mine);
     }
 }
 
@@ -217,6 +222,7 @@ impl Drop for WriteEnd {
     fn drop(&mut self) {
         // SAFETY: the handle is open and ours alone, and this is the last call with it.
         let left = unsafe { sys::piper_writer_drop(self.raw.get_mut().free()) };
-        left.settle(release);
+        let (other, _mine) = left.wakers();
+        call(other);
     }
 }

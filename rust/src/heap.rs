@@ -1,0 +1,95 @@
+//! Memory for the library, from the program's global allocator. The library gives back the address
+//! of a block alone, so what was asked for lies in front of it.
+//!
+//! All unsafe lines of this module rest on what is proved of the library: it gives back no block twice,
+//! each at the address that it got, and uses none after that.
+
+use alloc::alloc::{alloc, dealloc};
+use core::alloc::Layout;
+use core::mem::{align_of, size_of};
+use core::ptr::NonNull;
+
+// The library asks for memory under these names. They stand in a text of their own, since a function
+// under `no_mangle` would be exported by each shared library that a program makes with this crate.
+macro_rules! jump {
+    ($jump:literal) => {
+        core::arch::global_asm!(
+            ".pushsection .text.piper_heap, \"ax\", %progbits",
+            ".globl piper_heap_alloc",
+            ".hidden piper_heap_alloc",
+            ".type piper_heap_alloc, %function",
+            "piper_heap_alloc:",
+            concat!($jump, " {claim}"),
+            ".globl piper_heap_dealloc",
+            ".hidden piper_heap_dealloc",
+            ".type piper_heap_dealloc, %function",
+            "piper_heap_dealloc:",
+            concat!($jump, " {free}"),
+            ".popsection",
+            claim = sym claim,
+            free = sym free,
+        );
+    };
+}
+
+#[cfg(target_arch = "x86_64")]
+jump!("jmp");
+#[cfg(target_arch = "aarch64")]
+jump!("b");
+
+/// A block, if there was memory.
+#[repr(C)]
+struct Claimed {
+    is_some: bool,
+    at: NonNull<u8>,
+}
+
+/// Blocks begin at a line of the processor's cache, since each of the two sides of a pipe writes to its own
+/// at every call, and the two would else take one line from each other.
+const LINE: usize = 64;
+
+/// What lies in front of a block.
+struct Head {
+    /// All that was asked for, and where it begins.
+    whole: Layout,
+    begin: NonNull<u8>,
+}
+
+/// The layout of a block with its head, wherever the block's line begins.
+fn with_head(size: usize, align: usize) -> Option<Layout> {
+    let size = size.checked_add(size_of::<Head>() + align - 1)?;
+    Layout::from_size_align(size, align_of::<Head>()).ok()
+}
+
+fn claim_block(size: usize, align: usize) -> Option<NonNull<u8>> {
+    let align = align.max(LINE);
+    let whole = with_head(size, align)?;
+    // SAFETY: the size isn't 0, since a head lies in front.
+    let begin = NonNull::new(unsafe { alloc(whole) })?;
+    let behind_head = begin.as_ptr() as usize + size_of::<Head>();
+    let offset = size_of::<Head>() + (behind_head.wrapping_neg() & (align - 1));
+    // SAFETY: it is at most `align - 1` bytes behind the head, and so many are there beside the block. An
+    // alignment is a power of two.
+    let block = unsafe { begin.add(offset) };
+    // SAFETY: a head fits between the beginning and the block, whose alignment is a multiple of the head's.
+    unsafe { block.cast::<Head>().sub(1).write(Head { whole, begin }) };
+    Some(block)
+}
+
+extern "C" fn claim(size: usize, align: usize) -> Claimed {
+    let block = claim_block(size, align);
+    Claimed {
+        is_some: block.is_some(),
+        at: block.unwrap_or(NonNull::dangling()),
+    }
+}
+
+/// # Safety
+///
+/// `claim` gave this block, and it wasn't given back since.
+unsafe extern "C" fn free(block: NonNull<u8>) {
+    // SAFETY: `claim` wrote the head there, and nobody writes there after it.
+    let Head { whole, begin } = unsafe { block.cast::<Head>().sub(1).read() };
+    // SAFETY: that is where the memory begins, which was asked for with this layout.
+    unsafe { dealloc(begin.as_ptr(), whole) };
+}
