@@ -1,8 +1,15 @@
 #!/usr/bin/env python3
-"""Says whether a sealed definition is used by who may not.
+"""Says whether evidence can be had without the call that gives it, and whether code is unsafe that
+need not be.
 
-What such a definition holds of is evidence that a certain call was made. The lemma that gives it is
-for the proof of that call alone, and each use of it elsewhere is reported.
+A sealed definition of specs/ holds of anything, and no proof can look into it: so it is evidence that a
+certain call was made. The lemma that gives it is for the proof of that call alone. Reported are
+
+- each use of such a lemma elsewhere,
+- each declaration that looks into a sealed definition, or uses such a lemma beside one, and that the
+  table below doesn't have,
+- each sealed definition that any proof can look into, or that nothing gives, and
+- each `unsafe` in a crate that has no need of it.
 """
 import re
 import sys
@@ -88,9 +95,78 @@ SEALS = {
     ),
     "as_begun": ("piper_transfer/specs/Threads", ["piper_transfer/proofs/start/Start/begin"]),
     "as_late": ("piper_transfer/specs/Threads", ["piper_transfer/proofs/start/Start/wait"]),
+    "as_opened": ("pump_engine/specs/Files", ["pump_engine/proofs/files/open_so"]),
     "as_lost": ("piper_duplex/specs/Failures", ["piper_duplex/proofs/engine/lost/lost"]),
     "as_had_seen": ("piper_futures/specs/Threads", ["piper_futures/proofs/threads/closed_by_writer"]),
 }
+
+
+# It looks into sealed definitions, and says only that two pieces of such evidence are the same.
+GIVES_NONE = {("piper_transfer/specs/Threads", "shows_prop")}
+
+# The crates that hold memory which two threads share, or which belongs to C.
+UNSAFE = {"lent_space", "piper_c", "piper_ring", "token_cell"}
+
+DECLARES = re.compile(r"^((?:(?:abbrev|unfoldable|opaque|pub)\s+)*)([^\s:(){}]+)\s*:(?=\s)", re.M)
+HOLDS_OF_ALL = re.compile(r"^([^\s(]+)((?: [a-z]\w*)*) = ⊤$", re.M)
+
+
+def without_comments(text):
+    return re.sub(r"--[^\n]*|//[^\n]*|/\*.*?\*/", "", text, flags=re.S)
+
+
+def declarations(path):
+    """Each declaration of a file, as (its marks, its name, its text)."""
+    text = without_comments(path.read_text())
+    found = list(DECLARES.finditer(text))
+    ends = [it.start() for it in found[1:]] + [len(text)]
+    return [(it[1].split(), it[2], text[it.start():end]) for it, end in zip(found, ends)]
+
+
+def sources():
+    """Each file of antt, with its path below crates/ and its declarations."""
+    for path in sorted((TOP / "crates").glob("*/[sp][pr]*/**/*.antt")):
+        yield str(path.relative_to(TOP / "crates").with_suffix("")), declarations(path)
+
+
+def equations(name, text):
+    return re.findall(rf"^{re.escape(name)}(?= |$)(?! :).*", text, re.M)
+
+
+def sealed(files):
+    """The definitions that hold of anything, each with its file and its marks."""
+    for path, declared in files:
+        for marks, name, text in declared:
+            if "/specs/" in path and HOLDS_OF_ALL.search(text) and len(equations(name, text)) == 1:
+                yield name, path, marks
+
+
+def wrong_seals(files):
+    """What is wrong with the definitions themselves, and with who gives them."""
+    homes = {name: path for name, path, _marks in sealed(files)}
+    for name, path, marks in sealed(files):
+        if "abbrev" in marks or "unfoldable" in marks:
+            yield f"{path}: any proof can look into {name}"
+    given = set()
+    for path, declared in files:
+        for _marks, name, text in declared:
+            opened = {it for line in re.findall(r"^\s*unfolding (.*)", text, re.M) for it in line.split()}
+            opened = {it.split(".")[-1] for it in opened} & homes.keys()
+            given |= opened
+            lemmas = set(re.findall(r"[\w-]+", text)) & SEALS.keys() - {name}
+            if (path, name) in GIVES_NONE:
+                continue
+            if (opened or "/specs/" in path and lemmas) and SEALS.get(name, ("",))[0] != path:
+                yield f"{path}: {name} gives {', '.join(sorted(opened | lemmas))}, and is not in this tool's table"
+    for name in sorted(homes.keys() - given):
+        yield f"{homes[name]}: nothing gives {name}, which holds of anything"
+
+
+def wrong_unsafe():
+    for path in sorted((TOP / "crates").glob("*/src/**/*.rt")):
+        crate = path.relative_to(TOP / "crates").parts[0]
+        if crate not in UNSAFE and re.search(r"\bunsafe\b", without_comments(path.read_text())):
+            yield f"{path.relative_to(TOP)}: unsafe code in a crate that has no need of it"
 
 
 def uses():
@@ -111,7 +187,9 @@ def main():
             wrong.append(f"{path} uses {lemma}")
     missing = [lemma for lemma, (home, _proofs) in SEALS.items() if (lemma, home) not in seen]
     wrong += [f"{lemma} is not where this tool looks for it" for lemma in missing]
-    print("\n".join(wrong + [f"{len(SEALS)} sealed lemmas, {len(wrong)} wrong uses"]))
+    files = list(sources())
+    wrong += [*wrong_seals(files), *wrong_unsafe()]
+    print("\n".join(wrong + [f"{len(SEALS)} lemmas that give evidence, {len(wrong)} wrong"]))
     return 1 if wrong else 0
 
 
