@@ -1,341 +1,339 @@
 #!/usr/bin/env python3
-"""Writes docs/API.md from the sources: each public item with its comment, what it consists of, its
-traits, and each of its calls with the clauses. `tools/write_api.py --check` writes nothing, and
-fails where the page differs.
-
-The layout of `rt fmt` is relied on: an item begins in column 0, and ends at the next brace there;
-a method begins in column 4.
+"""Writes docs/api from the sources: a page for each crate, with its public items, their comments,
+calls and clauses, and one of the definitions that clauses cite. What no comment says shortly is in
+tools/api. `tools/write_api.py --check` writes nothing, and fails where a page differs.
 """
 import difflib
 import re
 import sys
-from functools import cache
+import tomllib
 from pathlib import Path
 
-TOP = Path(__file__).resolve().parent.parent
-PAGE = TOP / "docs/API.md"
+sys.dont_write_bytecode = True
+from api.page import LABELS, Page, Wrong, listed, paragraphs, spaced  # noqa: E402
+from api.sources import (TOP, about, bare, exports, function_text, ghosts, impls, inner,  # noqa: E402
+                         items_of, parts, with_types)
+from api.words import Links, anchor, spec  # noqa: E402
+
+DATA = Path(__file__).resolve().parent / "api"
+PAGES = TOP / "docs/api"
+# The crates with a page, lower ones first.
 CRATES = ["piper", "piper_lines", "piper_futures", "piper_streams", "piper_duplex",
-          "piper_transfer", "piper_tokio"]
-# The files of `specs/` that the clauses of `piper` cite, those of its own first.
-DEFINED = ["OfReader", "OfWriter", "ReaderCalls", "WriterCalls", "Looks", "Waits", "Handles", "Ends",
-           "Copies", "Counts", "Drains", "Fills", "CopyAnswers", "Polls", "Draws", "Contexts", "Like"]
-BELOW = ["ReadView", "WriteView", "SlotsView", "Opened"]
-START = re.compile(r"(?:pub |final |unsafe )*(fn|struct|enum|trait|const|impl)\b(.*)")
-INTRO = """# The public calls
-
-Written by `tools/write_api.py` from the sources: change those, and run it. A call has what it asks \
-of its caller (`requires`) and what it gives (`ensures`). A trait's clauses hold of each type that \
-has the trait; a type's own stand in their place. [CONTRACTS.md](CONTRACTS.md) says how clauses are \
-read, and [the last section](#what-the-clauses-of-piper-say) has the definitions of those of `piper`; \
-the `ghost use` lines of a source name the files of `specs/` that define the others. A polling copy \
-that could go on draws a number from its handle's generator, and yields if that is a multiple of \
-100; a seed is where the generator begins.
-"""
+          "piper_transfer", "piper_tokio", "piper_ring"]
+HANDLES = {"Reader": "OwnedReader", "Writer": "OwnedWriter"}
+OWNERS = {"OwnedReader": "Reader", "OwnedWriter": "Writer", "OwnedEnd": "End"}
+# Of `piper`: what stands where on its page. An item in none of these fails the run.
+OPENING, ERRORS = ["owned_pipe", "pipe", "DEFAULT_SEED"], ["OutOfMemory", "PipeError", "Inner"]
+TRAITS = ["poll_copy", "Copied", "AsyncRead", "AsyncBufRead", "AsyncWrite", "ReadLike", "WriteLike",
+          "ReadBytes", "WriteBytes", "StdReader", "StdWriter", "StdRead", "StdWrite"]
+EVIDENCE = ["FinishedReader", "FinishedWriter"]
+ABOVE = ["OwnedReader", "OwnedWriter", "Reader", "Writer"]
+OF_RING = ["LastReadMark", "ReadEnd", "ReadMark", "WriteEnd", "WriteMark", "open_ring"]
+FOR_PROOFS = ["mark", "heed", "heed_last", "meet", "meet_finished", "end"]
+EXAMPLES = {"Reader": "poll_fill_bytes_and_poll_drain_bytes", "Writer": "write_buf_and_peek_buf"}
+EXAMPLES_FILE = "crates/piper_examples/src/handles.rt"
+HEADER = ("Written by `tools/write_api.py` from the sources and `tools/api`: change those, and run it.")
 
 
-class Item:
-    """One item, or one method: its comment, its attributes and its lines."""
-
-    def __init__(self, doc, attributes, lines):
-        self.doc, self.attributes, self.lines = doc, attributes, lines
-        self.kind, rest = START.match(lines[0].strip()).groups()
-        self.name = re.match(r"[\s]*(\w*)", rest)[1]
-        self.is_public = lines[0].lstrip().startswith("pub ")
-
-    def head(self):
-        """The lines up to the body, or to the first clause."""
-        head = []
-        for line in self.lines:
-            text = line.strip()
-            if text == "{" or re.match(r"(requires|ensures)\b", text):
-                break
-            if not text.startswith("//"):
-                head.append(re.sub(r" \{$|;$|\{\}$", "", text))
-            if re.search(r"[^=] \{$|;$|\{\}$", text):
-                break
-        text = re.sub(r",? ([>)])", r"\1", " ".join(head))
-        text = re.sub(r"([(<]) ", r"\1", text).rstrip(", ")
-        return re.sub(r",? where$", "", text)
-
-    def clauses(self):
-        """The lines of its clauses, whole."""
-        found, depth, inside = [], 0, False
-        for line in self.lines:
-            text = line.strip()
-            begins = re.match(r"(requires|ensures)\b", text)
-            if not inside and (text == "{" or not begins and text.endswith((" {", ";"))):
-                break
-            if inside or begins:
-                inside = True
-                depth += text.count("{") - text.count("}")
-                found.append(line.rstrip())
-                if depth == 0:
-                    inside = False
-                    if text.endswith(";"):
-                        found[-1] = found[-1].rstrip(";")
-                        break
-        margin = min((len(line) - len(line.lstrip()) for line in found), default=0)
-        return [line[margin:] for line in found]
+def page_of(crate):
+    return "ring.md" if crate == "piper_ring" else f"{crate}.md"
 
 
-def split(lines, indent, starts):
-    """The items that begin in this column, with their comments and attributes."""
-    items, doc, attributes, index = [], [], [], 0
-    while index < len(lines):
-        line = lines[index]
-        text = line[len(indent):] if line.startswith(indent) else ""
-        if text.startswith("///"):
-            doc.append(text[3:].strip())
-        elif text.startswith("#["):
-            attributes.append(text)
-        elif starts.match(text):
-            end = index
-            while not is_last(lines[end], indent, end == index):
-                end += 1
-            items.append(Item(doc, attributes, lines[index:end + 1]))
-            doc, attributes, index = [], [], end
-        else:
-            doc, attributes = [], []
-        index += 1
-    return items
+def item_named(owner, name):
+    return next(i for i in items_of(owner) if i.name == name and i.is_public and i.kind != "impl")
 
 
-def is_last(line, indent, is_first):
-    """Whether an item in this column ends with the line."""
-    text = line[len(indent):] if line.startswith(indent) else ""
-    if is_first or not text.startswith(" "):
-        return text.endswith((";", "{}")) or text.startswith("}")
-    return bool(indent) and text.endswith("};")
-
-
-@cache
-def items_of(crate):
-    """All items of a crate's sources."""
-    found = []
-    for path in sorted((TOP / "crates" / crate / "src").rglob("*.rt")):
-        found += split(path.read_text().splitlines(), "", START)
-    return found
-
-
-def inner(item):
-    """The methods of an impl or a trait."""
-    return split(item.lines[1:], "    ", re.compile(r"(pub )?(final )?fn "))
-
-
-@cache
-def exported(crate):
-    """The names that a crate exports, each with the crate that has the item."""
-    source, names = TOP / "crates" / crate / "src", {}
-    text = (source / "lib.rt").read_text()
-    for module in re.findall(r"^pub mod (\w+)", text, re.M):
-        part = (source / f"{module}.rt").read_text()
-        named = re.findall(r"^pub (?:fn|struct|enum|trait) (\w+)", part, re.M)
-        text += part + "".join(f"pub use {name};" for name in named)
-    for path, names_in in re.findall(r"pub use ((?:\w+::)*)(\{[^}]*\}|\w+);", text):
-        owner = path.split("::")[0] if path else crate
-        for name in re.findall(r"\w+", names_in):
-            if (TOP / "crates" / owner).is_dir():
-                names[name] = exported(owner).get(name, owner) if owner != crate else crate
-            else:
-                names[name] = crate
-    return names
-
-
-def bare(text):
-    """A name without its generics and its path."""
-    while re.search(r"<[^<>]*>", text):
-        text = re.sub(r"<[^<>]*>", "", text)
-    return text.split("::")[-1].strip()
-
-
-def impls(crate):
-    """The impls of a crate: the trait, or none, the type, and the item."""
-    for item in items_of(crate):
-        if item.kind == "impl":
-            head = re.sub(r"^(unsafe )?impl\s*", "", item.head())
-            if head.startswith("<"):
-                depth = 0
-                for end, sign in enumerate(head):
-                    depth += (sign == "<") - (sign == ">")
-                    if depth == 0:
-                        break
-                head = head[end + 1:].strip()
-            of_trait, found, of_type = re.split(r" where ", head)[0].partition(" for ")
-            yield (of_trait, of_type, item) if found else (None, of_trait, item)
-
-
-def with_types(trait, item):
-    """A trait with the types that an impl names in it, as `Stream<Item = u8>`."""
-    found = re.findall(r"^    type (\w+) = (.*);", "\n".join(item.lines), re.M)
-    named = ", ".join(f"{name} = {of_type}" for name, of_type in found)
-    if not named:
-        return trait
-    return f"{trait[:-1]}, {named}>" if trait.endswith(">") else f"{trait}<{named}>"
-
-
-def traits(crate, name):
-    """The traits of a type, derived ones and those of its impls, and what it turns into."""
-    item = next(i for i in items_of(crate) if i.name == name and i.kind in ("struct", "enum"))
-    derived = re.findall(r"derive\((.*?)\)", " ".join(item.attributes))
-    found, into = set(re.findall(r"\w+", " ".join(derived))), set()
-    for trait, of_type, body in (one for where in {crate, *CRATES} for one in impls(where)):
+def facts(crate, name, path):
+    """How a type is imported, whether it is dropped, sent and shared, and its traits."""
+    item = item_named(crate, name)
+    found, into = set(re.findall(r"\w+", " ".join(
+        re.findall(r"derive\((.*?)\)", " ".join(item.attributes))))), set()
+    for trait, of_type, body in (one for where in dict.fromkeys([crate, *CRATES])
+                                 for one in impls(where)):
         if trait and bare(of_type) == name and body in items_of(crate):
             found.add(with_types(trait, body).replace("fmt::", ""))
         elif trait and re.match(rf"From<{name}\b", trait):
             into.add(of_type)
-    lines = [f"Traits: {listed(found)}."] if found else []
+    kept = "Dropped automatically." if {"Drop", "Copy"} & found else "Linear: not dropped automatically."
+    others = found - {"Drop", "Model", "Error"}
+    lines = [f"`use {path};` {kept}" + (f" Traits: {listed(others)}." if others else "")]
     return lines + ([f"`?` and `into` take it to {listed(into)}."] if into else [])
 
 
-def listed(names):
-    return ", ".join(f"`{name}`" for name in sorted(names))
+def trait_named(trait, page):
+    """A trait with a page, and its link from this one."""
+    for crate in CRATES:
+        for name, (owner, _path) in exports(crate).items():
+            if name == trait and owner == crate and item_named(owner, name).kind == "trait":
+                there = "" if page.name == page_of(crate) else page_of(crate)
+                return item_named(owner, name), there
+    return None, None
 
 
-def parts(item):
-    """The variants of an enum, public fields of a struct, types of a trait, with comments."""
-    found, doc, depth = [], [], 0
-    for line in item.lines[1:-1]:
-        text = line.strip()
-        if text.startswith("///"):
-            doc.append(text[3:].strip())
-        elif depth == 0 and re.match(r"    \S", line) and is_part(item, text):
-            part = re.sub(r"^pub ", "", text).rstrip(",;").replace(" {", " { .. }")
-            found.append(f"- `{part}`" + (": " + " ".join(doc) if doc else ""))
-            doc = []
-        elif not text.startswith("#["):
-            doc = []
-        depth += text.count("{") - text.count("}")
-    return found
+def same_calls(crate, trait, name, of):
+    """Whether an owner's impl of a trait has just the clauses of what it owns."""
+    def said(one):
+        return [[m.clauses() for m in inner(body)] for t, of_type, body in impls(crate)
+                if t == trait and bare(of_type) == one]
+    return said(of) == said(name)
 
 
-def is_part(item, text):
-    if item.kind == "enum":
-        return re.match(r"[A-Z]", text)
-    return re.match(r"pub \w+:" if item.kind == "struct" else r"type ", text)
+def impl_call(page, name, trait, method, is_foreign):
+    """A call of a trait of a type, with the trait's sentence."""
+    of_trait, there = (None, None) if is_foreign else trait_named(trait, page)
+    page.heading(4, f"{name}: {trait}::{method.name}")
+    if of_trait:
+        above = next(one for one in inner(of_trait) if one.name == method.name)
+        where = anchor(f"{trait}::{method.name}")
+        sentence = re.split(r"[.;:] |\.$", paragraphs(above.doc)[0])[0] + "."
+        page.lines += ["", f"[`{trait}::{method.name}`]({there}#{where}): {sentence}"]
+        page.lines += spaced(paragraphs(method.doc))
+    else:
+        page.lines += spaced(paragraphs(method.doc))
+        page.signature(method)
+    page.folded(method.clauses(), method.uses)
 
 
-def ghosts(item):
-    """What an implementor of a trait says of its type."""
-    kept, comment, depth = [], [], 0
-    for line in item.lines[1:-1]:
-        text = line[4:]
-        if depth > 0:
-            kept.append(text)
-            depth += text.count("{") - text.count("}")
-        elif line.startswith("    // "):
-            comment.append(text)
-        elif text.startswith("ghost ") and not text.startswith("ghost use"):
-            kept += comment + [text]
-            depth, comment = text.count("{") - text.count("}"), []
-        else:
-            comment = []
-    return block(kept)
-
-
-def block(lines):
-    return ["", "```text", *lines, "```"] if lines else []
-
-
-def comment(doc):
-    """A comment as paragraphs. A link of rustdoc is left as what it shows."""
-    text = re.sub(r"\[(`[^`]+`)\]\(\w+@[^)]*\)", r"\1", "\n".join(doc)).split("\n\n")
-    return [line for part in text if part for line in ("", part.replace("\n", " "))]
-
-
-def call(item, owner=""):
-    """A call: its signature, its comment and its clauses."""
-    head = re.sub(r"^(pub |final )*fn ", "", item.head())
-    return ["", f"**`{owner}{head}`**", *comment(item.doc), *block(item.clauses())]
-
-
-def section(crate, item):
-    """A type or a trait, with its calls."""
-    said = ["", f"### `{item.name}`", *comment(item.doc)]
+def a_type(page, crate, name, path):
+    """A type or a trait: its comment, how it is imported, its parts."""
+    item = item_named(crate, name)
+    page.heading(3, name)
+    page.lines += spaced(paragraphs(item.doc))
     if item.kind == "const":
-        return said + ["", f"`{re.sub('^pub ', '', item.head())}`"]
-    said += ["", *parts(item)] if parts(item) else []
-    if item.kind == "trait":
-        having = {(bare(trait), of_type) for trait, of_type, _body in impls(crate) if trait}
-        others = {of_type for trait, of_type in having if trait == item.name and of_type[0] == "&"}
-        said += ["", f"Also of {listed(others)}."] if others else []
-        said += ghosts(item)
-        return said + [line for method in inner(item) for line in call(method)]
-    said += [line for one in traits(crate, item.name) for line in ("", one)]
+        page.lines += ["", f"`use {path};` `{re.sub('^pub ', '', item.head())}`"]
+    elif item.kind == "trait":
+        page.lines += ["", f"`use {path};`"]
+    else:
+        page.lines += spaced(facts(crate, name, path))
+    page.lines += ["", *parts(item)] if parts(item) and item.kind != "const" else []
+    return item
+
+
+def a_trait(page, crate, name, path):
+    """A trait with its calls, and what an implementor says."""
+    item = a_type(page, crate, name, path)
+    having = {(bare(trait), of_type) for trait, of_type, _body in impls(crate) if trait}
+    others = {of_type for trait, of_type in having if trait == name and of_type[0] == "&"}
+    page.lines += ["", f"Also of {listed(others)}."] if others else []
+    page.folded(ghosts(item), item.uses, (), "What a type with this trait says of itself")
+    for method in inner(item):
+        page.call(method, f"{name}::{method.name}")
+
+
+def own_calls(crate, name):
+    return [method for trait, of_type, body in impls(crate) if bare(of_type) == name and not trait
+            for method in inner(body) if method.is_public]
+
+
+def trait_calls(page, crate, name, but=lambda trait: False):
     for trait, of_type, body in impls(crate):
-        if bare(of_type) == item.name:
+        if trait and bare(of_type) == name and not but(bare(trait)):
             for method in inner(body):
-                if method.is_public or trait and method.clauses():
-                    said += call(method, f"{bare(trait)}::" if trait else "")
-    return said
+                if method.clauses():
+                    impl_call(page, name, bare(trait), method, body.is_foreign(trait))
 
 
-def crate_page(crate):
-    """All of a crate."""
-    about = []
-    for line in (TOP / "crates" / crate / "src/lib.rt").read_text().splitlines():
-        if not line.startswith("//!"):
-            break
-        about.append(line[3:].strip())
-    said = ["", f"## `{crate}`", *comment(about)]
-    named = [(name, owner, item) for name, owner in sorted(exported(crate).items())
-             for item in items_of(owner)
-             if item.name == name and item.is_public and item.kind != "impl"]
-    functions = [item for _n, _o, item in named if item.kind == "fn"]
-    if functions:
-        said += ["", "### Functions"] + [line for item in functions for line in call(item)]
-    for _name, owner, item in named:
-        if item.kind != "fn":
-            said += section(owner, item)
-    return said
+def any_item(page, crate, name, path):
+    """An item of any kind, with its calls."""
+    item = item_named(crate, name)
+    if item.kind == "fn":
+        return page.call(item, name)
+    if item.kind == "trait":
+        return a_trait(page, crate, name, path)
+    if name in OWNERS:
+        return owner(page, crate, name, path)
+    a_type(page, crate, name, path)
+    for method in own_calls(crate, name):
+        page.call(method, f"{name}::{method.name}")
+    return trait_calls(page, crate, name)
 
 
-def defined(crate, name, is_kept):
-    """The definitions of a file of `specs/`, with their comments, but for those that are left out."""
-    text = (TOP / f"crates/{crate}/specs/{name}.antt").read_text()
-    uses = [line for line in text.splitlines() if re.match(r"(pub )?use ", line)]
-    lines = [line for line in text.splitlines() if line not in uses]
-    # A name that the file takes under another one is printed as its own, after its file's.
-    for whole, names in re.findall(r"use ([\w.]+)\.\{(.*)\}", "\n".join(uses)):
-        for own, other in re.findall(r"(\w+) as (\w+)", names):
-            here = f"{whole.rsplit('.', 1)[1]}.{own}"
-            lines = [re.sub(rf"(?<![\w.]){other}\b(?!\.)", here, line) for line in lines]
-    parts = [part for part in "\n".join(lines).strip().split("\n\n") if is_kept(part)]
-    return ["", f"### `{name}`", *block("\n\n".join(parts).splitlines())]
+def rows_of(rows, name, calls):
+    """The rows of a handle's calls. A call without a row is wrong, and a row without a call."""
+    for one in calls:
+        if one not in rows:
+            raise Wrong(f"tools/api/piper.toml has no row of {name}::{one}")
+    for one, said in rows.items():
+        asks = one in calls and any(re.match("requires", line) for line in calls[one].clauses())
+        if one in calls and asks != ("requires" in said):
+            raise Wrong(f"tools/api/piper.toml: what {name}::{one} requires is said here or there alone")
+        if one not in calls:
+            raise Wrong(f"tools/api/piper.toml has a row of {name}::{one}, which is no call")
+        if len(said["row"]) != 5 or set(said) - {"row", *LABELS}:
+            raise Wrong(f"tools/api/piper.toml: {name}::{one} has other words than its first lines")
+    return rows
 
 
-def is_said(part):
-    """Whether clauses may cite it: a type or a claim, and not how an end keeps its view."""
-    return re.search(r"^(abbrev )?pub (record )?[A-Z]", part, re.MULTILINE) and "Parts" not in part
+def handle(page, name, rows):
+    """A handle: its table, its example, and its calls, but for those for proofs."""
+    a_type(page, "piper", name, f"piper::{name}")
+    calls = {method.name: method for method in own_calls("piper", name)}
+    rows = rows_of(rows, name, {one: calls[one] for one in calls if one not in FOR_PROOFS})
+    page.lines += ["", "| call | ready | 0 or `false` | pending | error | woken |",
+                   "|---|---|---|---|---|---|"]
+    for one, said in rows.items():
+        cells = " | ".join(cell or "–" for cell in said["row"])
+        page.lines.append(f"| [`{one}`](#{anchor(f'{name}::{one}')}) | {cells} |")
+    page.lines += ["", f"An example, from [piper_examples](../../{EXAMPLES_FILE}); `same` and `ready` "
+                   "compare:" if name == "Reader" else "An example:",
+                   "", "```rust", *function_text(EXAMPLES_FILE, EXAMPLES[name]), "```"]
+    for one, said in rows.items():
+        page.call(calls[one], f"{name}::{one}", said, is_short=True)
+    trait_calls(page, "piper", name)
 
 
-def definitions():
-    """What the clauses of `piper` cite."""
-    own = [line for name in DEFINED for line in defined("piper", name, lambda part: True)]
-    below = [line for name in BELOW for line in defined("piper_ring", name, is_said)]
-    return ["", "## What the clauses of `piper` say", "",
-            "A clause writes `of_writer.ring` for `ring` of `OfWriter`, where both sides have the name. "
-            "The last of these files are those of `piper_ring`. `flag` is 1 of true and 0 of false; "
-            "`either` is true where one of the two is; `in_one_piece`: how many of the bytes that an "
-            "end knows of are contiguous; `generator`: what a seed makes.", *own, *below]
+def owner(page, crate, name, path):
+    """An owner: what is its own, and a link to what it owns."""
+    of = OWNERS[name]
+    a_type(page, crate, name, path)
+    shared = "all" if of in HANDLES else "the traits, with the same clauses,"
+    page.lines += ["", f"It has {shared} of [`{of}`](#{of.lower()}), and of its own:"]
+    for method in own_calls(crate, name):
+        page.call(method, f"{name}::{method.name}")
+    trait_calls(page, crate, name,
+                lambda trait: trait == "DerefMut" or same_calls(crate, trait, name, of))
 
 
-def page():
-    lines = [line for crate in CRATES for line in crate_page(crate)]
-    return INTRO + "\n".join(lines + definitions()) + "\n"
+def piper_page(links):
+    """The page of `piper`: handles first."""
+    names = exports("piper")
+    placed = [*OPENING, *ABOVE, *ERRORS, *TRAITS, *EVIDENCE, *OF_RING]
+    if set(names) != set(placed):
+        raise Wrong(f"no place, or no item: {sorted(set(names) ^ set(placed))}")
+    rows = tomllib.loads((DATA / "piper.toml").read_text())
+    page = Page("piper.md", "`piper`", links)
+    page.lines += spaced(paragraphs(about("piper")))
+    page.heading(2, "Open a pipe", False)
+    for name in OPENING:
+        any_item(page, names[name][0], name, names[name][1])
+    page.heading(2, "What holds of each call", False)
+    page.lines += ["", *(DATA / "every_call.md").read_text().splitlines()]
+    page.heading(2, "The handles", False)
+    for name in HANDLES:
+        handle(page, name, rows[name])
+    page.heading(2, "Owners", False)
+    for name in HANDLES.values():
+        any_item(page, names[name][0], name, names[name][1])
+    for title, group in (("Errors", ERRORS), ("Copies, traits, sources and destinations", TRAITS)):
+        page.heading(2, title, False)
+        for name in group:
+            any_item(page, names[name][0], name, names[name][1])
+    proofs(page, names)
+    return page
+
+
+def proofs(page, names):
+    """The calls whose results only proofs use."""
+    page.heading(2, "Calls for proofs", False)
+    page.lines += ["", "They give or take evidence of what the sides did; only clauses of your own "
+                   "need it. On [the page of the ring](ring.md): " + ", ".join(
+                       f"[`{name}`](ring.md#{anchor(name)})" for name in OF_RING) + "."]
+    for name in HANDLES:
+        for method in own_calls("piper", name):
+            if method.name in FOR_PROOFS:
+                page.call(method, f"{name}::{method.name}", is_short=True)
+    for name in EVIDENCE:
+        any_item(page, names[name][0], name, names[name][1])
+
+
+def crate_page(crate, links):
+    """The page of any other crate: functions, types, traits."""
+    page = Page(page_of(crate), f"`{crate}`", links)
+    page.lines += spaced(paragraphs(about(crate)))
+    above = sorted(name for name, (owner, _path) in exports("piper").items() if owner == crate)
+    page.lines += ["", f"`piper` exports some of it, too: {listed(above)}."] if above else []
+    names = {name: one for name, one in sorted(exports(crate).items()) if name != "OutOfMemory"}
+    kinds = {name: item_named(names[name][0], name).kind for name in names}
+    for title, of_kind in (("Functions", ("fn",)), ("Types", ("struct", "enum", "const")),
+                           ("Traits", ("trait",))):
+        group = [name for name in names if kinds[name] in of_kind]
+        if group:
+            page.heading(2, title, False)
+        for name in group:
+            any_item(page, names[name][0], name, names[name][1])
+    return page
+
+
+def definitions(links):
+    """The page of all definitions that are cited, also by one another."""
+    page = Page("definitions.md", "Definitions", links)
+    done = {}
+    while len(done) < len(links.cited):
+        for full, one in list(links.cited.items()):
+            if full not in done:
+                done[full] = links.block(one.lines, one.uses, page.name)
+    files = sorted({(one.crate, one.file) for one in links.cited.values()},
+                   key=lambda one: (CRATES.index(one[0]) if one[0] in CRATES else 99, one))
+    crates = list(dict.fromkeys(crate for crate, _file in files))
+    for crate in crates:
+        page.heading(2, crate)
+        for file in (file for of, file in files if of == crate):
+            found, _uses, first = spec(crate, file)
+            page.heading(3, f"{crate}.{file}")
+            page.lines += ["", " ".join(first)] if first else []
+            for one in found.values():
+                if one.full in done:
+                    page.heading(4, one.full)
+                    page.lines += done[one.full]
+    return page
+
+
+def definitions_text(page):
+    """It, with contents that name files alone."""
+    page.contents = [one for one in page.contents if one[0] < 4]
+    return page.text().replace("Contents:", "What clauses cite, of the files of `specs/`. Each "
+                               "definition links those that it names. [CONTRACTS.md](../CONTRACTS.md) "
+                               "has the words of the toolchain.\n\nContents:", 1)
+
+
+def start_page(pages):
+    """The first page."""
+    lines = ["# API reference", "", HEADER, "", (DATA / "start.md").read_text().rstrip(), "",
+             "## The pages", ""]
+    for crate, page in zip(CRATES, pages):
+        first = paragraphs(about(crate))[0]
+        lines.append(f"- [`{crate}`]({page.name}): {first[0].lower() + first[1:]}")
+    return "\n".join(lines + ["- [definitions](definitions.md): what the words of clauses mean"]) + "\n"
+
+
+def written():
+    """Each page by its name."""
+    links = Links()
+    pages = [piper_page(links) if crate == "piper" else crate_page(crate, links) for crate in CRATES]
+    found = {page.name: page.text() for page in pages}
+    found["definitions.md"] = definitions_text(definitions(links))
+    return {"README.md": start_page(pages), **found}
+
+
+def differing(name, text):
+    """How a page differs from the sources."""
+    path = PAGES / name
+    is_now = path.read_text().splitlines() if path.is_file() else []
+    return list(difflib.unified_diff(is_now, text.splitlines(), f"docs/api/{name}", "the sources",
+                                     lineterm="", n=0))
 
 
 def main():
     if sys.argv[1:] not in ([], ["--check"]):
         print("usage: tools/write_api.py [--check]", file=sys.stderr)
         return 2
+    try:
+        found = written()
+    except Wrong as wrong:
+        print(wrong)
+        return 1
+    strange = {path.name for path in PAGES.glob("*")} - set(found)
     if not sys.argv[1:]:
-        PAGE.write_text(page())
+        PAGES.mkdir(exist_ok=True)
+        for name, text in found.items():
+            (PAGES / name).write_text(text)
+        for name in strange:
+            (PAGES / name).unlink()
         return 0
-    is_now, should_be = PAGE.read_text().splitlines(), page().splitlines()
-    names = "docs/API.md", "the sources"
-    differing = list(difflib.unified_diff(is_now, should_be, *names, lineterm="", n=0))
-    print("\n".join(differing) or "docs/API.md is as the sources say")
-    return 1 if differing else 0
+    lines = [line for name, text in found.items() for line in differing(name, text)]
+    lines += [f"docs/api/{name} has no source" for name in sorted(strange)]
+    print("\n".join(lines) or "docs/api is as the sources say")
+    return 1 if lines else 0
 
 
 if __name__ == "__main__":
