@@ -1,9 +1,10 @@
 #!/usr/bin/env python3
-"""Tries what README.md and docs/USING.md have their readers type, and the links of every page.
+"""Tries what README.md, docs/USING.md and CONTRIBUTING.md have their readers type, and the links
+of every page.
 
     tests/pages.py [WORD]
 
-Each block of code on these two pages is fenced, and its first word says what becomes of it:
+Each block of code on these pages is fenced, and its first word says what becomes of it:
 
 - `console`: bash runs each line after `$ `, and it has to print what is below it; a line `...`
   stands for any lines. The commands of a block share one shell, which begins at the top of the
@@ -13,8 +14,8 @@ Each block of code on these two pages is fenced, and its first word says what be
   `THIS REPOSITORY`; else it is a part of that file of the repository, word for word.
 - `text`: not run, since it takes an hour, or root.
 
-The gate's own proofs are not made again: of `rt run` the stored output of the crate is compared,
-and `rt lib` wants the library to be there. `~` is a new folder. The section SETUP of a page is
+The gate's own proofs are not made again: of `rt run` the stored output of the crate is compared. A
+section that begins with "From" needs no `rt`, and has a PATH without it. `~` is a new folder. The section SETUP of a page is
 tried first, and each other one of that page in a copy of what it left, beside the others. With a
 WORD only sections whose heading has it are tried. A section whose tools are missing is left out,
 which is said. The last line is `N passed, M failed`.
@@ -27,16 +28,16 @@ import subprocess
 import sys
 import tempfile
 from concurrent.futures import ThreadPoolExecutor
+from functools import cache
 from pathlib import Path
 
 TOP = Path(__file__).resolve().parent.parent
-PAGES = ["README.md", "docs/USING.md"]
+PAGES = ["README.md", "docs/USING.md", "CONTRIBUTING.md"]
 SETUP = "A repository of your own"
 FILES = ("rust", "c", "toml")
 WORDS = FILES + ("console", "text")
 SECONDS = 900
 SOURCES = Path(os.environ.get("CARGO_SOURCES", "/usr/share/cargo/registry"))
-ARCHIVE = TOP / "crates/piper_c/out/libpiper_c.a"
 CARGO = f"""[source.crates-io]
 replace-with = "here"
 [source.here]
@@ -120,9 +121,10 @@ def is_as_told(printed, told):
     return re.fullmatch(pattern, lines) is not None
 
 
-def run_within(script, where):
+def run_within(script, where, path):
     """Runs a script of bash, and returns its status. What hangs is ended with all it started."""
-    shell = subprocess.Popen(["bash", "-c", "\n".join(script)], start_new_session=True)
+    told = {**os.environ, "PATH": path}
+    shell = subprocess.Popen(["bash", "-c", "\n".join(script)], start_new_session=True, env=told)
     try:
         return shell.wait(SECONDS)
     except subprocess.TimeoutExpired:
@@ -131,17 +133,24 @@ def run_within(script, where):
         raise Failed(f"{where}: not done after {SECONDS} seconds") from None
 
 
-def run_commands(block, home, room):
+def path_of(section, room):
+    """The PATH for a section's commands."""
+    if not section.heading.startswith("From "):
+        return os.environ["PATH"]
+    words = [TOP / "tools/path_without.sh", "rt", room / "bin"]
+    return subprocess.run(words, capture_output=True, text=True, check=True).stdout.strip()
+
+
+def run_commands(block, home, room, path):
     """Runs the commands of a block in one shell, and compares what each prints."""
     script = ["cd " + str(TOP)]
     commands = turns(block)
     for index, (command, _told) in enumerate(commands):
         command = command.replace("~/", f"{home}/")
         command = re.sub(r"\brt run\b", "cat stdout", command)
-        command = re.sub(r"\brt lib\b", "test -s out/libpiper_c.a", command)
         streams = f"> {room}/{index}.out 2> {room}/{index}.err < /dev/null"
         script.append(f"{{ {command}\n}} {streams} || exit {index + 1}")
-    status = run_within(script, block.where)
+    status = run_within(script, block.where, path)
     for index, (command, told) in enumerate(commands):
         printed = (room / f"{index}.out").read_text(errors="replace")
         if index + 1 == status or not is_as_told(printed, told):
@@ -155,8 +164,6 @@ def lacks(section):
     text = "\n".join(section.commands())
     named = [tool for tool in ("cargo", "gcc") if re.search(rf"\b{tool} ", text)]
     tools = [tool for tool in named if not shutil.which(tool)]
-    if re.search(r"\bcargo |libpiper_c\.a", text) and not ARCHIVE.is_file():
-        tools.append("crates/piper_c/out/libpiper_c.a, which `rt lib` there builds")
     if "cargo " in text and not list(SOURCES.glob("futures-lite-*")):
         tools.append(f"futures-lite in {SOURCES}, which `rust/check.sh --install` gets")
     return tools
@@ -167,12 +174,13 @@ def try_section(section, home):
     room = home.parent
     (home / ".cargo").mkdir(parents=True, exist_ok=True)
     (home / ".cargo/config.toml").write_text(CARGO)
+    path = path_of(section, room)
     try:
         for block in section.blocks:
             if block.word in FILES:
                 place_file(block, home)
             elif block.word == "console":
-                run_commands(block, home, room)
+                run_commands(block, home, room, path)
     except Failed as failed:
         return str(failed)
     return None
@@ -206,6 +214,7 @@ def try_sections(sections, scratch):
         return went + [one.result() for one in waiting]
 
 
+@cache
 def anchors(path):
     """The anchors of a page's headings, as hosts of repositories make them."""
     seen, inside, found = {}, False, set()
@@ -224,11 +233,12 @@ def anchors(path):
 def wrong_links(page):
     """The links of a page that lead to no file, or to no heading."""
     text = re.sub(r"^```.*?^```", "", page.read_text(), flags=re.M | re.S)
-    for link in re.findall(r"\]\(([^)\s]+)\)", text):
+    for link in re.findall(r"\]\(([^)\s]+)\)|<a href=\"([^\"]+)\"", text):
+        link = "".join(link)
         if re.match(r"\w+:", link):
             continue
         name, _, anchor = link.partition("#")
-        target = (page.parent / name).resolve() if name else page
+        target = (page.parent / name).resolve() if name else page.resolve()
         if not target.exists():
             yield f"{page.relative_to(TOP)}: {link}: there is no such file"
         elif anchor and anchor not in anchors(target):
@@ -245,7 +255,7 @@ def main():
         named = [s for s in found if word in s.heading.lower() or s.heading == SETUP]
         sections += [s for s in named if any(block.word != "text" for block in s.blocks)]
     others = [TOP / "README.md", TOP / "CONTRIBUTING.md", TOP / "rust/README.md"]
-    pages = others + sorted((TOP / "docs").glob("*.md"))
+    pages = others + sorted((TOP / "docs").glob("*.md")) + sorted((TOP / "docs/api").glob("*.md"))
     wrong += [link for page in pages for link in wrong_links(page)]
     with tempfile.TemporaryDirectory() as scratch:
         went = try_sections(sections, Path(scratch))
