@@ -44,9 +44,16 @@ struct Claimed {
     at: NonNull<u8>,
 }
 
-/// Blocks begin at a line of the processor's cache, since each of the two sides of a pipe writes to its own
-/// at every call, and the two would else take one line from each other.
+/// The block of a side begins at a line of the processor's cache, since each side writes to its own at every
+/// call, and the two would else take one line from each other.
 const LINE: usize = 64;
+
+/// The block of a pipe, with its bytes, begins where large blocks of other owners do: copies are fastest
+/// where both ends lie alike (pieces of 64 KiB took 8% longer from a line's beginning).
+const AS_OTHERS: usize = 16;
+
+/// What is larger than this is the block of a pipe.
+const MOST_OF_A_SIDE: usize = 2 * LINE;
 
 /// What lies in front of a block.
 struct Head {
@@ -62,7 +69,11 @@ fn with_head(size: usize, align: usize) -> Option<Layout> {
 }
 
 fn claim_block(size: usize, align: usize) -> Option<NonNull<u8>> {
-    let align = align.max(LINE);
+    let align = align.max(if size <= MOST_OF_A_SIDE {
+        LINE
+    } else {
+        AS_OTHERS
+    });
     let whole = with_head(size, align)?;
     // SAFETY: the size isn't 0, since a head lies in front.
     let begin = NonNull::new(unsafe { alloc(whole) })?;
