@@ -18,17 +18,6 @@ pub fn distance(cap: usize, from: usize, to: usize) -> usize
     }
 }
 
-/// How many places are free, with the oldest byte at `head` and the first free place at `tail`.
-pub fn room(cap: usize, head: usize, tail: usize) -> usize
-    requires capacity { IsCapacity cap }
-    requires head { head < 2 * cap }
-    requires tail { tail < 2 * cap }
-    requires within { distance cap head tail ≤ cap }
-    ensures { result ≡ cap - distance cap head tail }
-{
-    cap - distance(cap, head, tail)
-}
-
 /// The place in the buffer of the index `i`.
 pub fn real(cap: usize, i: usize) -> usize
     requires { i < 2 * cap }

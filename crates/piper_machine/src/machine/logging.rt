@@ -34,7 +34,7 @@ fn registration(side: Side, context: Option<Context>) -> Option<Event>
 }
 
 // What the call of a waker is logged as.
-fn wake(taken: Option<u32>) -> Option<Event>
+fn woken(taken: Option<u32>) -> Option<Event>
     ensures { listed result ≡ wake_of taken }
 {
     taken.map(Event::Woken)
@@ -79,7 +79,7 @@ impl Machine {
             Action::StoreHead(n) => Some(Event::Consumed(self.front_bytes(n)?)),
             Action::StoreTail(n) => Some(Event::Published(self.lent_bytes(n)?)),
             Action::StoreClosed { is_shut: _ } => Some(Event::Closed(side)),
-            Action::Wake => wake(call.taken),
+            Action::Wake => woken(call.taken),
             Action::Yield => yield_event(call.context),
             Action::CallDestination | Action::CallSource => None,
         };

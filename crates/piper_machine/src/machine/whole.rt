@@ -3,7 +3,6 @@ ghost use Rattle.std.specs.Prelude.{◌≡◌, ◌<◌, ◌≤◌, ◌+◌, ◌�
 ghost use Rattle.piper_machine.specs.Pipe.{begun};
 ghost use Rattle.piper_sides.specs.Open.{no_call};
 ghost use Rattle.piper_machine.specs.Query.{unread_count, is_empty, is_full, is_closed};
-ghost use Rattle.piper_machine.specs.Buffer.{written};
 ghost use Rattle.piper_machine.specs.Lend.{Lendable, lending};
 ghost use Rattle.piper_machine.specs.Places.{peeked_count};
 ghost use Rattle.piper_machine.specs.Look.{context, reader_look, writer_look};
@@ -16,7 +15,7 @@ ghost use Rattle.piper_protocol.specs.Answer.{count_in, flag_in, polled_in};
 ghost use Rattle.piper_machine.specs.BySteps.{IsWholeBySteps};
 ghost use Rattle.piper_machine.specs.Alone.{heard, yield_waker, reader_alone, writer_alone, is_draining, is_filling, read_wakes, write_wakes};
 
-use super::{Machine, write_at};
+use super::Machine;
 use crate::destination::Destination;
 use piper_protocol::answer::{Answer, Polled};
 use piper_protocol::table::{Action, AfterRead, AfterWrite, Query, ReadPoint, Side, WritePoint};
@@ -285,8 +284,8 @@ impl Machine {
     /// how many.
     ///
     /// Nothing is lent of a shut pipe; else at least the lesser of `max`, 4096, the known room and
-    /// what is left up to the end of the buffer. What is lent is written by `w_write`, shown by
-    /// `w_lent` and published by `w_produced`.
+    /// what is left up to the end of the buffer. What is lent is written by a step `Put`,
+    /// shown by `w_lent` and published by `w_produced`.
     pub fn w_write_buf(&mut self, max: usize) -> usize
         requires { self.old.writer ≡ WritePoint.Idle }
         ensures bounds { Lendable max self.old result }
@@ -297,14 +296,6 @@ impl Machine {
         self.learn_steps();
         self.begin_writer();
         self.lend(max)
-    }
-
-    /// Writes `bytes` into what is lent, from the point `offset` of it on.
-    pub fn w_write(&mut self, offset: usize, bytes: &[u8])
-        requires { offset + length bytes.now ≤ length self.old.lent }
-        ensures { self.new ≡ lending (written self.old.lent offset bytes.now) self.old }
-    {
-        write_at(&mut self.bytes, self.write.front() + offset, bytes);
     }
 
     /// Publishes the first `n` bytes of what is lent, as they are now, and wakes the reader, also
