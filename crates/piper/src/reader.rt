@@ -129,7 +129,8 @@ impl Reader {
     ///
     /// The result is evidence, for the writer's `meet_finished`: how many bytes were ever consumed,
     /// and that the writer's slot was checked after the store that closed. Whoever was registered
-    /// there was taken, and is woken. Bytes that are unread are lost.
+    /// there was taken, and is woken. Bytes that are unread are lost. The drop does not wake a task
+    /// that waited with this handle.
     pub fn drop(self) -> FinishedReader
         ensures ring { result.told.consumed.names ≡ (ring self).names }
         ensures count { result.told.consumed.count ≡ length (taken self) }

@@ -133,7 +133,8 @@ impl Writer {
     ///
     /// The result is evidence, for the reader's `meet_finished`: which bytes were ever published,
     /// that the pipe is closed, and that the reader's slot was checked after the store that closed.
-    /// Whoever was registered there was taken, and is woken.
+    /// Whoever was registered there was taken, and is woken. The drop does not wake a task that
+    /// waited with this handle.
     pub fn drop(self) -> FinishedWriter
         ensures ring { result.told.names ≡ (ring self).names }
         ensures bytes { result.told.bytes ≡ sent self }

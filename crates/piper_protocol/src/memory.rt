@@ -5,7 +5,7 @@ use std::alloc::AllocError;
 use std::io;
 use thiserror::Error;
 
-/// An allocation was refused. Nothing was changed by the call that returns it.
+/// Memory was refused. The call that returns it moved no byte, and can be made again.
 #[derive(Clone, Copy, Debug, PartialEq, Eq, Error)]
 #[error("out of memory")]
 pub struct OutOfMemory;

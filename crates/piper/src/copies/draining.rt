@@ -24,7 +24,7 @@ impl Reader {
     ghost use Rattle.piper.specs.Handles.{SameReaderButWoke};
     ghost use Rattle.piper.specs.ReaderCalls.{Drained, DrainsAtOnce, DrainsEnd, DrainsLike, DrainsSlice, DrainsStd, DrainsWaiting, DrainPends, DrawsToYield, KeepsEnd, SameReaderButMoved, SameReaderButTried, WakesWriter};
 
-    /// Moves known bytes into a writer, and returns how many that took.
+    /// Moves bytes into a writer, and returns how many that took. It doesn't flush the writer.
     ///
     /// It begins with the look of `poll`: 0 is the end of a closed pipe, or says that the writer
     /// took none. Where no byte is known and the pipe is open it is pending, and where no waker can
@@ -57,7 +57,7 @@ impl Reader {
         }
     }
 
-    /// Moves known bytes into the front of `dest`, and returns how many: as many as fit of those
+    /// Moves bytes into the front of `dest`, and returns how many: as many as fit of those
     /// that it knows of after its look. With an empty `dest` it waits, too, while none is known.
     ///
     /// It looks, draws and waits as `poll_drain` does: 0 is the end of a closed pipe, or `dest` has
@@ -85,9 +85,9 @@ impl Reader {
         }
     }
 
-    /// Moves known bytes into the front of `dest`, as many as fit, and returns how many. It checks
-    /// for more only where none is known, and doesn't wait: 0 doesn't mean the end, since nothing
-    /// may be known, or `dest` has no room.
+    /// Moves bytes into the front of `dest`, as many as fit of those that it knows of, and returns
+    /// how many. It looks for more only where it knows of none, and doesn't wait: 0 doesn't mean
+    /// the end, since no byte may have come, or `dest` has no room.
     pub fn try_drain(&mut self, dest: &mut [u8]) -> usize
         ensures drained { Drained result self.old self.new dest.old dest.new }
         ensures end { KeepsEnd self.old self.new }

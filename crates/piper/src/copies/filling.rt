@@ -57,8 +57,8 @@ impl Writer {
         }
     }
 
-    /// Publishes bytes from the front of `bytes`, and returns how many: as many as there is room
-    /// for once it looked, and all of them if they fit.
+    /// Publishes bytes from the front of `bytes`, and returns how many: as many as fit into the
+    /// room that it knows of after its look.
     ///
     /// It looks, draws and waits as `poll_fill` does: 0 for `bytes` that are not empty says that
     /// the pipe is closed, and so does each later answer. It fails with `OutOfMemory` only where it
@@ -88,9 +88,9 @@ impl Writer {
         }
     }
 
-    /// Publishes bytes from the front of `bytes`, as many as there is room for, and returns how
-    /// many it took. It checks for more room only where none is known, and doesn't wait. Nothing is
-    /// lent afterwards.
+    /// Publishes bytes from the front of `bytes`, as many as fit into the room that it knows of,
+    /// and returns how many it took. It looks for room only where it knows of none, and doesn't
+    /// wait. Nothing is lent afterwards.
     ///
     /// A closed pipe takes none. Where the pipe is seen closed only once some bytes were taken, the
     /// last of them, at most one round, are counted and not published.

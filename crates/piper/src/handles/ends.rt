@@ -131,7 +131,7 @@ impl Writer {
     }
 
     /// Lends at most `max` bytes of the known room, in one piece, to be written: at least one where
-    /// there is room, one is asked for and the writer didn't close the pipe. It replaces what was
+    /// any is known, one is asked for and the writer didn't close the pipe. It replaces what was
     /// lent before; what is in the bytes is not said.
     ///
     /// Nothing is lent once the writer closed the pipe. Otherwise it lends all that is asked for
