@@ -1,7 +1,7 @@
 -- What a future waits for, by the ends that it holds.
-use Rattle.std.specs.Prelude.{ℕ, ◌<◌, Bool, List, length, Option, IsSomeAnd}
+use Rattle.std.specs.Prelude.{ℕ, Bool, List, length, Option, IsSomeAnd}
 use Rattle.futures.specs.declared.task.context.Context.{Context}
-use Rattle.piper_lines.specs.Stays.{Pends}
+use Rattle.piper_lines.specs.Stays.{Pends, WentOn}
 
 -- the sources of its reader or writer
 abbrev pub Needs : {E X : Type 0} → (E → ℕ → Type 0) → Option (E × X) → ℕ → Type 0
@@ -16,4 +16,4 @@ abbrev pub WaitsOrTook : {R X : Type 0} → (R → List ℕ) → (R → List ℕ
     → (R → Context → Type 0) → Option (R × X) → Option (R × X) → Context → Type 0
 WaitsOrTook taken known told waits old new cx =
     IsSomeAnd old (λ a. IsSomeAnd new (λ b.
-    Pends known told waits b.0 (length (taken a.0) < length (taken b.0)) cx))
+    Pends known told waits b.0 (WentOn (length (taken a.0)) (length (taken b.0))) cx))

@@ -4,7 +4,7 @@ ghost use Rattle.futures.specs.Task.{Covers, Keeps};
 ghost use Rattle.futures.specs.Poll.{IfReady, OnPending};
 ghost use Rattle.piper.specs.Polls.{IfReadyErr};
 ghost use Rattle.piper_lines.specs.AtEnd.{AtEnd};
-ghost use Rattle.piper_lines.specs.Stays.{Pends, ReaderStays};
+ghost use Rattle.piper_lines.specs.Stays.{Pends, ReaderStays, WentOn};
 ghost use Rattle.piper_futures.specs.Draining.{DrainsOn, GivesDrained, StartsDraining, drain_ends};
 ghost use Rattle.piper_futures.specs.Moving.{IsOfWrite};
 ghost use Rattle.piper_futures.specs.Polling.{Needs, WaitsOrTook};
@@ -96,7 +96,7 @@ pub fn poll_drain_into<R: AsyncBufRead, D: Write>(
         ⊎ (IsOfWrite e × (0 < length (R.known reader.new)))) }
     ensures stays { ReaderStays R.told R.woken reader.old reader.new }
     ensures pends { OnPending result (Pends R.known R.told R.waits reader.new
-        (length (R.taken reader.old) < length (R.taken reader.new)) cx.new) }
+        (WentOn (length (R.taken reader.old)) (length (R.taken reader.new))) cx.new) }
     ensures covered { OnPending result (Covers cx.new (R.needs reader.new)) }
     ensures kept { Keeps cx.old cx.new }
 {

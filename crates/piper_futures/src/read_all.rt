@@ -1,12 +1,12 @@
 //! All bytes of a reader.
-ghost use Rattle.std.specs.Prelude.{◌≡◌, ◌<◌, ◌≤◌, length, vec_capacity, Ok, IsSome};
+ghost use Rattle.std.specs.Prelude.{◌≡◌, ◌≤◌, length, vec_capacity, Ok, IsSome};
 ghost use Rattle.futures.specs.Task.{Covers, Keeps};
 ghost use Rattle.futures.specs.Poll.{IfReady, OnPending};
 ghost use Rattle.piper.specs.Polls.{IfReadyErr};
 ghost use Rattle.piper_lines.specs.AtEnd.{AtEnd};
 ghost use Rattle.piper_lines.specs.Moves.{Grows};
 ghost use Rattle.piper_lines.specs.Refusals.{IsReported};
-ghost use Rattle.piper_lines.specs.Stays.{Pends, ReaderStays};
+ghost use Rattle.piper_lines.specs.Stays.{Pends, ReaderStays, WentOn};
 ghost use Rattle.piper_futures.specs.Polling.{Needs, WaitsOrTook};
 ghost use Rattle.piper_futures.specs.Reading.{GivesAll, LacksSpace, StartsReadingAll, all_ends};
 
@@ -92,7 +92,7 @@ pub fn poll_read_to_end<R: AsyncBufRead>(
         (LacksSpace (vec_capacity bytes.old) bytes.new.items (R.known reader.new))) }
     ensures stays { ReaderStays R.told R.woken reader.old reader.new }
     ensures pends { OnPending result (Pends R.known R.told R.waits reader.new
-        (length (R.taken reader.old) < length (R.taken reader.new)) cx.new) }
+        (WentOn (length (R.taken reader.old)) (length (R.taken reader.new))) cx.new) }
     ensures covered { OnPending result (Covers cx.new (R.needs reader.new)) }
     ensures kept { Keeps cx.old cx.new }
 {

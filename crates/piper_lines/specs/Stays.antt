@@ -1,5 +1,5 @@
 -- What calls over a reader or a writer leave as it was, and why they are pending.
-use Rattle.std.specs.Prelude.{◌≡◌, ◌⊎◌, Bool, true, false, List, [], ℕ}
+use Rattle.std.specs.Prelude.{◌≡◌, ◌⊎◌, ◌+◌, ◌≤◌, Bool, true, false, List, [], ℕ}
 use Rattle.futures.specs.declared.task.context.Context.{Context}
 use Rattle.piper.specs.Contexts.{AsksAgain}
 
@@ -16,6 +16,11 @@ WriterStays saw woken a b = (saw a ≡ true → saw b ≡ true) × (woken a → 
 abbrev pub WaitsForBytes : {R : Type 0} → (R → List ℕ) → (R → Bool) → (R → Context → Type 0) → R
     → Context → Type 0
 WaitsForBytes known told waits r cx = (known r ≡ []) × (told r ≡ false) × waits r cx
+
+-- how far a poll has come where it asks for another one itself: by 64 pieces, each of a byte at
+-- least, or by 64 lines or frames
+abbrev pub WentOn : ℕ → ℕ → Type 0
+WentOn before after = before + 64 ≤ after
 
 -- why a poll is pending: its reader has nothing to give yet, or the poll went on by Moved, and
 -- asked for another one itself

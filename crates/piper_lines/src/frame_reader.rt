@@ -5,7 +5,7 @@ ghost use Rattle.futures.specs.Task.{Covers, Keeps};
 ghost use Rattle.futures.specs.Poll.{OnPending};
 ghost use Rattle.piper.specs.Polls.{IfReadyErr};
 ghost use Rattle.piper_lines.specs.Header.{header_size, encoded_length, usual_header};
-ghost use Rattle.piper_lines.specs.Stays.{Pends, ReaderStays};
+ghost use Rattle.piper_lines.specs.Stays.{Pends, ReaderStays, WentOn};
 
 use crate::gather::{fill_up, pass_over};
 use crate::header::{ByteOrder, FrameHeader};
@@ -148,7 +148,7 @@ impl<R: AsyncBufRead> Frames<R> {
             (R.known (reader_of self.new)))) }
         ensures pending { OnPending result (Covers cx.new (R.needs (reader_of self.new))
             × Pends R.known R.told R.waits (reader_of self.new)
-            (length (R.taken (reader_of self.old)) < length (R.taken (reader_of self.new)))
+            (WentOn (length (R.taken (reader_of self.old))) (length (R.taken (reader_of self.new))))
             cx.new) }
         ensures kept { Keeps cx.old cx.new }
         ensures rest { (format_of self.new ≡ format_of self.old)

@@ -5,7 +5,7 @@ ghost use Rattle.futures.specs.Poll.{OnPending};
 ghost use Rattle.piper_lines.specs.AtEnd.{AtEnd};
 ghost use Rattle.piper_lines.specs.Moves.{Grows, Passes};
 ghost use Rattle.piper_lines.specs.Refusals.{IsReported, LacksRoom};
-ghost use Rattle.piper_lines.specs.Stays.{Pends, ReaderStays, WaitsForBytes};
+ghost use Rattle.piper_lines.specs.Stays.{Pends, ReaderStays, WaitsForBytes, WentOn};
 ghost use Rattle.piper.specs.Polls.{IfReadyErr};
 
 use futures::task::{Context, Poll};
@@ -77,7 +77,7 @@ pub(crate) fn pass_over<R: AsyncBufRead>(
     ensures error { IfReadyErr result (R.fails reader.new cx.new) }
     ensures stays { ReaderStays R.told R.woken reader.old reader.new }
     ensures pends { OnPending result (Pends R.known R.told R.waits reader.new
-        (length (R.taken reader.old) < length (R.taken reader.new)) cx.new) }
+        (WentOn (length (R.taken reader.old)) (length (R.taken reader.new))) cx.new) }
     ensures covered { OnPending result (Covers cx.new (R.needs reader.new)) }
     ensures kept { Keeps cx.old cx.new }
 {

@@ -1,5 +1,5 @@
 //! All frames of a reader.
-ghost use Rattle.std.specs.Prelude.{◌<◌, ◌≤◌, ◌++◌, ◌≡◌, ◌⊎◌, length, vec_capacity, vec_len};
+ghost use Rattle.std.specs.Prelude.{◌≤◌, ◌++◌, ◌≡◌, ◌⊎◌, length, vec_capacity, vec_len};
 ghost use Rattle.futures.specs.Task.{Covers, Keeps};
 ghost use Rattle.futures.specs.Poll.{OnPending};
 ghost use Rattle.piper_lines.specs.Split.{joined_frames, Adds};
@@ -7,7 +7,7 @@ ghost use Rattle.piper_lines.specs.FrameReader.{reader_of, format_of, kept_of, h
 ghost use Rattle.piper_lines.specs.Moves.{PassesMoves};
 ghost use Rattle.piper_lines.specs.Collected.{EndsFrames};
 ghost use Rattle.piper_lines.specs.Refusals.{IsReported, LacksFrameRoom};
-ghost use Rattle.piper_lines.specs.Stays.{Pends, ReaderStays};
+ghost use Rattle.piper_lines.specs.Stays.{Pends, ReaderStays, WentOn};
 ghost use Rattle.piper.specs.Polls.{IfReadyErr};
 
 use super::{Collected, MOST_PIECES, push};
@@ -44,8 +44,9 @@ pub fn poll_frames<R: AsyncBufRead>(
     ensures stays { ReaderStays R.told R.woken (reader_of frames.old) (reader_of frames.new) }
     ensures pending { OnPending result (Covers cx.new (R.needs (reader_of frames.new))
         × Pends R.known R.told R.waits (reader_of frames.new)
-        ((length out.old.items < length out.new.items)
-        ⊎ (length (R.taken (reader_of frames.old)) < length (R.taken (reader_of frames.new))))
+        (WentOn (length out.old.items) (length out.new.items)
+        ⊎ WentOn (length (R.taken (reader_of frames.old)))
+            (length (R.taken (reader_of frames.new))))
         cx.new) }
     ensures kept { Keeps cx.old cx.new }
 {

@@ -10,7 +10,7 @@ ghost use Rattle.piper_lines.specs.LineReader.{IsSpent, reader_of, end_of, kept_
 ghost use Rattle.piper_lines.specs.Moves.{Moves};
 ghost use Rattle.piper_lines.specs.Refusals.{IsReported, LacksRoom};
 ghost use Rattle.piper_lines.specs.Collected.{rest_of};
-ghost use Rattle.piper_lines.specs.Stays.{Pends, ReaderStays};
+ghost use Rattle.piper_lines.specs.Stays.{Pends, ReaderStays, WentOn};
 
 use super::{MOST_PIECES, push};
 use crate::line_reader::Lines;
@@ -46,7 +46,7 @@ pub fn poll_lines<R: AsyncBufRead>(
     ensures stays { ReaderStays R.told R.woken (reader_of lines.old) (reader_of lines.new) }
     ensures pending { OnPending result (Covers cx.new (R.needs (reader_of lines.new))
         × Pends R.known R.told R.waits (reader_of lines.new)
-        (length out.old.items < length out.new.items) cx.new) }
+        (WentOn (length out.old.items) (length out.new.items)) cx.new) }
     ensures kept { Keeps cx.old cx.new }
 {
     for _ in 0..MOST_PIECES {
