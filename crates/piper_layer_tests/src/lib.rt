@@ -19,4 +19,6 @@ mod owning;
 #[cfg(test)]
 mod running;
 #[cfg(test)]
+mod texts;
+#[cfg(test)]
 mod threads;
