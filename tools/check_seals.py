@@ -58,6 +58,15 @@ SEALS = {
         "piper_ring/specs/Loads",
         [f"piper_ring/proofs/ends/{end}/reclaim_waker" for end in ("reader/ReadEnd", "writer/WriteEnd")],
     ),
+    "as_gone": (
+        "piper_ring/specs/Loads",
+        [f"piper_ring/proofs/ring/seats/{seat}/leave" for seat in ("ReadSeat", "WriteSeat")],
+    ),
+    "as_lying": ("piper_ring/specs/Loads", ["piper_ring/proofs/ring/remains/Remains/into_parts"]),
+    "as_dropped": (
+        "piper/specs/Waits",
+        [f"piper/proofs/handles/{handle}/leave" for handle in ("Reader", "Writer")],
+    ),
     "just_registered": ("piper/specs/Contexts", ["piper/proofs/slots/Slots/grant"]),
     "as_left": (
         "piper_c/specs/Leaving",

@@ -1,5 +1,5 @@
 -- The context that a copy is handed, and what it is left as.
-use Rattle.std.specs.Prelude.{◌≡◌, true, Option, Some, None, ⊤, ◌⊎◌}
+use Rattle.std.specs.Prelude.{◌≡◌, Bool, true, Option, Some, None, ⊤, ◌⊎◌}
 use Rattle.std.specs.Borrow.{MutBor}
 use Rattle.std.proofs.Common.{inl, inr}
 use Rattle.futures.specs.Task.{Covers}
@@ -32,9 +32,9 @@ unfolding JustRegistered
 just_registered held cx = tt
 
 -- the task was registered, with the waker that lay in its place before if one did: so it wasn't woken
--- by that, and didn't ask for another poll after it
-abbrev pub IsCalm : Context → Type 0
-IsCalm cx = (held : Option Waker) × CameBack held × JustRegistered held cx
+-- by that, and didn't ask for another poll after it. `had` says whether the place was at hand
+abbrev pub IsCalm : Bool → Context → Type 0
+IsCalm had cx = (held : Option Waker) × CameBack had held × JustRegistered held cx
 
 -- want of memory, since no waker could be made
 abbrev pub WantsWaker : Context → PipeError → Type 0

@@ -1,5 +1,5 @@
 -- What a handle is that waits in its slot, and that it is not forgotten there.
-use Rattle.std.specs.Prelude.{◌≡◌, ◌+◌, ◌⊎◌, true, false, [], length}
+use Rattle.std.specs.Prelude.{⊤, ◌≡◌, ◌+◌, ◌⊎◌, true, false, [], length}
 use Rattle.futures.specs.Task.{Covers}
 use Rattle.futures.specs.declared.task.context.Context.{Context}
 use Rattle.piper_ring.specs.Loads.{IsAway}
@@ -17,13 +17,13 @@ use Rattle.piper.specs.declared.finished.FinishedWriter.{FinishedWriter}
 pub record ReaderWaits (a b : Reader) (cx : Context) : Type 0 where
   pub ticket : b.registrations.tickets ≡ a.registrations.tickets + 1
   pub pending : IsPending b.end b.registrations
-  pub calm : IsCalm cx
+  pub calm : IsCalm a.registrations.owns cx
 
 -- the writer waits
 pub record WriterWaits (a b : Writer) (cx : Context) : Type 0 where
   pub ticket : b.registrations.tickets ≡ a.registrations.tickets + 1
   pub pending : IsWriterPending b.end b.registrations
-  pub calm : IsCalm cx
+  pub calm : IsCalm a.registrations.owns cx
 
 -- the place of the side's waker is with the other side, or on its way back, before and after the
 -- call, which looked for it: so no waker could be left there
@@ -93,3 +93,21 @@ pub record ReaderWokeLast (reader : Reader) (left : FinishedReader) : Type 0 whe
 pub record WriterWokeLast (writer : Writer) (left : FinishedWriter) : Type 0 where
   pub bytes : left.registrations.bytes ≡ writer.end.sent
   pub shut : left.registrations.shut ≡ true
+
+-- `drop` of this handle returned this. It is sealed: no proof looks into it, and only those of the two
+-- `leave` use the lemma. So what a clause says of it came from such a call
+pub HasDropped : {H S : Type 0} → H → S → Type 0
+HasDropped handle left = ⊤
+
+pub as_dropped : {H S : Type 0} (handle : H) (left : S) → HasDropped handle left
+unfolding HasDropped
+as_dropped handle left = tt
+
+-- the handle was dropped: it closed the pipe, and then took and woke who waited for it
+abbrev pub ReaderIsDropped : Reader → Type 0
+ReaderIsDropped reader =
+    (left : FinishedReader) × HasDropped reader left × ReaderWokeLast reader left
+
+abbrev pub WriterIsDropped : Writer → Type 0
+WriterIsDropped writer =
+    (left : FinishedWriter) × HasDropped writer left × WriterWokeLast writer left

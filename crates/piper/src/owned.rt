@@ -6,7 +6,7 @@ ghost use Rattle.futures.specs.Poll.{OnPending};
 ghost use Rattle.futures.specs.Task.{Keeps};
 ghost use Rattle.piper.specs.Contexts.{WantsWaker};
 ghost use Rattle.piper.specs.Ends.{IsEnded};
-ghost use Rattle.piper.specs.Waits.{ReaderIsWaiting, WriterIsWaiting, WriterLeavesNone};
+ghost use Rattle.piper.specs.Waits.{ReaderIsDropped, ReaderIsWaiting, WriterIsDropped, WriterIsWaiting, WriterLeavesNone};
 ghost use Rattle.piper.specs.Handles.{AreFresh, ArePair, DrawFrom};
 ghost use Rattle.piper_protocol.specs.Reported.{HasFailed};
 
@@ -185,14 +185,18 @@ impl DerefMut for OwnedWriter {
 }
 
 impl Drop for OwnedReader {
-    fn drop(self) {
+    fn drop(self)
+        ensures { ReaderIsDropped self }
+    {
         let OwnedReader { reader } = self;
         reader.drop();
     }
 }
 
 impl Drop for OwnedWriter {
-    fn drop(self) {
+    fn drop(self)
+        ensures { WriterIsDropped self }
+    {
         let OwnedWriter { writer } = self;
         writer.drop();
     }

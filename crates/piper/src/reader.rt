@@ -17,7 +17,7 @@ impl Reader {
     ghost use Rattle.piper.specs.Handles.{NotifiesWriter, SameReaderButWaits};
     ghost use Rattle.piper.specs.OfReader.{ring, capacity, taken, known, front, saw, told_shut};
     ghost use Rattle.piper.specs.ReaderCalls.{AtEnd, MayBeUnread, Polled, PollsEnd, SameReaderButConsumed};
-    ghost use Rattle.piper.specs.Waits.{ReaderPends, ReaderWokeLast};
+    ghost use Rattle.piper.specs.Waits.{HasDropped, ReaderPends, ReaderWokeLast};
 
     /// How many bytes are unread now: at least those that the reader knows of or learned of from a
     /// mark, and at most the capacity. The writer may publish more at any time.
@@ -135,6 +135,7 @@ impl Reader {
         ensures ring { result.told.consumed.names ≡ (ring self).names }
         ensures count { result.told.consumed.count ≡ length (taken self) }
         ensures woken { ReaderWokeLast self result }
+        ensures left { HasDropped self result }
     {
         self.leave(dropping())
     }

@@ -1,5 +1,5 @@
 //! How a side waits, and wakes the other.
-ghost use Rattle.std.specs.Prelude.{◌≡◌, ℕ, OnErr, is_some, true, false};
+ghost use Rattle.std.specs.Prelude.{◌≡◌, ℕ, OnErr, true, false};
 ghost use Rattle.futures.specs.Task.{Covers, Keeps};
 ghost use Rattle.piper.specs.Contexts.{JustRegistered};
 
@@ -19,14 +19,15 @@ pub(crate) struct Slots {
     source: Source,
 }
 
-/// What was registered in a slot when it was emptied. It is not dropped automatically, and a waker
-/// that was found can be ended by a call of it alone.
+/// What was registered in a slot when it was emptied: in the other side's, or in the side's own. It
+/// is not dropped automatically, and a waker that was found can be ended by a call of it alone, or
+/// by `grant`, which leaves it in its place again.
 pub(crate) struct Taken {
     waker: Option<Waker>,
 }
 
 impl Slots {
-    ghost use Rattle.piper.specs.Slots.{source_of};
+    ghost use Rattle.piper.specs.Slots.{source_of, waker_in};
 
     /// With a source of its own.
     pub(crate) fn new(cells: Placed<WakerCells<Waker>>) -> Slots
@@ -39,28 +40,25 @@ impl Slots {
     /// A waker of the task that is polled, to be left here. `held` is the waker that was taken out
     /// before, if there was one: that of another task is woken. Where no waker can be made, the
     /// task has asked for another poll.
-    pub(crate) fn grant(
-        &self,
-        cx: &mut Context<'_>,
-        held: Option<Waker>,
-    ) -> Result<Waker, OutOfMemory>
+    pub(crate) fn grant(&self, cx: &mut Context<'_>, held: Taken) -> Result<Waker, OutOfMemory>
         ensures covered { Covers cx.new (λ s. s ≡ source_of self.now) }
-        ensures calm { JustRegistered held cx.new }
+        ensures calm { JustRegistered (waker_in held) cx.new }
         ensures refused { OnErr result (cx.new.lacks_waker ≡ true) }
         ensures kept { Keeps cx.old cx.new }
     {
-        let mut held = held;
-        let _pending: Poll<()> = cx.register(&self.source, &mut held);
-        held.ok_or(OutOfMemory)
+        let Taken { waker } = held;
+        let mut waker = waker;
+        let _pending: Poll<()> = cx.register(&self.source, &mut waker);
+        waker.ok_or(OutOfMemory)
     }
 }
 
 impl Taken {
     ghost use Rattle.piper_protocol.specs.Steps.{after_take};
-    ghost use Rattle.piper.specs.Slots.{found_in};
+    ghost use Rattle.piper.specs.Slots.{found_in, waker_in};
 
     pub(crate) fn new(waker: Option<Waker>) -> Taken
-        ensures { found_in result ≡ is_some waker }
+        ensures { waker_in result ≡ waker }
     {
         Taken { waker }
     }
@@ -90,6 +88,12 @@ impl Taken {
         }
         self.discard();
         call.took_none();
+    }
+
+    /// Drops the waker, if there was one. That wakes its task, too: it polls once too often.
+    pub(crate) fn let_go(self) {
+        let Taken { waker } = self;
+        drop(waker);
     }
 
     // Whether a waker was registered in the slot.

@@ -17,7 +17,7 @@ impl Writer {
     ghost use Rattle.piper.specs.Counts.{WriterCompares};
     ghost use Rattle.piper.specs.Handles.{NotifiesReader, SameWriterButWaits};
     ghost use Rattle.piper.specs.OfWriter.{ring, capacity, sent, room, lent, shut, saw};
-    ghost use Rattle.piper.specs.Waits.{WriterLeavesNone, WriterPends, WriterWokeLast};
+    ghost use Rattle.piper.specs.Waits.{HasDropped, WriterLeavesNone, WriterPends, WriterWokeLast};
     ghost use Rattle.piper.specs.WriterCalls.{MayBeUnread, Polled, SameWriterButPublished, SameWriterButShut};
 
     /// How many bytes are unread now: it counts all of those that the writer learned of from marks
@@ -140,6 +140,7 @@ impl Writer {
         ensures bytes { result.told.bytes ≡ sent self }
         ensures shut { result.told.shut ≡ true }
         ensures woken { WriterWokeLast self result }
+        ensures left { HasDropped self result }
     {
         self.leave(dropping())
     }

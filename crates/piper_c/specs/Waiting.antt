@@ -26,7 +26,7 @@ pub record GotBack (mine : Waiter) (p : Polled) (had has : Bool) (old new : ℕ)
   -- where none come out and none are left, the slot is as it was
   pub same : new ≡ old → p.before ≡ None → has ≡ had
   -- what is replaced there comes out
-  pub came : new ≡ old + 1 → CameBack p.before × CameOut had old p.before
+  pub came : new ≡ old + 1 → CameBack had p.before × CameOut had old p.before
   -- words that were not left come back
   pub kept : new ≡ old → p.mine ≡ Some mine
   -- and no others are left

@@ -19,7 +19,7 @@ impl ReadHalf {
         ensures owns { IfOk result (λ _. self.new.slots
             ≡ record self.old.slots { owns = true; maybe_registered = false }) }
         ensures found { IfOk result (λ words. IsSome words → self.old.slots.owns ≡ false) }
-        ensures back { IfOk result CameBack }
+        ensures back { IfOk result (CameBack self.old.slots.owns) }
         ensures out { IfOk result (CameOut self.old.slots.owns self.old.slots.tickets) }
         ensures away { IfErr result (λ _.
             (self.old.slots.owns ≡ false) × IsAway self.old.slots.names) }
@@ -89,7 +89,7 @@ impl WriteHalf {
         ensures owns { IfOk result (λ _. self.new.slots
             ≡ record self.old.slots { owns = true; maybe_registered = false }) }
         ensures found { IfOk result (λ words. IsSome words → self.old.slots.owns ≡ false) }
-        ensures back { IfOk result CameBack }
+        ensures back { IfOk result (CameBack self.old.slots.owns) }
         ensures out { IfOk result (CameOut self.old.slots.owns self.old.slots.tickets) }
         ensures away { IfErr result (λ _.
             (self.old.slots.owns ≡ false) × IsAway self.old.slots.names) }

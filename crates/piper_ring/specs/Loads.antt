@@ -1,6 +1,6 @@
 -- What a load of one of the ring's words found, and what lay in a side's place. Of these definitions
 -- those with a lemma below are sealed: no proof looks into them, and only those of the loads in
--- src/ring/seats.rt and src/ring/slots.rt, and of `reclaim_waker`, use the lemmas. So what a clause
+-- src/ring/seats.rt, slots.rt and remains.rt, and of `reclaim_waker`, use the lemmas. So what a clause
 -- says of one of them came from such a call.
 use Rattle.std.specs.Prelude.{◌≡◌, ◌⊎◌, ⊤, ℕ, Bool, true, Option}
 use Rattle.piper_ring.specs.Shared.{Names}
@@ -37,9 +37,17 @@ IsUnregistered names owns = (owns ≡ true) ⊎ FoundFlag names 0
 abbrev pub IsAway : Names → Type 0
 IsAway names = FoundBack names 0 × FoundFlag names 0
 
--- a side took its place back, with this waker in it, or none
-pub CameBack : {T : Type 0} → Option T → Type 0
-CameBack waker = ⊤
+-- a side that had its place or not took it back, with this waker in it, or none
+pub CameBack : {T : Type 0} → Bool → Option T → Type 0
+CameBack had waker = ⊤
+
+-- an end left: the word of leaving, which it swapped, was so: 1 where the other end had left
+pub FoundGone : Names → ℕ → Type 0
+FoundGone names gone = ⊤
+
+-- both ends had left: the flag of the slot whose place has this name was so: 1 where a waker lay there
+pub FoundLeft : ℕ → ℕ → Type 0
+FoundLeft place flag = ⊤
 
 pub as_published : (names : Names) (count : ℕ) → FoundPublished names count
 unfolding FoundPublished
@@ -53,9 +61,17 @@ pub as_closed : (names : Names) (closed : Bool) → FoundClosed names closed
 unfolding FoundClosed
 as_closed names closed = tt
 
-pub as_back : {T : Type 0} (waker : Option T) → CameBack waker
+pub as_back : {T : Type 0} (had : Bool) (waker : Option T) → CameBack had waker
 unfolding CameBack
-as_back waker = tt
+as_back had waker = tt
+
+pub as_gone : (names : Names) (gone : ℕ) → FoundGone names gone
+unfolding FoundGone
+as_gone names gone = tt
+
+pub as_lying : (place flag : ℕ) → FoundLeft place flag
+unfolding FoundLeft
+as_lying place flag = tt
 
 pub as_flag : (names : Names) (flag : ℕ) → FoundFlag names flag
 unfolding FoundFlag

@@ -2,6 +2,7 @@
 use Rattle.std.specs.Prelude.{◌≡◌, ℕ, Bool, true, false, []}
 use Rattle.token_cell.specs.declared.Token.{Token}
 use Rattle.piper_ring.specs.Shared.{Names, Stream, Consumed}
+use Rattle.piper_ring.specs.Loads.{FoundLeft}
 use Rattle.piper_ring.specs.Slots.{Waits, Wakes}
 use Rattle.piper_ring.specs.Words.{flag}
 use Rattle.piper_ring.specs.declared.ring.slots.ReaderWaits.{ReaderWaits}
@@ -46,4 +47,5 @@ IsTokenOf place there filled right =
 
 -- the number is 1 where a waker is left in the place, and the token is the right to it then
 abbrev pub IsLeft : ℕ → ℕ → Token → Type 0
-IsLeft place n right = (b : Bool) × (n ≡ flag b) × IsTokenOf place b b right
+IsLeft place n right =
+    (b : Bool) × (n ≡ flag b) × FoundLeft place n × IsTokenOf place b b right

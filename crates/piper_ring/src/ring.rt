@@ -1,6 +1,5 @@
 //! The raw ring: all pointers of the crate. Two threads share its words and its memory without a
 //! lock.
-pub(crate) mod claims;
 pub(crate) mod marks;
 pub(crate) mod memory;
 pub(crate) mod places;

@@ -5,10 +5,11 @@ ghost use Rattle.std.specs.Prelude.{◌≡◌, ◌<◌, ◌≤◌, ◌++◌, ◌
 ghost use Rattle.futures.specs.Task.{Covers, Keeps};
 ghost use Rattle.piper_protocol.specs.Steps.{after_store, after_take, stores};
 ghost use Rattle.piper_ring.specs.ReadView.{KnowsEnd, in_one_piece};
+ghost use Rattle.piper_ring.specs.Loads.{CameBack};
 ghost use Rattle.piper_ring.specs.Shared.{flag};
 ghost use Rattle.piper_ring.specs.SlotsView.{Registers};
 ghost use Rattle.piper.specs.Contexts.{AsksAgain, IsCalm};
-ghost use Rattle.piper.specs.Slots.{found_in};
+ghost use Rattle.piper.specs.Slots.{found_in, waker_in};
 ghost use Rattle.piper.specs.Ends.{HasAll, IsEnded, ReaderIsUpToDate, ReaderRefreshed, ReaderSaw, ReaderConsumed};
 
 use super::Reader;
@@ -21,7 +22,7 @@ use piper_ring::{Away, LastReadMark, ReadMark};
 
 impl Reader {
     ghost use Rattle.piper.specs.Handles.{NotifiesWriter, SameReader, SameReaderButWaits, SameReaderButWoke, read_source};
-    ghost use Rattle.piper.specs.Waits.{ReaderIsAway, ReaderLeavesNone};
+    ghost use Rattle.piper.specs.Waits.{HasDropped, ReaderIsAway, ReaderLeavesNone};
 
     /// Loads the tail where no byte is known, and reports whether none is known even now.
     pub(crate) fn load_tail(&mut self) -> bool
@@ -58,7 +59,8 @@ impl Reader {
     pub(crate) fn register(&mut self, cx: &mut Context<'_>) -> bool
         ensures covered { Covers cx.new (λ s. s ≡ read_source self.old) }
         ensures registered { IsTrue result →
-            (Registers self.old.registrations self.new.registrations × IsCalm cx.new)
+            (Registers self.old.registrations self.new.registrations
+            × IsCalm self.old.registrations.owns cx.new)
             ⊎ (AsksAgain cx.new × ReaderIsAway self.old self.new) }
         ensures refused { IsFalse result → cx.new.lacks_waker ≡ true }
         ensures kept { Keeps cx.old cx.new }
@@ -74,7 +76,8 @@ impl Reader {
     fn register_or_yield(&mut self, cx: &mut Context<'_>) -> Result<Option<Away>, OutOfMemory>
         ensures covered { Covers cx.new (λ s. s ≡ read_source self.old) }
         ensures registered { IfOk result (λ away. away ≡ None →
-            Registers self.old.registrations self.new.registrations × IsCalm cx.new) }
+            Registers self.old.registrations self.new.registrations
+            × IsCalm self.old.registrations.owns cx.new) }
         ensures away { IfOk result (λ away. IsSome away →
             AsksAgain cx.new × ReaderIsAway self.old self.new) }
         ensures refused { IfErr result (λ _. cx.new.lacks_waker ≡ true) }
@@ -82,21 +85,40 @@ impl Reader {
         ensures end { self.new.end ≡ self.old.end }
         ensures rest { SameReaderButWaits self.old self.new }
     {
-        let slots = &self.slots;
-        let held = match self
-            .end
-            .reclaim_waker(&mut self.registrations, &slots.cells)
-        {
+        let held = match self.reclaim_own() {
             Ok(held) => held,
             Err(away) => {
                 let _pending: Poll<()> = cx.yield_now();
                 return Ok(Some(away));
             }
         };
+        let slots = &self.slots;
         let waker = slots.grant(cx, held)?;
         self.end
             .publish_waker(&mut self.registrations, &slots.cells, waker);
         Ok(None)
+    }
+
+    /// Takes the place of the reader's waker back, with the waker that is still registered there, if
+    /// one is. It fails where the writer has the place just now.
+    #[inline(always)]
+    fn reclaim_own(&mut self) -> Result<Taken, Away>
+        ensures owns { IfOk result (λ _. self.new.registrations
+            ≡ record self.old.registrations { owns = true; maybe_registered = false }) }
+        ensures back { IfOk result (λ own.
+            CameBack self.old.registrations.owns (waker_in own)) }
+        ensures away { IfErr result (λ _. ReaderIsAway self.old self.new) }
+        ensures leaves { ReaderLeavesNone self.new }
+        ensures end { self.new.end ≡ self.old.end }
+        ensures rest { SameReaderButWaits self.old self.new }
+    {
+        match self
+            .end
+            .reclaim_waker(&mut self.registrations, &self.slots.cells)
+        {
+            Ok(waker) => Ok(Taken::new(waker)),
+            Err(away) => Err(away),
+        }
     }
 
     /// Empties the reader's slot after the look of a poll, unless its place is known to be empty.
@@ -112,7 +134,7 @@ impl Reader {
     }
 
     /// Drops a waker that is still registered in the reader's slot, so that a flowing pipe need not
-    /// check for it. A waker that is dropped wakes its task, too: it polls once too often.
+    /// check for it.
     #[cold]
     #[inline(never)]
     pub(crate) fn let_own_go(&mut self)
@@ -120,11 +142,12 @@ impl Reader {
         ensures end { self.new.end ≡ self.old.end }
         ensures rest { SameReaderButWaits self.old self.new }
     {
-        if self.end.is_registered(&mut self.registrations) {
-            drop(
-                self.end
-                    .reclaim_waker(&mut self.registrations, &self.slots.cells),
-            );
+        if !self.end.is_registered(&mut self.registrations) {
+            return;
+        }
+        match self.reclaim_own() {
+            Ok(own) => own.let_go(),
+            Err(Away) => {}
         }
     }
 
@@ -210,6 +233,7 @@ impl Reader {
         ensures ring { result.told.consumed.names ≡ self.end.ring.names }
         ensures count { result.told.consumed.count ≡ length self.end.taken }
         ensures woke { result.registrations.count ≡ length self.end.taken }
+        ensures left { HasDropped self result }
     {
         let Reader {
             end,

@@ -4,10 +4,11 @@
 ghost use Rattle.std.specs.Prelude.{◌≡◌, ◌+◌, ◌<◌, ◌≤◌, ◌++◌, ◌↔◌, ◌⊎◌, length, take, drop, None, IsSome, IfOk, IfErr, OnOk, IsTrue, IsFalse, true, false};
 ghost use Rattle.futures.specs.Task.{Covers, Keeps};
 ghost use Rattle.piper_protocol.specs.Steps.{after_store, after_take, stores};
+ghost use Rattle.piper_ring.specs.Loads.{CameBack};
 ghost use Rattle.piper_ring.specs.Shared.{flag};
 ghost use Rattle.piper_ring.specs.SlotsView.{WriterRegisters};
 ghost use Rattle.piper.specs.Contexts.{AsksAgain, IsCalm};
-ghost use Rattle.piper.specs.Slots.{found_in};
+ghost use Rattle.piper.specs.Slots.{found_in, waker_in};
 ghost use Rattle.piper.specs.Ends.{WriterIsUpToDate, WriterRefreshed, WriterSaw, WriterPublished, WriterUnlent, WriterShut};
 
 use super::Writer;
@@ -21,7 +22,7 @@ use piper_ring::{Away, WriteMark};
 
 impl Writer {
     ghost use Rattle.piper.specs.Handles.{NotifiesReader, SameWriter, SameWriterButWaits, SameWriterButWoke, write_source};
-    ghost use Rattle.piper.specs.Waits.{WriterIsAway, WriterLeavesNone};
+    ghost use Rattle.piper.specs.Waits.{HasDropped, WriterIsAway, WriterLeavesNone};
 
     /// Loads closed where a look begins, and reports what the flag was. A pipe that the writer
     /// closed is closed.
@@ -67,7 +68,8 @@ impl Writer {
     pub(crate) fn register(&mut self, cx: &mut Context<'_>) -> bool
         ensures covered { Covers cx.new (λ s. s ≡ write_source self.old) }
         ensures registered { IsTrue result →
-            (WriterRegisters self.old.registrations self.new.registrations × IsCalm cx.new)
+            (WriterRegisters self.old.registrations self.new.registrations
+            × IsCalm self.old.registrations.owns cx.new)
             ⊎ (AsksAgain cx.new × WriterIsAway self.old self.new) }
         ensures refused { IsFalse result → cx.new.lacks_waker ≡ true }
         ensures kept { Keeps cx.old cx.new }
@@ -83,7 +85,8 @@ impl Writer {
     fn register_or_yield(&mut self, cx: &mut Context<'_>) -> Result<Option<Away>, OutOfMemory>
         ensures covered { Covers cx.new (λ s. s ≡ write_source self.old) }
         ensures registered { IfOk result (λ away. away ≡ None →
-            WriterRegisters self.old.registrations self.new.registrations × IsCalm cx.new) }
+            WriterRegisters self.old.registrations self.new.registrations
+            × IsCalm self.old.registrations.owns cx.new) }
         ensures away { IfOk result (λ away. IsSome away →
             AsksAgain cx.new × WriterIsAway self.old self.new) }
         ensures refused { IfErr result (λ _. cx.new.lacks_waker ≡ true) }
@@ -91,21 +94,40 @@ impl Writer {
         ensures end { self.new.end ≡ self.old.end }
         ensures rest { SameWriterButWaits self.old self.new }
     {
-        let slots = &self.slots;
-        let held = match self
-            .end
-            .reclaim_waker(&mut self.registrations, &slots.cells)
-        {
+        let held = match self.reclaim_own() {
             Ok(held) => held,
             Err(away) => {
                 let _pending: Poll<()> = cx.yield_now();
                 return Ok(Some(away));
             }
         };
+        let slots = &self.slots;
         let waker = slots.grant(cx, held)?;
         self.end
             .publish_waker(&mut self.registrations, &slots.cells, waker);
         Ok(None)
+    }
+
+    /// Takes the place of the writer's waker back, with the waker that is still registered there, if
+    /// one is. It fails where the reader has the place just now.
+    #[inline(always)]
+    fn reclaim_own(&mut self) -> Result<Taken, Away>
+        ensures owns { IfOk result (λ _. self.new.registrations
+            ≡ record self.old.registrations { owns = true; maybe_registered = false }) }
+        ensures back { IfOk result (λ own.
+            CameBack self.old.registrations.owns (waker_in own)) }
+        ensures away { IfErr result (λ _. WriterIsAway self.old self.new) }
+        ensures leaves { WriterLeavesNone self.new }
+        ensures end { self.new.end ≡ self.old.end }
+        ensures rest { SameWriterButWaits self.old self.new }
+    {
+        match self
+            .end
+            .reclaim_waker(&mut self.registrations, &self.slots.cells)
+        {
+            Ok(waker) => Ok(Taken::new(waker)),
+            Err(away) => Err(away),
+        }
     }
 
     /// Empties the writer's slot after the look of a poll, unless its place is known to be empty.
@@ -121,7 +143,7 @@ impl Writer {
     }
 
     /// Drops a waker that is still registered in the writer's slot, so that a flowing pipe need not
-    /// check for it. A waker that is dropped wakes its task, too: it polls once too often.
+    /// check for it.
     #[cold]
     #[inline(never)]
     pub(crate) fn let_own_go(&mut self)
@@ -129,11 +151,12 @@ impl Writer {
         ensures end { self.new.end ≡ self.old.end }
         ensures rest { SameWriterButWaits self.old self.new }
     {
-        if self.end.is_registered(&mut self.registrations) {
-            drop(
-                self.end
-                    .reclaim_waker(&mut self.registrations, &self.slots.cells),
-            );
+        if !self.end.is_registered(&mut self.registrations) {
+            return;
+        }
+        match self.reclaim_own() {
+            Ok(own) => own.let_go(),
+            Err(Away) => {}
         }
     }
 
@@ -143,10 +166,10 @@ impl Writer {
         ensures end { self.new.end ≡ self.old.end }
         ensures rest { SameWriterButWaits self.old self.new }
     {
-        let own = self
-            .end
-            .reclaim_waker(&mut self.registrations, &self.slots.cells);
-        Taken::new(own.unwrap_or(None)).wakes_own(call);
+        match self.reclaim_own() {
+            Ok(own) => own.wakes_own(call),
+            Err(Away) => call.took_none(),
+        }
     }
 
     /// Takes back what is lent, where a fill ends. It is no step of the table.
@@ -250,6 +273,7 @@ impl Writer {
         ensures bytes { result.told.bytes ≡ self.end.sent }
         ensures shut { result.told.shut ≡ true }
         ensures woke { result.registrations.bytes ≡ self.end.sent }
+        ensures left { HasDropped self result }
     {
         let Writer {
             end,

@@ -1,7 +1,8 @@
 //! The ends once they closed the ring and are about to leave. The second one to leave frees the
 //! memory.
 ghost use Rattle.std.specs.Prelude.{◌≡◌, ◌+◌, ◌*◌, ◌<◌, ◌^◌, length, true, false, IfSome};
-ghost use Rattle.piper_ring.specs.Cells.{AreCellsOf};
+ghost use Rattle.piper_ring.specs.Cells.{AreCellsOf, CameOut, GetsLeft};
+ghost use Rattle.piper_ring.specs.Loads.{FoundGone};
 ghost use Rattle.piper_ring.specs.Shared.{flag};
 ghost use Rattle.piper_ring.specs.SlotViews.{IsLeft};
 ghost use Rattle.piper_ring.specs.Stretches.{IsBlankFrom};
@@ -34,6 +35,7 @@ impl LeavingReader {
     /// of the wakers then, where these are handed over.
     pub(crate) fn leave<T>(self, cells: Option<&Placed<WakerCells<T>>>) -> LeftWakers<T>
         requires { IfSome cells (λ c. AreCellsOf self.seat.names c.now) }
+        ensures { IfSome cells.entry (λ _. GetsLeft self.seat.names result) }
     {
         let LeavingReader {
             seat,
@@ -65,6 +67,7 @@ impl LeavingWriter {
     /// of the wakers then, where these are handed over.
     pub(crate) fn leave<T>(self, cells: Option<&Placed<WakerCells<T>>>) -> LeftWakers<T>
         requires { IfSome cells (λ c. AreCellsOf self.seat.names c.now) }
+        ensures { IfSome cells.entry (λ _. GetsLeft self.seat.names result) }
     {
         let LeavingWriter {
             seat,
@@ -88,9 +91,10 @@ fn release<T>(
     capacity: usize,
     cells: Option<&Placed<WakerCells<T>>>,
 ) -> LeftWakers<T>
-    requires remains { (found ≡ flag remains.last) × (capacity ≡ remains.names.capacity)
-        × (2 * capacity < 2 ^ 64) }
+    requires remains { (found ≡ flag remains.last) × FoundGone remains.names found
+        × (capacity ≡ remains.names.capacity) × (2 * capacity < 2 ^ 64) }
     requires cells { IfSome cells (λ c. AreCellsOf remains.names c.now) }
+    ensures { IfSome cells.entry (λ _. GetsLeft remains.names result) }
 {
     if found == 0 {
         remains.finish();
@@ -100,22 +104,42 @@ fn release<T>(
         remains.into_parts();
     let left = match cells {
         None => LeftWakers::none(),
-        Some(cells) => {
-            let places = cells.get(&first);
-            LeftWakers {
-                reader: take_left(&places.reader, reader, reader_right),
-                writer: take_left(&places.writer, writer, writer_right),
-            }
-        }
+        Some(cells) => take_both(
+            cells.get(&first),
+            reader,
+            reader_right,
+            writer,
+            writer_right,
+        ),
     };
     let space = lender.take_back(first, second);
     frame.join(space).surrender(&alloc, block_size(capacity));
     left
 }
 
+/// What is left in both places, where these are 1: the reader's first.
+fn take_both<T>(
+    places: &WakerCells<T>,
+    reader: u64,
+    reader_right: Token,
+    writer: u64,
+    writer_right: Token,
+) -> LeftWakers<T>
+    requires reader { IsLeft places.now.reader reader reader_right }
+    requires writer { IsLeft places.now.writer writer writer_right }
+    ensures reader { CameOut places.now.reader result.reader }
+    ensures writer { CameOut places.now.writer result.writer }
+{
+    LeftWakers {
+        reader: take_left(&places.reader, reader, reader_right),
+        writer: take_left(&places.writer, writer, writer_right),
+    }
+}
+
 /// What is left in a place, if `lies` is 1.
 fn take_left<T>(place: &TokenCell<Option<T>>, lies: u64, mut right: Token) -> Option<T>
     requires { IsLeft place.now lies right }
+    ensures { CameOut place.now result }
 {
     if lies == 0 {
         return None;

@@ -11,6 +11,11 @@ use crate::ring::slots::{ReaderWaits, ReaderWakes, WriterWaits, WriterWakes};
 use std::marker::Model;
 use token_cell::Token;
 
+/// The other end has the place of this end's waker: the waker was not registered any more, and the
+/// place was not handed back.
+#[derive(Drop)]
+pub struct Away;
+
 /// The parts of what the reader's end has of both slots.
 pub(crate) struct ReadSlotParts {
     pub(crate) waits: ReaderWaits,

@@ -5,7 +5,7 @@ ghost use denote.RawPtr.{Ptr};
 ghost use Rattle.rtrb.specs.Fifo.{position_of};
 ghost use Rattle.piper_ring.specs.Shared.{Names, names_code, reader_owns, reader_lends, writer_owns, writer_lends, flag};
 ghost use Rattle.piper_ring.specs.Block.{space_of, space_words};
-ghost use Rattle.piper_ring.specs.Loads.{FoundClosed, FoundConsumed, FoundPublished};
+ghost use Rattle.piper_ring.specs.Loads.{FoundClosed, FoundConsumed, FoundGone, FoundPublished};
 ghost use Rattle.piper_ring.specs.SlotViews.{IsUnused, LooksFirst, IsUnusedBack, LooksFirstBack};
 
 use crate::ring::marks::{ReadMark, Saw, WriteMark};
@@ -237,6 +237,7 @@ impl ReadSeat {
         ensures last { result.0 ≡ flag result.1.last }
         ensures memory { (result.1.words ≡ self.words) × (result.1.at ≡ self.at) }
         ensures ring { result.1.names ≡ self.names }
+        ensures found { FoundGone self.names result.0 }
     {
         let ReadSeat { words } = self;
         let Blank { mark: _ } = known;
@@ -374,6 +375,7 @@ impl WriteSeat {
         ensures last { result.0 ≡ flag result.1.last }
         ensures memory { (result.1.words ≡ self.words) × (result.1.at ≡ self.at) }
         ensures ring { result.1.names ≡ self.names }
+        ensures found { FoundGone self.names result.0 }
     {
         let WriteSeat { words } = self;
         let Blank { mark: _ } = room;

@@ -115,6 +115,39 @@ fn who_waits_is_found_once(rt: HostRuntime) {
     same(&rt, &"waits at last", reading.waits(9), true);
 }
 
+#[test]
+fn the_last_end_gets_what_lies_in_a_place(rt: HostRuntime) {
+    let (mut reading, writing) = both(&rt, 4);
+    let Writing {
+        end,
+        mut slots,
+        places,
+    } = writing;
+    let (_, taken, left) = end.finish_waking(&mut slots, &places);
+    same(&rt, &"nobody waited", taken.is_some(), false);
+    same(&rt, &"is not the last", left.reader.is_some(), false);
+    same(
+        &rt,
+        &"sees the end once it is registered",
+        reading.waits(5),
+        false,
+    );
+    let Reading {
+        end,
+        mut slots,
+        places,
+    } = reading;
+    let (_, taken, left) = end.finish_waking(&mut slots, &places);
+    same(&rt, &"nobody waits", taken.is_some(), false);
+    same(
+        &rt,
+        &"what lies there",
+        left.reader.map(|(number, _)| number),
+        Some(5),
+    );
+    same(&rt, &"what the writer left", left.writer.is_some(), false);
+}
+
 /// Publishes all of it in pieces of changing length, counts each reader that it found waiting, and
 /// leaves.
 fn send_all(rt: &impl Wait, mut writing: Writing, total: usize, found: &AtomicU64) {

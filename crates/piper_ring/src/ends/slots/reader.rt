@@ -3,14 +3,13 @@ ghost use Rattle.std.specs.Prelude.{◌≡◌, ◌+◌, ◌<◌, ◌≤◌, ◌�
 
 use crate::ends::cells::{LeftWakers, WakerCells};
 use crate::ends::reader::ReadEnd;
-use crate::ends::slots::{ReadRegistrations, WriteRegistrations};
+use crate::ends::slots::{Away, ReadRegistrations, WriteRegistrations};
 use crate::ends::writer::WriteEnd;
-use crate::ring::claims::Away;
 use crate::ring::marks::LastReadMark;
 use lent_space::Placed;
 
 impl ReadEnd {
-    ghost use Rattle.piper_ring.specs.Cells.{AreCellsOf};
+    ghost use Rattle.piper_ring.specs.Cells.{AreCellsOf, GetsLeft};
     ghost use Rattle.piper_ring.specs.Loads.{CameBack, FoundBack, FoundFlag, FoundWaiter, IsAway, IsUnregistered};
     ghost use Rattle.piper_ring.specs.ReadView.{HasLoaded, HasTheRest, KnowsEnd, KnowsMore, SameButSaw};
     ghost use Rattle.piper_ring.specs.Shared.{flag};
@@ -43,9 +42,11 @@ impl ReadEnd {
         if parts.right.is_some() {
             return None;
         }
-        let claimed = self.parts.seat.claim_waker(&mut parts.waits);
+        let (found, mut right) = self.parts.seat.cancel(&mut parts.waits);
         parts.maybe_registered = false;
-        let mut right = claimed?;
+        if found == 0 {
+            return None;
+        }
         let waker = self.cells(cells).reader.take(&mut right);
         parts.right = Some(right);
         Some(waker)
@@ -60,13 +61,15 @@ impl ReadEnd {
         ensures found { IsFalse result → FoundBack slots.old.names 0 }
     {
         let parts = &mut slots.parts;
-        if parts.right.is_none() {
-            let Some(right) = self.parts.seat.claim_place(&mut parts.waits) else {
-                return false;
-            };
-            parts.right = Some(right);
-            parts.maybe_registered = false;
+        if parts.right.is_some() {
+            return true;
         }
+        let (found, right) = self.parts.seat.reclaim(&mut parts.waits);
+        if found == 0 {
+            return false;
+        }
+        parts.right = Some(right);
+        parts.maybe_registered = false;
         true
     }
 
@@ -82,7 +85,7 @@ impl ReadEnd {
         ensures owns { IfOk result (λ _.
             slots.new ≡ record slots.old { owns = true; maybe_registered = false }) }
         ensures found { IfOk result (λ waker. IsSome waker → slots.old.owns ≡ false) }
-        ensures back { IfOk result CameBack }
+        ensures back { IfOk result (CameBack slots.old.owns) }
         ensures away { IfErr result (λ _. (slots.old.owns ≡ false) × IsAway slots.old.names) }
         ensures none { IfErr result (λ _.
             slots.new ≡ record slots.old { maybe_registered = false }) }
@@ -106,13 +109,12 @@ impl ReadEnd {
         ensures kept { slots.new ≡ record slots.old { maybe_registered = result } }
     {
         let parts = &mut slots.parts;
-        if parts.right.is_some() {
+        if parts.right.is_some() || self.parts.seat.is_registered(&mut parts.waits) == 0 {
             parts.maybe_registered = false;
             return false;
         }
-        let found = self.parts.seat.find_waker(&mut parts.waits);
-        parts.maybe_registered = found;
-        found
+        parts.maybe_registered = true;
+        true
     }
 
     /// Registers: puts `waker` in its place and publishes it in this end's slot, where the writer's
@@ -239,11 +241,18 @@ impl ReadEnd {
         ensures rests { IsReaderAtRest self.now slots.new }
         ensures none { result ≡ None → slots.new.taken ≡ slots.old.taken }
         ensures some { IsSome result → slots.old.taken < slots.new.taken }
+        ensures found { result ≡ None → FoundWaiter slots.old.names 0 }
         ensures own { SameReaderPlace slots.old slots.new }
     {
         let seat = &self.parts.seat;
-        let place = &self.cells(cells).writer;
-        seat.take(&mut slots.parts.wakes, &seat.unseen(), place)
+        let wakes = &mut slots.parts.wakes;
+        let (found, mut right) = seat.take_waker(wakes, &seat.unseen());
+        if found == 0 {
+            return None;
+        }
+        let waker = self.cells(cells).writer.take(&mut right);
+        seat.give_back(wakes, right);
+        Some(waker)
     }
 
     /// Checks after all that this end consumed whether the writer is registered in its slot, and
@@ -275,8 +284,9 @@ impl ReadEnd {
     ) -> (LastReadMark, Option<T>, LeftWakers<T>)
         requires ring { slots.old.names ≡ self.ring.names }
         requires cells { AreCellsOf slots.old.names cells.now }
-        ensures ring { result.0.consumed.names ≡ self.ring.names }
-        ensures count { result.0.consumed.count ≡ length self.taken }
+        ensures last { (result.0.consumed.names ≡ self.ring.names)
+            × (result.0.consumed.count ≡ length self.taken) }
+        ensures left { GetsLeft self.ring.names result.2 }
         ensures looked { (slots.new.count ≡ length self.taken) × (slots.new.over ≡ true) }
         ensures none { result.1 ≡ None → slots.new.taken ≡ slots.old.taken }
         ensures some { IsSome result.1 → slots.old.taken < slots.new.taken }
@@ -285,10 +295,15 @@ impl ReadEnd {
     {
         let consumed = self.mark();
         let (leaving, closed) = self.close();
-        let place = &cells.get(&leaving.lease).writer;
-        let taken = leaving.seat.take(&mut slots.parts.wakes, &closed, place);
-        let left = leaving.leave(Some(cells));
-        (LastReadMark { consumed, closed }, taken, left)
+        let wakes = &mut slots.parts.wakes;
+        let (found, mut right) = leaving.seat.take_waker(wakes, &closed);
+        let last = LastReadMark { consumed, closed };
+        if found == 0 {
+            return (last, None, leaving.leave(Some(cells)));
+        }
+        let waker = cells.get(&leaving.lease).writer.take(&mut right);
+        leaving.seat.give_back(wakes, right);
+        (last, Some(waker), leaving.leave(Some(cells)))
     }
 
     /// One thread holds both ends: for each that waits, and since whose registration the other

@@ -2,14 +2,13 @@
 ghost use Rattle.std.specs.Prelude.{◌≡◌, ◌+◌, ◌<◌, ◌≤◌, ◌⊎◌, length, None, IsSome, IsOk, IfOk, IfErr, true, false, IsTrue, IsFalse};
 
 use crate::ends::cells::{LeftWakers, WakerCells};
-use crate::ends::slots::{ReadRegistrations, WriteRegistrations};
+use crate::ends::slots::{Away, ReadRegistrations, WriteRegistrations};
 use crate::ends::writer::WriteEnd;
-use crate::ring::claims::Away;
 use crate::ring::marks::WriteMark;
 use lent_space::Placed;
 
 impl WriteEnd {
-    ghost use Rattle.piper_ring.specs.Cells.{AreCellsOf};
+    ghost use Rattle.piper_ring.specs.Cells.{AreCellsOf, GetsLeft};
     ghost use Rattle.piper_ring.specs.Loads.{CameBack, FoundBack, FoundFlag, FoundWaiter, IsAway, IsUnregistered};
     ghost use Rattle.piper_ring.specs.Shared.{flag};
     ghost use Rattle.piper_ring.specs.WriteView.{HasLoadedHead, HasMoreRoom, SameButSaw};
@@ -42,9 +41,11 @@ impl WriteEnd {
         if parts.right.is_some() {
             return None;
         }
-        let claimed = self.parts.seat.claim_waker(&mut parts.waits);
+        let (found, mut right) = self.parts.seat.cancel(&mut parts.waits);
         parts.maybe_registered = false;
-        let mut right = claimed?;
+        if found == 0 {
+            return None;
+        }
         let waker = self.cells(cells).writer.take(&mut right);
         parts.right = Some(right);
         Some(waker)
@@ -59,13 +60,15 @@ impl WriteEnd {
         ensures found { IsFalse result → FoundBack slots.old.names 0 }
     {
         let parts = &mut slots.parts;
-        if parts.right.is_none() {
-            let Some(right) = self.parts.seat.claim_place(&mut parts.waits) else {
-                return false;
-            };
-            parts.right = Some(right);
-            parts.maybe_registered = false;
+        if parts.right.is_some() {
+            return true;
         }
+        let (found, right) = self.parts.seat.reclaim(&mut parts.waits);
+        if found == 0 {
+            return false;
+        }
+        parts.right = Some(right);
+        parts.maybe_registered = false;
         true
     }
 
@@ -81,7 +84,7 @@ impl WriteEnd {
         ensures owns { IfOk result (λ _.
             slots.new ≡ record slots.old { owns = true; maybe_registered = false }) }
         ensures found { IfOk result (λ waker. IsSome waker → slots.old.owns ≡ false) }
-        ensures back { IfOk result CameBack }
+        ensures back { IfOk result (CameBack slots.old.owns) }
         ensures away { IfErr result (λ _. (slots.old.owns ≡ false) × IsAway slots.old.names) }
         ensures none { IfErr result (λ _.
             slots.new ≡ record slots.old { maybe_registered = false }) }
@@ -105,13 +108,12 @@ impl WriteEnd {
         ensures kept { slots.new ≡ record slots.old { maybe_registered = result } }
     {
         let parts = &mut slots.parts;
-        if parts.right.is_some() {
+        if parts.right.is_some() || self.parts.seat.is_registered(&mut parts.waits) == 0 {
             parts.maybe_registered = false;
             return false;
         }
-        let found = self.parts.seat.find_waker(&mut parts.waits);
-        parts.maybe_registered = found;
-        found
+        parts.maybe_registered = true;
+        true
     }
 
     /// Registers: puts `waker` in its place and publishes it in this end's slot, where the reader's
@@ -243,10 +245,18 @@ impl WriteEnd {
         ensures rests { IsAtRest self.now slots.new }
         ensures none { result ≡ None → slots.new.taken ≡ slots.old.taken }
         ensures some { IsSome result → slots.old.taken < slots.new.taken }
+        ensures found { result ≡ None → FoundWaiter slots.old.names 0 }
         ensures own { SameWriterPlace slots.old slots.new }
     {
-        let place = &self.cells(cells).reader;
-        self.parts.seat.take(&mut slots.parts.wakes, place)
+        let seat = &self.parts.seat;
+        let wakes = &mut slots.parts.wakes;
+        let (found, mut right) = seat.take_waker(wakes);
+        if found == 0 {
+            return None;
+        }
+        let waker = self.cells(cells).reader.take(&mut right);
+        seat.give_back(wakes, right);
+        Some(waker)
     }
 
     /// Checks after all that this end stored whether the reader is registered in its slot, and
@@ -278,9 +288,9 @@ impl WriteEnd {
     ) -> (WriteMark, Option<T>, LeftWakers<T>)
         requires ring { slots.old.names ≡ self.ring.names }
         requires cells { AreCellsOf slots.old.names cells.now }
-        ensures ring { result.0.names ≡ self.ring.names }
-        ensures bytes { result.0.bytes ≡ self.sent }
-        ensures shut { result.0.shut ≡ true }
+        ensures last { (result.0.names ≡ self.ring.names) × (result.0.bytes ≡ self.sent)
+            × (result.0.shut ≡ true) }
+        ensures left { GetsLeft self.ring.names result.2 }
         ensures looked { (slots.new.bytes ≡ self.sent) × (slots.new.shut ≡ true) }
         ensures none { result.1 ≡ None → slots.new.taken ≡ slots.old.taken }
         ensures some { IsSome result.1 → slots.old.taken < slots.new.taken }
@@ -288,11 +298,15 @@ impl WriteEnd {
         ensures own { SameWriterPlace slots.old slots.new }
     {
         let leaving = self.close();
-        let mark = leaving.seat.mark();
-        let place = &cells.get(&leaving.lease).reader;
-        let taken = leaving.seat.take(&mut slots.parts.wakes, place);
-        let left = leaving.leave(Some(cells));
-        (mark, taken, left)
+        let last = leaving.seat.mark();
+        let wakes = &mut slots.parts.wakes;
+        let (found, mut right) = leaving.seat.take_waker(wakes);
+        if found == 0 {
+            return (last, None, leaving.leave(Some(cells)));
+        }
+        let waker = cells.get(&leaving.lease).reader.take(&mut right);
+        leaving.seat.give_back(wakes, right);
+        (last, Some(waker), leaving.leave(Some(cells)))
     }
 
     /// With what is left of the reader's slots once its end is gone, and also before: where this

@@ -1,6 +1,6 @@
 -- Which words came out with the place is what a call of this function says.
 use Rattle.std.proofs.Common.{ℕ, Bool, Option, Result, Ok, Err, IfOk}
-use Rattle.piper_ring.specs.declared.ring.claims.Away.{Away}
+use Rattle.piper_ring.specs.declared.ends.slots.Away.{Away}
 use Rattle.piper_c.specs.declared.words.Waiter.{Waiter}
 use Rattle.piper_c.specs.Places.{CameOut, as_come_out}
 use Rattle.piper_c.proofs.halves.ReadHalf.reclaim.Goals as goal

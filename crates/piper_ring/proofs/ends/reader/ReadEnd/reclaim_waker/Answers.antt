@@ -5,7 +5,7 @@ use Rattle.piper_ring.specs.Loads.{as_back}
 use Rattle.piper_ring.proofs.ends.reader.ReadEnd.reclaim_waker.Goals as goal
 
 pub returns-then-reclaim-clause-back : goal.returns-then-reclaim-clause-back
-returns-then-reclaim-clause-back g c = as_back None
+returns-then-reclaim-clause-back g c = as_back _ None
 
 pub returns-in-Some-clause-back : goal.returns-in-Some-clause-back
-returns-in-Some-clause-back g c = as_back (Some c.in-Some.waker)
+returns-in-Some-clause-back g c = as_back _ (Some c.in-Some.waker)

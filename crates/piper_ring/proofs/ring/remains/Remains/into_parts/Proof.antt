@@ -9,6 +9,7 @@ use Rattle.piper_ring.specs.Shared as shared
 use Rattle.piper_ring.proofs.Fields.{seat_val, ghost_val, remains_told, FrameData, frame_made, LenderData, lender_made, LeaseData, lease_made, eight_val, eight_of}
 use Rattle.piper_ring.proofs.Leaving.{frame_rejoins}
 use Rattle.piper_ring.proofs.Steps.{flag_small}
+use Rattle.piper_ring.specs.Loads.{as_lying}
 use Rattle.piper_ring.specs.SlotViews.{IsLeft}
 use Rattle.piper_ring.specs.Shared.{block_room}
 use Rattle.piper_ring.specs.Block.{space_room}
@@ -65,8 +66,8 @@ into_parts_spec 𝓤 𝓛 𝓜 𝓡 wired =
     move ! (7 ∷ 6 ∷ 5 ∷ 4 ∷ 1 ∷ 3 ∷ 0 ∷ 2 ∷ []) $ group ! 8 $
     use1 𝓛 (‵ ((denote.Struct.Tuple.Tuple (Frame.the_row ∷ Lender.the_row ∷ Lease.the_row ∷ Lease.the_row ∷ u64 ∷ Token.the_row ∷ u64 ∷ Token.the_row ∷ [])).own_val (one, two, three, four, five, six, seven, eight) (all ∷ [])))
     (eight_of 𝓛 Frame.the_row Lender.the_row Lease.the_row Lease.the_row u64 Token.the_row u64 Token.the_row one two three four five six seven eight u v g g (vint w64 five) t (vint w64 seven) t) $
-    use0 𝓛 (raw (fact 𝓤 (IsLeft z.writer_place seven eight))) (fact_i 𝓤 (IsLeft z.writer_place seven eight) (emp 𝓤) (t', refl, (refl, refl, refl))) $
-    use0 𝓛 (raw (fact 𝓤 (IsLeft z.reader_place five six))) (fact_i 𝓤 (IsLeft z.reader_place five six) (emp 𝓤) (r, refl, (refl, refl, refl))) $ join ! $
+    use0 𝓛 (raw (fact 𝓤 (IsLeft z.writer_place seven eight))) (fact_i 𝓤 (IsLeft z.writer_place seven eight) (emp 𝓤) (t', refl, as_lying z.writer_place seven, (refl, refl, refl))) $
+    use0 𝓛 (raw (fact 𝓤 (IsLeft z.reader_place five six))) (fact_i 𝓤 (IsLeft z.reader_place five six) (emp 𝓤) (r, refl, as_lying z.reader_place five, (refl, refl, refl))) $ join ! $
     use0 𝓛 (raw (fact 𝓤 Firsts)) (fact_i 𝓤 Firsts (emp 𝓤) (refl, refl)) $ join ! $ use0 𝓛 (raw (fact 𝓤 Lives)) (fact_i 𝓤 Lives (emp 𝓤) (refl, refl, refl)) $ join ! $
     use0 𝓛 (raw (fact 𝓤 Told)) (fact_i 𝓤 Told (emp 𝓤) (refl, refl)) $ join ! $ use0 𝓛 (raw (fact 𝓤 (cap ≡ cap))) (fact_i 𝓤 (cap ≡ cap) (emp 𝓤) refl) $ join ! $ nothing ! $ nothing ! $ fjoin ! $
     returns ! (look_at ! 0 refl) $ free_all ! refl $ keep ! (3 ∷ 0 ∷ 2 ∷ 1 ∷ []) $ by ! (leaves 𝓛 En hs c y all (one, two, three, four, five, six, seven, eight) (tt, tt) (tt, tt))))))))

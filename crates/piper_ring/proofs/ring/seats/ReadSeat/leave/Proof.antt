@@ -2,6 +2,7 @@
 -- where the other end is gone. Assumes `Logic`.
 use types.Kit.{group}
 use Rattle.piper_ring.proofs.Kit.{Bool, true, ◌≡◌, ℕ, ◌+◌, ◌-◌, ◌^◌, List, [], ◌∷◌, sym, refl, ap, arith, lit<, w64, Val, vint, vptr, SProp, emp, Fml, ftrue, ‵, raw, ◌⊛◌, given, mean, at_ret, ◌$◌, ◌∵◌, !, qed, by, move, keep, drop, join, split, fsplit, fsplit3, fjoin, fpick, fpack, learn, use0, use1, use2, rewrite, feq_i, flt_i, stop, fld, lit, of_opd, bin, no_more, and_then, first, blocks, exec, Calls-last, returns, enter, alloc_all, pass_all, free_all, look_at, get, get_in, sets, lands_last, is, env, agg, sub, whole as shape_all, fact, fact_i, tables, yes, owns, types_at, plain, Ptr, block_ptr, ptr_val, block_of, count_of, at_block, u64, nothing, alive, Stays, stay_dropped, walk_of, Goes-dropped, word-Good, after as from_on, asks, always, span, pair_val, pair_of, proved, leaves, seq_cst, fm, found, finds, swaps, unset, Names, Placed, flag, common, half, blanks, reader_knows, where_gone}
+use Rattle.piper_ring.specs.Loads.{FoundGone, as_gone}
 use Rattle.piper_ring.specs.Shared as shared
 use Rattle.piper_ring.proofs.Fields.{seat_val, ghost_val, read_told, blank_told, lease_told, RemainsData, remains_made}
 use Rattle.piper_ring.proofs.Rights.{common_twice}
@@ -49,7 +50,8 @@ leave_spec 𝓤 𝓛 𝓜 𝓡 wired =
     nothing ! $ fpack ! (Placed w' p z) (λ _. ftrue) (tt, at.1, at.2) $ fjoin ! $ use0 𝓛 (‵ (RemainsData.own_val (w', tt) (seat_val w' ∷ []))) (remains_made 𝓛 w') $ fjoin ! $
     flt_i ! n (2 ^ 64) fits $ feq_i ! (List Val) (vint w64 n ∷ []) (vint w64 n ∷ []) refl $ fjoin ! $
     use2 𝓛 (‵ ((denote.Struct.Tuple.Tuple (u64 ∷ Remains.the_row ∷ [])).own_val (n, rest) (pair_val (vint w64 n) (seat_val w') ∷ []))) (pair_of 𝓛 u64 Remains.the_row n rest (vint w64 n) (seat_val w')) $
-    use0 𝓛 (raw (fact 𝓤 (z ≡ z))) (fact_i 𝓤 (z ≡ z) (emp 𝓤) refl) $ use0 𝓛 (raw (fact 𝓤 ((w' ≡ w) × (p ≡ p)))) (fact_i 𝓤 ((w' ≡ w) × (p ≡ p)) (emp 𝓤) (sym isw, refl)) $ join ! $
+    use0 𝓛 (raw (fact 𝓤 (FoundGone z n))) (fact_i 𝓤 (FoundGone z n) (emp 𝓤) (as_gone z n)) $
+    use0 𝓛 (raw (fact 𝓤 (z ≡ z))) (fact_i 𝓤 (z ≡ z) (emp 𝓤) refl) $ join ! $ use0 𝓛 (raw (fact 𝓤 ((w' ≡ w) × (p ≡ p)))) (fact_i 𝓤 ((w' ≡ w) × (p ≡ p)) (emp 𝓤) (sym isw, refl)) $ join ! $
     use0 𝓛 (raw (fact 𝓤 (n ≡ flag last))) (fact_i 𝓤 (n ≡ flag last) (emp 𝓤) told) $ join ! $
     nothing ! $ nothing ! $ fjoin ! $ nothing ! $ fjoin ! $ nothing ! $ fjoin ! $ nothing ! $
     returns ! (look_at ! 0 refl) $ free_all ! refl $ keep ! (0 ∷ 1 ∷ 3 ∷ 2 ∷ []) $ by ! (leaves 𝓛 En hs c y (pair_val (vint w64 n) (seat_val w')) (n, rest) (tt, (tt, (tt, tt))) (tt, (tt, (tt, tt))))))))))))
