@@ -1,5 +1,5 @@
 -- What a contract sees of what each end has of the slots, and how the ends keep it.
-use Rattle.std.specs.Prelude.{◌≡◌, ◌≢◌, ℕ, ◌+◌, ◌<◌, ◌≤◌, ◌⊎◌, Bool, true, false, List, [], length, refl, is_some, IfSome}
+use Rattle.std.specs.Prelude.{◌≡◌, ℕ, ◌+◌, ◌<◌, ◌≤◌, ◌⊎◌, Bool, true, false, List, [], length, refl, is_some, IfSome}
 use Rattle.std.specs.Coded.{Coded, code_by, coded×, coded_list, coded_ℕ, coded_bool}
 use Rattle.piper_ring.specs.Shared.{Names, names_code}
 use Rattle.piper_ring.specs.SlotViews.{IsTokenOf}
@@ -151,10 +151,6 @@ pub record Registers (old new : ReadSlotsView) : Type 0 where
   pub ticket : new.tickets ≡ old.tickets + 1
   pub looks : SameReaderLooks old new
 
--- the reader knows of a byte, or saw the pipe closed
-abbrev pub HasToDo : ReadView → Type 0
-HasToDo r = (r.known ≢ []) ⊎ (r.saw ≡ true)
-
 -- the reader waits: it has registered, and its look after that found nothing to do
 pub record IsPending (r : ReadView) (s : ReadSlotsView) : Type 0 where
   pub registered : s.owns ≡ false
@@ -187,10 +183,6 @@ pub record WriterRegisters (old new : WriteSlotsView) : Type 0 where
   pub maybe : new.maybe_registered ≡ true
   pub ticket : new.tickets ≡ old.tickets + 1
   pub looks : SameWriterLooks old new
-
--- the writer knows of room, or saw the pipe closed
-abbrev pub WriterHasToDo : WriteView → Type 0
-WriterHasToDo w = (w.room ≢ 0) ⊎ (w.saw ≡ true)
 
 -- the writer waits: it has registered, and its look after that found no room
 pub record IsWriterPending (w : WriteView) (s : WriteSlotsView) : Type 0 where

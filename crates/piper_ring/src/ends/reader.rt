@@ -153,17 +153,6 @@ impl ReadEnd {
     /// touch the other's word.
     pub fn reload(&mut self)
         requires { length self.old.known ≡ 0 }
-        ensures fresh { self.old.told ≤ length (self.new.taken ++ self.new.known) }
-        ensures found { HasLoaded self.new }
-        ensures end { KnowsEnd self.old → self.new.taken ++ self.new.known ≡ self.new.all }
-        ensures kept { KnowsMore self.old self.new }
-    {
-        self.reload_heard();
-    }
-
-    /// `reload`: it finds all that this end has heard of.
-    pub(crate) fn reload_heard(&mut self)
-        requires { length self.old.known ≡ 0 }
         ensures heard { length self.old.all ≤ length (self.new.taken ++ self.new.known) }
         ensures fresh { self.old.told ≤ length (self.new.taken ++ self.new.known) }
         ensures found { HasLoaded self.new }

@@ -67,17 +67,25 @@ fn both(rt: &(impl Abort + AllocGlobal), capacity: usize) -> (Reading, Writing)
 }
 
 impl Reading {
-    /// Whether it waits now, with `number` in its place. It is no end to wait where it knows of a
-    /// byte.
+    /// Registers with `number` in its place, and looks once more: whether it waits now. It is no end
+    /// to wait where it knows of a byte.
     fn waits(&mut self, number: u64) -> bool {
-        self.end.knows_none()
-            && self
-                .end
-                .wait(&mut self.slots, &self.places, (number, number))
+        if !self.end.knows_none() {
+            return false;
+        }
+        let before = self.end.reclaim_waker(&mut self.slots, &self.places);
+        if before.is_err() {
+            return false;
+        }
+        self.end
+            .publish_waker(&mut self.slots, &self.places, (number, number));
+        self.end.reload_after(&self.slots);
+        !self.end.look_closed_after(&self.slots) && self.end.knows_none()
     }
 
     fn wakes(&mut self) -> bool {
-        self.end.wake(&mut self.slots, &self.places)
+        !self.end.nobody_waits(&mut self.slots)
+            && self.end.take(&mut self.slots, &self.places).is_some()
     }
 
     fn sees_the_end(&mut self) -> bool {

@@ -1,5 +1,5 @@
 //! How the reader's end waits in its slot, and wakes whoever waits in the writer's.
-ghost use Rattle.std.specs.Prelude.{◌≡◌, ◌+◌, ◌<◌, ◌≤◌, ◌⊎◌, ◌++◌, length, None, IsSome, IsOk, IfOk, IfErr, true, false, IsTrue, IsFalse};
+ghost use Rattle.std.specs.Prelude.{◌≡◌, ◌<◌, ◌≤◌, ◌++◌, length, None, IsSome, IfOk, IfErr, true, false, IsTrue, IsFalse};
 
 use crate::ends::cells::{LeftWakers, WakerCells};
 use crate::ends::reader::ReadEnd;
@@ -13,7 +13,7 @@ impl ReadEnd {
     ghost use Rattle.piper_ring.specs.Loads.{CameBack, FoundBack, FoundFlag, FoundWaiter, IsAway, IsUnregistered};
     ghost use Rattle.piper_ring.specs.ReadView.{HasLoaded, HasTheRest, KnowsEnd, KnowsMore, SameButSaw};
     ghost use Rattle.piper_ring.specs.Shared.{flag};
-    ghost use Rattle.piper_ring.specs.SlotsView.{Registers, HasToDo, IsPending, HasNews, IsReaderAtRest, SameReaderPlace, IsWriterPending, HasRoomNews};
+    ghost use Rattle.piper_ring.specs.SlotsView.{Registers, IsPending, HasNews, IsReaderAtRest, SameReaderPlace, IsWriterPending, HasRoomNews};
 
     // The places of both sides' wakers.
     #[inline(always)]
@@ -139,29 +139,6 @@ impl ReadEnd {
         parts.heard = self.parts.seat.publish_waker(&mut parts.waits, right);
     }
 
-    /// `publish_waker`, where the place can be had: the answer is the waker that was still
-    /// registered there, if one was. It is `Err`, and this end is registered nowhere, where the
-    /// writer has stored something and has not handed the place back yet.
-    pub fn register<T>(
-        &self,
-        slots: &mut ReadRegistrations,
-        cells: &Placed<WakerCells<T>>,
-        waker: T,
-    ) -> Result<Option<T>, T>
-        requires ring { slots.old.names ≡ self.now.ring.names }
-        requires cells { AreCellsOf slots.old.names cells.now }
-        ensures registered { IfOk result (λ _. Registers slots.old slots.new) }
-        ensures away { IfErr result (λ _. (slots.old.owns ≡ false) × IsAway slots.old.names) }
-        ensures refused { IfErr result (λ _.
-            slots.new ≡ record slots.old { maybe_registered = false }) }
-    {
-        let Ok(before) = self.reclaim_waker(slots, cells) else {
-            return Err(waker);
-        };
-        self.publish_waker(slots, cells, waker);
-        Ok(before)
-    }
-
     /// `reload`, by an end that has registered: it finds all that the writer had stored before its
     /// last check of the slot ahead of the registration.
     #[inline(always)]
@@ -175,7 +152,7 @@ impl ReadEnd {
         ensures kept { KnowsMore self.old self.new }
     {
         self.hear(&slots.parts.heard);
-        self.reload_heard();
+        self.reload();
     }
 
     /// `look_closed`, by an end that has registered: it finds a close that the writer had stored
@@ -191,32 +168,6 @@ impl ReadEnd {
         ensures kept { SameButSaw self.old self.new }
     {
         self.look_closed_knowing(&slots.parts.heard)
-    }
-
-    /// Registers, and checks once more whether the writer published something or closed the pipe.
-    /// Where the answer is `true` this end waits: it has nothing to do, and the look after whatever
-    /// the writer stores from now on finds it.
-    pub fn wait<T: Drop>(
-        &mut self,
-        slots: &mut ReadRegistrations,
-        cells: &Placed<WakerCells<T>>,
-        waker: T,
-    ) -> bool
-        requires ring { slots.old.names ≡ self.old.ring.names }
-        requires cells { AreCellsOf slots.old.names cells.now }
-        requires none { length self.old.known ≡ 0 }
-        ensures pending { IsTrue result → IsPending self.new slots.new }
-        ensures ticket { IsTrue result → slots.new.tickets ≡ slots.old.tickets + 1 }
-        ensures busy { IsFalse result →
-            HasToDo self.new ⊎ ((slots.old.owns ≡ false) × IsAway slots.old.names) }
-        ensures names { slots.new.names ≡ slots.old.names }
-        ensures end { (self.new.ring ≡ self.old.ring) × (self.new.taken ≡ self.old.taken) }
-    {
-        if self.register(slots, cells, waker).is_err() {
-            return false;
-        }
-        self.reload_after(slots);
-        !self.look_closed_after(slots) && self.knows_none()
     }
 
     /// Checks after all that this end consumed whether the writer is registered in its slot.
@@ -253,26 +204,6 @@ impl ReadEnd {
         let waker = self.cells(cells).writer.take(&mut right);
         seat.give_back(wakes, right);
         Some(waker)
-    }
-
-    /// Checks after all that this end consumed whether the writer is registered in its slot, and
-    /// takes its ticket if so. Returns whether it was.
-    pub fn wake<T: Drop>(
-        &self,
-        slots: &mut ReadRegistrations,
-        cells: &Placed<WakerCells<T>>,
-    ) -> bool
-        requires ring { slots.old.names ≡ self.now.ring.names }
-        requires cells { AreCellsOf slots.old.names cells.now }
-        ensures rests { IsReaderAtRest self.now slots.new }
-        ensures none { IsFalse result → slots.new.taken ≡ slots.old.taken }
-        ensures some { IsTrue result → slots.old.taken < slots.new.taken }
-        ensures own { SameReaderPlace slots.old slots.new }
-    {
-        if self.nobody_waits(slots) {
-            return false;
-        }
-        self.take(slots, cells).is_some()
     }
 
     /// `finish`, and `take` after its close. With it comes what was left in the places, if the other

@@ -1,5 +1,5 @@
 //! How the writer's end waits in its slot, and wakes whoever waits in the reader's.
-ghost use Rattle.std.specs.Prelude.{◌≡◌, ◌+◌, ◌<◌, ◌≤◌, ◌⊎◌, length, None, IsSome, IsOk, IfOk, IfErr, true, false, IsTrue, IsFalse};
+ghost use Rattle.std.specs.Prelude.{◌≡◌, ◌+◌, ◌<◌, ◌≤◌, length, None, IsSome, IfOk, IfErr, true, false, IsTrue, IsFalse};
 
 use crate::ends::cells::{LeftWakers, WakerCells};
 use crate::ends::slots::{Away, ReadRegistrations, WriteRegistrations};
@@ -12,7 +12,7 @@ impl WriteEnd {
     ghost use Rattle.piper_ring.specs.Loads.{CameBack, FoundBack, FoundFlag, FoundWaiter, IsAway, IsUnregistered};
     ghost use Rattle.piper_ring.specs.Shared.{flag};
     ghost use Rattle.piper_ring.specs.WriteView.{HasLoadedHead, HasMoreRoom, SameButSaw};
-    ghost use Rattle.piper_ring.specs.SlotsView.{WriterRegisters, WriterHasToDo, IsWriterPending, IsAtRest, SameWriterPlace, HasRoomNews};
+    ghost use Rattle.piper_ring.specs.SlotsView.{WriterRegisters, IsWriterPending, IsAtRest, SameWriterPlace, HasRoomNews};
 
     // The places of both sides' wakers.
     #[inline(always)]
@@ -140,29 +140,6 @@ impl WriteEnd {
         parts.saw = saw;
     }
 
-    /// `publish_waker`, where the place can be had: the answer is the waker that was still
-    /// registered there, if one was. It is `Err`, and this end is registered nowhere, where the
-    /// reader has consumed something and has not handed the place back yet.
-    pub fn register<T>(
-        &self,
-        slots: &mut WriteRegistrations,
-        cells: &Placed<WakerCells<T>>,
-        waker: T,
-    ) -> Result<Option<T>, T>
-        requires ring { slots.old.names ≡ self.now.ring.names }
-        requires cells { AreCellsOf slots.old.names cells.now }
-        ensures registered { IfOk result (λ _. WriterRegisters slots.old slots.new) }
-        ensures away { IfErr result (λ _. (slots.old.owns ≡ false) × IsAway slots.old.names) }
-        ensures refused { IfErr result (λ _.
-            slots.new ≡ record slots.old { maybe_registered = false }) }
-    {
-        let Ok(before) = self.reclaim_waker(slots, cells) else {
-            return Err(waker);
-        };
-        self.publish_waker(slots, cells, waker);
-        Ok(before)
-    }
-
     /// `reload`, by an end that has registered: it finds all the room that the reader had given
     /// back before its last check of the slot ahead of the registration.
     #[inline(always)]
@@ -191,33 +168,6 @@ impl WriteEnd {
         ensures kept { SameButSaw self.old self.new }
     {
         self.look_closed_knowing(&slots.parts.saw)
-    }
-
-    /// Registers, and checks once more whether the reader consumed something or closed the pipe.
-    /// Where the answer is `true` this end waits: it has no room, and the look after whatever the
-    /// reader stores from now on finds it.
-    pub fn wait<T: Drop>(
-        &mut self,
-        slots: &mut WriteRegistrations,
-        cells: &Placed<WakerCells<T>>,
-        waker: T,
-    ) -> bool
-        requires ring { slots.old.names ≡ self.old.ring.names }
-        requires cells { AreCellsOf slots.old.names cells.now }
-        requires none { self.old.room ≡ 0 }
-        requires open { self.old.saw ≡ false }
-        ensures pending { IsTrue result → IsWriterPending self.new slots.new }
-        ensures ticket { IsTrue result → slots.new.tickets ≡ slots.old.tickets + 1 }
-        ensures busy { IsFalse result →
-            WriterHasToDo self.new ⊎ ((slots.old.owns ≡ false) × IsAway slots.old.names) }
-        ensures names { slots.new.names ≡ slots.old.names }
-        ensures end { (self.new.ring ≡ self.old.ring) × (self.new.sent ≡ self.old.sent) }
-    {
-        if self.register(slots, cells, waker).is_err() {
-            return false;
-        }
-        self.reload_after(slots);
-        !self.look_closed_after(slots) && self.knows_none()
     }
 
     /// Checks after all that this end stored whether the reader is registered in its slot. Returns
@@ -257,26 +207,6 @@ impl WriteEnd {
         let waker = self.cells(cells).reader.take(&mut right);
         seat.give_back(wakes, right);
         Some(waker)
-    }
-
-    /// Checks after all that this end stored whether the reader is registered in its slot, and
-    /// takes its ticket if so. Returns whether it was.
-    pub fn wake<T: Drop>(
-        &self,
-        slots: &mut WriteRegistrations,
-        cells: &Placed<WakerCells<T>>,
-    ) -> bool
-        requires ring { slots.old.names ≡ self.now.ring.names }
-        requires cells { AreCellsOf slots.old.names cells.now }
-        ensures rests { IsAtRest self.now slots.new }
-        ensures none { IsFalse result → slots.new.taken ≡ slots.old.taken }
-        ensures some { IsTrue result → slots.old.taken < slots.new.taken }
-        ensures own { SameWriterPlace slots.old slots.new }
-    {
-        if self.nobody_waits(slots) {
-            return false;
-        }
-        self.take(slots, cells).is_some()
     }
 
     /// `finish`, and `take` after its close. With it comes what was left in the places, if the other

@@ -1,7 +1,7 @@
 -- What was loaded is an index of the ring, at most a turn past the head.
 use Rattle.piper_ring.proofs.Kit.{◌≡◌, ℕ, ◌+◌, ◌-◌, ◌≤◌, length, arith, sym, subst, ap, ◌∙◌, position_of, position_inside}
 use Rattle.piper_ring.proofs.Indices.{apart}
-use Rattle.piper_ring.proofs.ends.reader.ReadEnd.reload_heard.Goals as goal
+use Rattle.piper_ring.proofs.ends.reader.ReadEnd.reload.Goals as goal
 
 pub sees-requires-clause-index : goal.sees-requires-clause-index
 sees-requires-clause-index c = let i = c.self.invariant in let t : ℕ = length c.look_tail-tail.result.1.bytes in
