@@ -94,20 +94,11 @@ pub record WriterWokeLast (writer : Writer) (left : FinishedWriter) : Type 0 whe
   pub bytes : left.registrations.bytes ≡ writer.end.sent
   pub shut : left.registrations.shut ≡ true
 
--- `drop` of this handle returned this. It is sealed: no proof looks into it, and only those of the two
+-- `drop` of this handle was called. It is sealed: no proof looks into it, and only those of the two
 -- `leave` use the lemma. So what a clause says of it came from such a call
-pub HasDropped : {H S : Type 0} → H → S → Type 0
-HasDropped handle left = ⊤
+pub HasDropped : {H : Type 0} → H → Type 0
+HasDropped handle = ⊤
 
-pub as_dropped : {H S : Type 0} (handle : H) (left : S) → HasDropped handle left
+pub as_dropped : {H : Type 0} (handle : H) → HasDropped handle
 unfolding HasDropped
-as_dropped handle left = tt
-
--- the handle was dropped: it closed the pipe, and then took and woke who waited for it
-abbrev pub ReaderIsDropped : Reader → Type 0
-ReaderIsDropped reader =
-    (left : FinishedReader) × HasDropped reader left × ReaderWokeLast reader left
-
-abbrev pub WriterIsDropped : Writer → Type 0
-WriterIsDropped writer =
-    (left : FinishedWriter) × HasDropped writer left × WriterWokeLast writer left
+as_dropped handle = tt

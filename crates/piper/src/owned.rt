@@ -6,7 +6,7 @@ ghost use Rattle.futures.specs.Poll.{OnPending};
 ghost use Rattle.futures.specs.Task.{Keeps};
 ghost use Rattle.piper.specs.Contexts.{WantsWaker};
 ghost use Rattle.piper.specs.Ends.{IsEnded};
-ghost use Rattle.piper.specs.Waits.{ReaderIsDropped, ReaderIsWaiting, WriterIsDropped, WriterIsWaiting, WriterLeavesNone};
+ghost use Rattle.piper.specs.Waits.{HasDropped, ReaderIsWaiting, WriterIsWaiting, WriterLeavesNone};
 ghost use Rattle.piper.specs.Handles.{AreFresh, ArePair, DrawFrom};
 ghost use Rattle.piper_protocol.specs.Reported.{HasFailed};
 
@@ -186,7 +186,7 @@ impl DerefMut for OwnedWriter {
 
 impl Drop for OwnedReader {
     fn drop(self)
-        ensures { ReaderIsDropped self }
+        ensures { HasDropped self }
     {
         let OwnedReader { reader } = self;
         reader.drop();
@@ -195,7 +195,7 @@ impl Drop for OwnedReader {
 
 impl Drop for OwnedWriter {
     fn drop(self)
-        ensures { WriterIsDropped self }
+        ensures { HasDropped self }
     {
         let OwnedWriter { writer } = self;
         writer.drop();

@@ -135,7 +135,7 @@ impl Reader {
         ensures ring { result.told.consumed.names ≡ (ring self).names }
         ensures count { result.told.consumed.count ≡ length (taken self) }
         ensures woken { ReaderWokeLast self result }
-        ensures left { HasDropped self result }
+        ensures left { HasDropped self }
     {
         self.leave(dropping())
     }

@@ -140,7 +140,7 @@ impl Writer {
         ensures bytes { result.told.bytes ≡ sent self }
         ensures shut { result.told.shut ≡ true }
         ensures woken { WriterWokeLast self result }
-        ensures left { HasDropped self result }
+        ensures left { HasDropped self }
     {
         self.leave(dropping())
     }

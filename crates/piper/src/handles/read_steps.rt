@@ -233,7 +233,7 @@ impl Reader {
         ensures ring { result.told.consumed.names ≡ self.end.ring.names }
         ensures count { result.told.consumed.count ≡ length self.end.taken }
         ensures woke { result.registrations.count ≡ length self.end.taken }
-        ensures left { HasDropped self result }
+        ensures left { HasDropped self }
     {
         let Reader {
             end,

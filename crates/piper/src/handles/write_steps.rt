@@ -273,7 +273,7 @@ impl Writer {
         ensures bytes { result.told.bytes ≡ self.end.sent }
         ensures shut { result.told.shut ≡ true }
         ensures woke { result.registrations.bytes ≡ self.end.sent }
-        ensures left { HasDropped self result }
+        ensures left { HasDropped self }
     {
         let Writer {
             end,

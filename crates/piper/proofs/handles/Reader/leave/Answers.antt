@@ -3,4 +3,4 @@ use Rattle.piper.specs.Waits.{as_dropped}
 use Rattle.piper.proofs.handles.Reader.leave.Goals as goal
 
 pub returns-clause-left : goal.returns-clause-left
-returns-clause-left c = as_dropped _ _
+returns-clause-left c = as_dropped _
