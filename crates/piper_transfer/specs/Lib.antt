@@ -2,3 +2,4 @@ pub mod Size
 pub mod Taken
 pub mod Threads
 pub mod Transfer
+pub mod Turns

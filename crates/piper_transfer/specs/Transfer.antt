@@ -89,14 +89,18 @@ IsPassing e = (error_kind e ≡ Interrupted) ⊎ (error_kind e ≡ WouldBlock)
 abbrev pub PipeIsRefused : Type 0
 PipeIsRefused = (refused : OutOfMemory) × HasFailed refused
 
--- memory was refused for a waker. It is sealed: no proof looks into it, and only that of `no_waker`
--- uses the lemma below
-pub WakerIsRefused : Type 0
-WakerIsRefused = ⊤
+-- memory was refused for a waker of this context. It is sealed: no proof looks into it, and only
+-- that of `no_waker` uses the lemma below
+pub WakerIsRefused : Context → Type 0
+WakerIsRefused cx = ⊤
 
-pub as_waker_refused : (cx : Context) → cx.lacks_waker ≡ true → WakerIsRefused
+pub as_waker_refused : (cx : Context) → cx.lacks_waker ≡ true → WakerIsRefused cx
 unfolding WakerIsRefused
 as_waker_refused cx lacks = tt
+
+-- one of the contexts of a side was refused memory
+abbrev pub LacksWaker : Type 0
+LacksWaker = (cx : Context) × WakerIsRefused cx
 
 -- a thread can't be made to wait: a call for its turns failed so. It is sealed: no proof looks into
 -- it, and only that of `of_queue` uses the lemma below
@@ -114,29 +118,33 @@ abbrev pub IsOfDestination : (Error → Type 0) → Type 0 → TransferError →
 IsOfDestination fails full (Read e) = ⊥
 IsOfDestination fails full (Write e) = fails e × IsLasting e
 IsOfDestination fails full Full = full
-IsOfDestination fails full Memory = WakerIsRefused
+IsOfDestination fails full Memory = LacksWaker
 IsOfDestination fails full (Turns e) = CannotWait e
 
--- the side that writes the output has failed. It is sealed: no proof looks into it, and only that
--- of `end_output` uses the lemma below
-pub OutputHasFailed : Type 0
-OutputHasFailed = ⊤
+-- the side that writes to outputs which fail so has failed: a call of one of them was answered so
+abbrev pub OutputHasFailed : {D : Type 0} → (D → Error → Type 0) → (D → Type 0) → Type 0
+OutputHasFailed {D} fails full =
+    (dest : D) × (error : TransferError) × IsOfDestination (fails dest) (full dest) error
 
-pub as_output_failed : (fails : Error → Type 0) (full : Type 0) (error : TransferError)
-    → IsOfDestination fails full error → OutputHasFailed
-unfolding OutputHasFailed
-as_output_failed fails full error failed = tt
+-- the input's side of the transfer of this name was told to end. It is sealed: no proof looks into
+-- it, and only that of `end_output` uses the lemma below
+pub IsTold : ℕ → Type 0
+IsTold name = ⊤
 
--- the side that reads the input left the pipe open, since the output's side has failed, or since it
--- saw the pipe closed, which it had not closed
-abbrev pub IsLeft : WriteView → Type 0
-IsLeft w = (w.shut ≡ false) × (OutputHasFailed ⊎ (w.saw ≡ true))
+pub as_told : (name : ℕ) → IsTold name
+unfolding IsTold
+as_told name = tt
+
+-- the side that reads the input left the pipe open, since the output's side has failed, as this
+-- says, or since it saw the pipe closed, which it had not closed
+abbrev pub IsLeft : Type 0 → WriteView → Type 0
+IsLeft failed w = (w.shut ≡ false) × (failed ⊎ (w.saw ≡ true))
 
 -- the side that reads the input may report this error: a read has failed so, memory was refused for
 -- a waker, or the thread can't be made to wait
 abbrev pub IsOfSource : (Error → Type 0) → TransferError → Type 0
 IsOfSource fails (Read e) = fails e × IsLasting e
-IsOfSource fails Memory = WakerIsRefused
+IsOfSource fails Memory = LacksWaker
 IsOfSource fails (Turns e) = CannotWait e
 IsOfSource fails other = ⊥
 
@@ -144,6 +152,18 @@ IsOfSource fails other = ⊥
 abbrev pub StopsSource : (Error → Type 0) → Type 0 → Stop → Type 0
 StopsSource fails told (Failed e) = IsOfSource fails e
 StopsSource fails told Told = told
+
+-- the input's side has ended with this answer, and closed the pipe, so that the output's waits for
+-- no byte any more; or its thread can't be made to wait
+abbrev pub Closes : Result Unit TransferError → WriteView → Type 0
+Closes (Err (Turns e)) w = (w.shut ≡ true) ⊎ CannotWait e
+Closes other w = w.shut ≡ true
+
+-- the same, where it was not told to end
+abbrev pub StopsClosed : Result Unit Stop → WriteView → Type 0
+StopsClosed (Ok done) w = w.shut ≡ true
+StopsClosed (Err (Failed e)) w = Closes (Err e) w
+StopsClosed (Err Told) w = ⊤
 
 -- neither side has begun: memory was refused for the pipe, or a thread can't be made to wait
 abbrev pub IsOfMemory : TransferError → Type 0
@@ -156,7 +176,7 @@ abbrev pub IsOfSide : (Error → Type 0) → (Error → Type 0) → Type 0 → T
 IsOfSide read written full (Read e) = read e × IsLasting e
 IsOfSide read written full (Write e) = written e × IsLasting e
 IsOfSide read written full Full = full
-IsOfSide read written full Memory = PipeIsRefused ⊎ WakerIsRefused
+IsOfSide read written full Memory = PipeIsRefused ⊎ LacksWaker
 IsOfSide read written full (Turns e) = CannotWait e
 
 -- what the output was given is a front of what the input gave

@@ -1,18 +1,20 @@
 //! A transfer: both sides, each on a thread.
-ghost use Rattle.std.specs.Prelude.{◌≡◌, ◌<◌, ◌≤◌, ◌*◌, ◌^◌, IfOk, IfErr, OnOk, IfSome, IfNone, false};
+ghost use Rattle.std.specs.Prelude.{◌≡◌, ◌<◌, ◌≤◌, ◌*◌, ◌^◌, IfOk, IfErr, OnErr, OnOk, IfSome, IfNone, false};
 ghost use Rattle.std.specs.Io.KnownBytes.{IsAtEnd, Keeps};
 ghost use Rattle.piper.specs.Ends.{IsEnded};
 ghost use Rattle.piper.specs.Opened.{FreshReadEnd, FreshWriteEnd};
 ghost use Rattle.piper_transfer.specs.Taken.{StaysTaken};
 ghost use Rattle.piper_transfer.specs.Threads.{HasTwoThreads, IsLate, IsSpread};
-ghost use Rattle.piper_transfer.specs.Transfer.{Fed, IsDrained, IsOfDestination, IsOfMemory, IsOfSide, IsOfSource};
-ghost use Rattle.piper_transfer.specs.Transfer.{IsOpen, Poured, PouredAll, Transfers, WritesAll};
+ghost use Rattle.piper_transfer.specs.Transfer.{Closes, Fed, IsDrained, IsOfDestination, IsOfMemory, IsOfSide, IsOfSource};
+ghost use Rattle.piper_transfer.specs.Transfer.{IsOpen, IsTold, OutputHasFailed, Poured, PouredAll, Transfers, WritesAll};
 
-use crate::draining::{drain, drain_from};
+use crate::draining::{drain_from, drain_output};
 use crate::ends::{Destination, Source};
 use crate::error::TransferError;
 use crate::filling::fill_from;
+use crate::level::Level;
 use crate::meter::Meter;
+use crate::naming::{Naming, Unnamed};
 use crate::one_thread::{resume, take_turns};
 use crate::over::OutputOver;
 use crate::patience::flush_patiently;
@@ -20,7 +22,7 @@ use crate::start::{Start, grants_thread};
 use crate::turns::{Input, Output, Turns};
 use piper::{Writer, pipe};
 use std::alloc::AllocGlobal;
-use std::marker::Send;
+use std::marker::{Brand, Send};
 use std::random::RandomSource;
 use std::sync::Wait;
 use std::thread::{Threads, join_mut};
@@ -71,7 +73,7 @@ where
         (IsOfSide (S.fails source.new) (D.fails dest.new) (D.full dest.new)) }
     ensures threads { OnOk result IsSpread }
 {
-    let (mut input, mut output) = open(rt, sizes.capacity, sizes.level)?;
+    let (mut input, mut output) = open(rt, sizes)?;
     let chunk = sizes.chunk.min(sizes.capacity);
     let both = run_sides(rt, source, &mut input, &mut output, dest, chunk, meter);
     let (mut reader, mut writer) = (output.into_reader(), input.into_writer());
@@ -88,18 +90,17 @@ where
 }
 
 // A pipe, and turns for each of its ends.
-fn open<R>(rt: &R, capacity: usize, level: usize) -> Result<(Input, Output), TransferError>
+fn open<R>(rt: &R, sizes: Sizes) -> Result<(Input, Output), TransferError>
 where
     R: Wait + RandomSource + AllocGlobal + Clone + Drop,
-    requires { (0 < capacity) × (2 * capacity < 2 ^ 64) }
     ensures refused { IfErr result IsOfMemory }
     ensures ring { IfOk result (λ (input, output). input.writer.end.ring ≡ output.reader.end.ring) }
-    ensures input { IfOk result (λ (input, _). FreshWriteEnd capacity input.writer.end) }
-    ensures output { IfOk result (λ (_, output). FreshReadEnd capacity output.reader.end) }
+    ensures input { IfOk result (λ (input, _). FreshWriteEnd sizes.capacity input.writer.end) }
+    ensures output { IfOk result (λ (_, output). FreshReadEnd sizes.capacity output.reader.end) }
 {
     let input_turns = Turns::new(rt).map_err(TransferError::Turns)?;
     let output_turns = Turns::new(rt).map_err(TransferError::Turns)?;
-    let (reader, writer) = match pipe(rt.alloc(), capacity, 1) {
+    let (reader, writer) = match pipe(rt.alloc(), sizes.capacity, 1) {
         Ok(handles) => handles,
         Err(_) => return Err(TransferError::Memory),
     };
@@ -110,7 +111,7 @@ where
     let output = Output {
         turns: output_turns,
         reader,
-        level,
+        level: Level::of(sizes),
     };
     Ok((input, output))
 }
@@ -161,34 +162,39 @@ where
 {
     if !grants_thread(rt) {
         let (writer, reader) = (&mut input.writer, &mut output.reader);
-        return take_turns(rt, source, writer, reader, dest, chunk, output.level, meter);
+        let level = output.level.bytes();
+        return take_turns(rt, source, writer, reader, dest, chunk, level, meter);
     }
-    let (turns, writer) = (&input.turns, &mut input.writer);
-    match on_two_threads(rt, source, turns, writer, output, dest, chunk, meter) {
+    let (name, turns, writer) = (Unnamed::new(), &mut input.turns, &mut input.writer);
+    match on_two_threads::<R, S, D, Brand>(
+        rt, name, source, turns, writer, output, dest, chunk, meter,
+    ) {
         (Some(filled), Some(drained)) => drained.and(Ok(filled)),
         (Some(filled), None) => {
-            let over = OutputOver::new();
-            drain(rt, output, dest, chunk, meter.of_output(&over)).and(Ok(filled))
+            drain_output(rt, output, dest, chunk, &meter.output).and(Ok(filled))
         }
         (None, Some(Err(error))) => Err(error),
         // Nothing has failed, so the input is read all the same.
         (None, Some(Ok(()))) => {
             let (writer, reader) = (&mut input.writer, &mut output.reader);
-            resume(rt, source, writer, reader, dest, chunk, output.level, meter)
+            let level = output.level.bytes();
+            resume(rt, source, writer, reader, dest, chunk, level, meter)
         }
         (None, None) => {
             let (writer, reader) = (&mut input.writer, &mut output.reader);
-            resume(rt, source, writer, reader, dest, chunk, output.level, meter)
+            let level = output.level.bytes();
+            resume(rt, source, writer, reader, dest, chunk, level, meter)
         }
     }
 }
 
 // Runs both sides to their end, if the second thread begins. A side that was given up returns
 // `None`, and so does the one that reads where it was told to end.
-fn on_two_threads<R, S, D>(
+fn on_two_threads<R, S, D, N>(
     rt: &R,
+    name: Unnamed,
     source: &mut S,
-    turns: &Turns,
+    turns: &mut Turns,
     writer: &mut Writer,
     output: &mut Output,
     dest: &mut D,
@@ -202,6 +208,9 @@ where
     R: Wait + Threads + Clock + Clone + Drop + Send + Sync,
     S: Source + Send,
     D: Destination,
+    N: Naming + Send + Sync,
+    requires name { name.name.value ≡ N.name }
+    requires fails { OutputHasFailed D.fails D.full → N.failed }
     requires chunk { 0 < chunk }
     requires is_open { IsOpen writer.old.end }
     ensures fed { Fed (S.remaining source.old) (S.remaining source.new)
@@ -218,14 +227,19 @@ where
         (IsOfDestination (D.fails dest.new) (D.full dest.new))) }
     ensures drain_given_up { IfNone result.1
         ((output.new ≡ output.old) × (dest.new ≡ dest.old)) }
-    ensures begun { IfSome result.1 (λ _. HasTwoThreads) }
-    ensures drain_late { IfNone result.1 IsLate }
+    ensures input_closed { IfSome result.0 (λ r. Closes r writer.new.end) }
+    ensures told { IfSome result.1 (λ r. OnErr r (IsTold N.name)) }
+    ensures begun { IfSome result.1 (λ _. HasTwoThreads N.name) }
+    ensures drain_late { IfNone result.1 (IsLate N.name) }
 {
-    let (start, over) = (Start::new(), OutputOver::new());
+    let (over, start) = name.named::<N>();
+    let over = OutputOver::new(over);
+    let (start, mut second) = Start::new(start);
     let (begun, told) = (&start, &over);
+    let second = &mut second;
     join_mut(
         rt,
-        &mut || fill_from(rt, begun, turns, source, writer, chunk, meter, told),
+        &mut || fill_from(rt, begun, second, turns, source, writer, chunk, meter, told),
         &mut || drain_from(rt, begun, output, dest, chunk, meter, told),
     )
 }

@@ -1,45 +1,46 @@
 //! The side that writes the pipe's bytes to the output.
-ghost use Rattle.std.specs.Prelude.{◌≡◌, ◌<◌, ◌≤◌, ◌++◌, ℕ, List, length};
-ghost use Rattle.std.specs.Prelude.{Ok, OnOk, IfErr, IfSome, IfNone};
+ghost use Rattle.std.specs.Prelude.{◌≡◌, ◌<◌, ◌++◌, ◌-◌, ℕ, List, length};
+ghost use Rattle.std.specs.Prelude.{Ok, OnErr, OnOk, IfErr, IfOk, IfSome, IfNone};
 ghost use Rattle.futures.specs.Task.{IsArmed};
 ghost use Rattle.futures.specs.Poll.{IfReady, OnPending};
 ghost use Rattle.piper.specs.Drains.{StaysKnown};
 ghost use Rattle.piper.specs.Ends.{IsEnded};
-ghost use Rattle.piper.specs.ReaderCalls.{MayBeUnread};
 ghost use Rattle.piper_transfer.specs.Threads.{HasTwoThreads, IsLate};
-ghost use Rattle.piper_transfer.specs.Transfer.{IsLasting, IsOfDestination, Poured, PouredAll};
+ghost use Rattle.piper_transfer.specs.Transfer.{IsLasting, IsOfDestination, IsTold, OutputHasFailed, Poured, PouredAll};
+ghost use Rattle.piper_transfer.specs.Turns.{HasCounted, IsStill};
 
 use crate::ends::Destination;
 use crate::error::{TransferError, no_waker};
-use crate::meter::{Meter, OutputMeter};
-use crate::over::{InputTold, OutputOver};
+use crate::level::{Level, Reached};
+use crate::meter::{Meter, OfOutput, Side};
+use crate::naming::Naming;
+use crate::over::OutputOver;
 use crate::patience::write_patiently;
 use crate::start::Start;
-use crate::turns::{Output, Turns};
+use crate::turns::{Output, Still, Turns, end};
 use futures::task::{Context, Poll};
 use piper::Reader;
+use std::io;
 use std::sync::Wait;
-use std::time::{Clock, Duration};
-use std::{io, thread};
-
-/// How many milliseconds it is from one look at how full the pipe is to the next.
-const LEVEL_PAUSE: u64 = 2;
+use std::time::Clock;
 
 /// Empties the pipe as `drain` does, once the other side has begun. Where that one has not, it is
 /// given up; then the answer is `None` and nothing was done.
-pub(crate) fn drain_from<R, D>(
+pub(crate) fn drain_from<R, D, N>(
     rt: &R,
-    start: &Start,
+    start: &Start<N>,
     output: &mut Output,
     dest: &mut D,
     chunk: usize,
     meter: &Meter,
-    over: &OutputOver,
+    over: &OutputOver<N>,
 ) -> Option<Result<(), TransferError>>
 where
     R: Wait + Clock,
     D: Destination,
+    N: Naming,
     requires chunk { 0 < chunk }
+    requires fails { OutputHasFailed D.fails D.full → N.failed }
     ensures poured { Poured D.contents D.took dest.old dest.new
         output.old.reader.end output.new.reader.end }
     ensures all { IfSome result (λ r. OnOk r (PouredAll D.contents D.took dest.old dest.new
@@ -49,79 +50,100 @@ where
         (IsOfDestination (D.fails dest.new) (D.full dest.new))) }
     ensures given_up { IfNone result
         ((output.new ≡ output.old) × (dest.new ≡ dest.old)) }
-    ensures begun { IfSome result (λ _. HasTwoThreads) }
-    ensures late { IfNone result IsLate }
+    ensures told { IfSome result (λ r. OnErr r (IsTold N.name)) }
+    ensures begun { IfSome result (λ _. HasTwoThreads N.name) }
+    ensures late { IfNone result (IsLate N.name) }
 {
     if !start.wait(rt) {
         return None;
     }
-    Some(drain(rt, output, dest, chunk, meter.of_output(over)))
+    Some(drain(rt, output, dest, chunk, &meter.output, over))
 }
 
 /// Writes the pipe's bytes to the output, at most `chunk` at a time, up to the pipe's end.
 ///
 /// Where that fails, the other side is told to end: bytes that it publishes until then stay in the
 /// pipe or are dropped.
-pub(crate) fn drain<R, D>(
+fn drain<R, D, N>(
     rt: &R,
     output: &mut Output,
     dest: &mut D,
     chunk: usize,
-    meter: OutputMeter<'_>,
+    meter: &Side<OfOutput>,
+    over: &OutputOver<N>,
 ) -> Result<(), TransferError>
 where
     R: Wait + Clock,
     D: Destination,
+    N: Naming,
     requires chunk { 0 < chunk }
+    requires fails { OutputHasFailed D.fails D.full → N.failed }
     ensures poured { Poured D.contents D.took dest.old dest.new
         output.old.reader.end output.new.reader.end }
     ensures all { OnOk result (PouredAll D.contents D.took dest.old dest.new
         output.old.reader.end output.new.reader.end) }
     ensures ended { OnOk result (IsEnded output.new.reader.end) }
     ensures reported { IfErr result (IsOfDestination (D.fails dest.new) (D.full dest.new)) }
+    ensures told { OnErr result (IsTold N.name) }
 {
-    let ended = drain_in_turns(
-        rt,
-        &output.turns,
-        output.level,
-        &mut output.reader,
-        dest,
-        chunk,
-        meter,
-    );
+    let ended = drain_output(rt, output, dest, chunk, meter);
     if let Err(error) = &ended {
-        give_up(&mut output.reader, dest, error, meter);
+        give_up(&mut output.reader, dest, error, over);
     }
     ended
 }
 
+/// Writes the pipe's bytes to the output as `drain` does, where the other side has ended.
+pub(crate) fn drain_output<R, D>(
+    rt: &R,
+    output: &mut Output,
+    dest: &mut D,
+    chunk: usize,
+    meter: &Side<OfOutput>,
+) -> Result<(), TransferError>
+where
+    R: Wait + Clock,
+    D: Destination,
+    requires chunk { 0 < chunk }
+    ensures poured { PouredAll D.contents D.took dest.old dest.new
+        output.old.reader.end output.new.reader.end }
+    ensures ended { OnOk result (IsEnded output.new.reader.end) }
+    ensures reported { IfErr result (IsOfDestination (D.fails dest.new) (D.full dest.new)) }
+{
+    let first = output.turns.first();
+    let (turns, reader) = (&output.turns, &mut output.reader);
+    drain_in_turns(rt, turns, first, &output.level, reader, dest, chunk, meter)
+}
+
 // Tells the other side to end, since this one failed so, and makes room: it wakes if it waits for
 // some.
-fn give_up<D: Destination>(
+fn give_up<D: Destination, N: Naming>(
     reader: &mut Reader,
-    dest: &D,
-    error: &TransferError,
-    meter: OutputMeter<'_>,
-) -> InputTold
-    requires failed { IsOfDestination (D.fails dest.now) (D.full dest.now) error.now }
+    _dest: &D,
+    _error: &TransferError,
+    over: &OutputOver<N>,
+)
+    requires failed { IsOfDestination (D.fails _dest.now) (D.full _dest.now) _error.now }
+    requires fails { OutputHasFailed D.fails D.full → N.failed }
+    ensures told { IsTold N.name }
     ensures taken { (lost : List ℕ) × (reader.new.end.taken ≡ reader.old.end.taken ++ lost) }
     ensures ring { reader.new.end.ring ≡ reader.old.end.ring }
     ensures capacity { reader.new.end.capacity ≡ reader.old.end.capacity }
 {
-    let told = meter.over.end_output(dest, error);
+    over.end_output();
     let known = reader.peek_buf().len();
     reader.consume(known);
-    told
 }
 
 fn drain_in_turns<R, D>(
     rt: &R,
     turns: &Turns,
-    level: usize,
+    first: Still,
+    level: &Level,
     reader: &mut Reader,
     dest: &mut D,
     chunk: usize,
-    meter: OutputMeter<'_>,
+    meter: &Side<OfOutput>,
 ) -> Result<(), TransferError>
 where
     R: Wait + Clock,
@@ -132,35 +154,17 @@ where
     ensures ended { OnOk result (IsEnded reader.new.end) }
     ensures reported { IfErr result (IsOfDestination (D.fails dest.new) (D.full dest.new)) }
 {
+    let mut still = first;
     for _ in rt.forever() {
-        meter.side.begin_wait(rt);
-        let mut cx = turns.next(rt).map_err(TransferError::Turns)?;
-        await_level(rt, reader, level);
-        meter.side.end_wait(rt);
-        let turn = drain_turn(rt, &mut cx, reader, dest, chunk, meter);
-        cx.end(&turn);
+        meter.begin_wait(rt);
+        let mut cx = turns.next(rt, still).map_err(TransferError::Turns)?;
+        let reached = level.wait(rt, reader);
+        meter.end_wait(rt);
+        let turn = drain_turn(rt, &mut cx, reader, reached, dest, chunk, meter);
+        still = end(cx, &turn);
         if let Poll::Ready(ended) = turn {
             return ended;
         }
-    }
-    unreachable!()
-}
-
-// Waits until the pipe holds so many bytes, and returns how many it holds; or until it is closed.
-fn await_level<R>(rt: &R, reader: &Reader, level: usize) -> Option<usize>
-where
-    R: Wait + Clock,
-    ensures { IfSome result (λ held. (level ≤ held) × MayBeUnread reader.now held) }
-{
-    for _ in rt.forever() {
-        let held = reader.len();
-        if level <= held {
-            return Some(held);
-        }
-        if reader.is_closed() {
-            return None;
-        }
-        thread::sleep(rt, Duration::from_millis(LEVEL_PAUSE));
     }
     unreachable!()
 }
@@ -170,9 +174,10 @@ fn drain_turn<R, D>(
     rt: &R,
     cx: &mut Context<'_>,
     reader: &mut Reader,
+    _reached: Reached,
     dest: &mut D,
     chunk: usize,
-    meter: OutputMeter<'_>,
+    meter: &Side<OfOutput>,
 ) -> Poll<Result<(), TransferError>>
 where
     R: Wait + Clock,
@@ -184,6 +189,7 @@ where
     ensures reported { IfReady result (λ r. IfErr r
         (IsOfDestination (D.fails dest.new) (D.full dest.new))) }
     ensures armed { OnPending result (IsArmed cx.new) }
+    ensures still { OnPending result (IsStill cx.new) }
 {
     for _ in rt.forever() {
         let looked = match reader.poll(cx) {
@@ -208,7 +214,7 @@ pub(crate) fn write_some<R, D>(
     reader: &mut Reader,
     dest: &mut D,
     chunk: usize,
-    meter: OutputMeter<'_>,
+    meter: &Side<OfOutput>,
 ) -> Result<(), TransferError>
 where
     R: Wait + Clock,
@@ -219,11 +225,13 @@ where
         reader.old.end reader.new.end }
     ensures known { StaysKnown reader.old.end reader.new.end }
     ensures reported { IfErr result (IsOfDestination (D.fails dest.new) (D.full dest.new)) }
+    ensures counted { OnOk result
+        (HasCounted (length reader.new.end.taken - length reader.old.end.taken)) }
 {
     match write_chunk(rt, reader, dest, chunk) {
         Ok(0) => Err(TransferError::Full),
         Ok(count) => {
-            meter.side.add_bytes(count);
+            meter.add_bytes(count);
             Ok(())
         }
         Err(error) => Err(TransferError::Write(error)),
@@ -240,6 +248,8 @@ where
     ensures poured { PouredAll D.contents D.took dest.old dest.new
         reader.old.end reader.new.end }
     ensures known { StaysKnown reader.old.end reader.new.end }
+    ensures count { IfOk result (λ n.
+        n ≡ length reader.new.end.taken - length reader.old.end.taken) }
     ensures full { result ≡ Ok 0 → D.full dest.new }
     ensures error { IfErr result (D.fails dest.new) }
     ensures lasting { IfErr result IsLasting }

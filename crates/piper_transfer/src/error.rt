@@ -40,7 +40,7 @@ pub(crate) enum Stop {
 pub(crate) fn no_waker(_cx: &Context<'_>) -> TransferError
     requires lacks { _cx.now.lacks_waker ≡ true }
     ensures value { result ≡ TransferError.Memory }
-    ensures refused { WakerIsRefused }
+    ensures refused { WakerIsRefused _cx.now }
 {
     TransferError::Memory
 }

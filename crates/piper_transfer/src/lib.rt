@@ -7,12 +7,16 @@ mod draining;
 mod ends;
 mod error;
 mod filling;
+mod level;
 mod meter;
+mod naming;
 mod one_thread;
 mod over;
 mod patience;
 mod piece;
+mod rounds;
 mod size;
+mod sleeping;
 mod start;
 mod turns;
 

@@ -1,5 +1,6 @@
 //! What a transfer has done so far, for a thread that watches it.
-use crate::over::OutputOver;
+ghost use Rattle.piper_transfer.specs.Turns.{HasCounted};
+
 use std::sync::atomic::{AtomicU64, Ordering};
 use std::sync::{Mutex, Wait};
 use std::time::{Clock, Duration, Instant};
@@ -37,22 +38,6 @@ pub struct Meter {
     pub output: Side<OfOutput>,
 }
 
-/// What the side that reads the input gets: the meter of what it has done itself, and whether the
-/// output is over.
-#[derive(Clone, Copy)]
-pub(crate) struct InputMeter<'a> {
-    pub(crate) side: &'a Side<OfInput>,
-    pub(crate) over: &'a OutputOver,
-}
-
-/// What the side that writes the output gets: the meter of what it has done itself, and how it
-/// tells the other one to end.
-#[derive(Clone, Copy)]
-pub(crate) struct OutputMeter<'a> {
-    pub(crate) side: &'a Side<OfOutput>,
-    pub(crate) over: &'a OutputOver,
-}
-
 impl<K> Side<K> {
     fn new(_kind: K) -> Side<K> {
         Side {
@@ -77,7 +62,10 @@ impl<K> Side<K> {
         Duration::from_nanos(ended.saturating_add(under_way))
     }
 
-    pub(crate) fn add_bytes(&self, count: usize) {
+    /// So many more bytes were moved.
+    pub(crate) fn add_bytes(&self, count: usize)
+        ensures { HasCounted count }
+    {
         self.bytes.fetch_add(count as u64, Ordering::SeqCst);
     }
 
@@ -111,22 +99,6 @@ impl Meter {
         Meter {
             input: Side::new(OfInput(())),
             output: Side::new(OfOutput(())),
-        }
-    }
-
-    /// What the side gets that reads the input of the transfer whose output this is.
-    pub(crate) fn of_input<'a>(&'a self, over: &'a OutputOver) -> InputMeter<'a> {
-        InputMeter {
-            side: &self.input,
-            over,
-        }
-    }
-
-    /// What the side gets that writes it.
-    pub(crate) fn of_output<'a>(&'a self, over: &'a OutputOver) -> OutputMeter<'a> {
-        OutputMeter {
-            side: &self.output,
-            over,
         }
     }
 }

@@ -9,8 +9,8 @@ use crate::draining::write_some;
 use crate::ends::{Destination, Source};
 use crate::error::{Stop, TransferError};
 use crate::filling::read_chunk;
-use crate::meter::{Meter, OutputMeter};
-use crate::over::OutputOver;
+use crate::meter::{Meter, OfOutput, Side};
+use crate::over::Nobody;
 use crate::piece::Piece;
 use piper::{Reader, Writer};
 use std::sync::Wait;
@@ -46,12 +46,11 @@ where
     ensures input_told { IfOk result (λ filled. IfErr filled (IsOfSource (S.fails source.new))) }
     ensures reported { IfErr result (IsOfDestination (D.fails dest.new) (D.full dest.new)) }
 {
-    let over = OutputOver::new();
-    let (input, output) = (meter.of_input(&over), meter.of_output(&over));
+    let (input, output) = (&meter.input, &meter.output);
     let mut piece = Piece::first(chunk);
     for _ in rt.forever() {
         pass_on_from(rt, writer, reader, dest, chunk, level, output)?;
-        match read_chunk(rt, source, writer, piece.len(), input) {
+        match read_chunk(rt, source, writer, piece.len(), input, &Nobody) {
             Ok(0) => {
                 pass_on(rt, writer, reader, dest, chunk, output)?;
                 return Ok(Ok(()));
@@ -61,8 +60,7 @@ where
                 pass_on(rt, writer, reader, dest, chunk, output)?;
                 return Ok(Err(error));
             }
-            // Nobody tells it on one thread.
-            Err(Stop::Told) => {}
+            Err(Stop::Told) => unreachable!(),
         }
     }
     unreachable!()
@@ -109,7 +107,7 @@ fn pass_on_from<R, D>(
     dest: &mut D,
     chunk: usize,
     level: usize,
-    meter: OutputMeter<'_>,
+    meter: &Side<OfOutput>,
 ) -> Result<(), TransferError>
 where
     R: Wait + Clock,
@@ -137,7 +135,7 @@ fn pass_on<R, D>(
     reader: &mut Reader,
     dest: &mut D,
     chunk: usize,
-    meter: OutputMeter<'_>,
+    meter: &Side<OfOutput>,
 ) -> Result<(), TransferError>
 where
     R: Wait + Clock,
@@ -164,7 +162,7 @@ fn drain_known<R, D>(
     reader: &mut Reader,
     dest: &mut D,
     chunk: usize,
-    meter: OutputMeter<'_>,
+    meter: &Side<OfOutput>,
 ) -> Result<(), TransferError>
 where
     R: Wait + Clock,

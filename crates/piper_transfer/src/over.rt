@@ -1,51 +1,73 @@
 //! How the side that reads the input hears that the output is over.
-ghost use Rattle.std.specs.Prelude.{◌<◌, IsTrue};
-ghost use Rattle.piper_transfer.specs.Transfer.{IsOfDestination, OutputHasFailed};
+ghost use Rattle.std.specs.Prelude.{◌<◌, IsTrue, false};
+ghost use Rattle.piper_transfer.specs.Transfer.{IsTold};
 
-use crate::ends::Destination;
-use crate::error::TransferError;
+use crate::naming::{Named, Naming};
+use std::marker::PhantomData;
 use std::sync::atomic::{AtomicIn, Ordering, Rule};
 
+/// What the side that reads the input asks before each read.
+pub(crate) trait Hears {
+    // what it says where it is over
+    ghost failed: { Type 0 };
+
+    /// Whether the output takes no more, so that no more is to be read.
+    fn is_over(&self) -> bool
+        ensures { IsTrue result → failed };
+}
+
 /// What the word of an `OutputOver` says: more than 0 only once the output's side has failed.
-struct OnceFailed;
-
-impl Rule for OnceFailed {
-    ghost invariant = { λ word. 0 < word → OutputHasFailed };
+struct OnceFailed<N> {
+    _of: PhantomData<N>,
 }
 
-/// Whether the output of one transfer takes no more, since its side has failed. Each transfer has
-/// one of its own.
+impl<N: Naming> Rule for OnceFailed<N> {
+    ghost use Rattle.std.specs.Prelude.{◌<◌};
+
+    ghost invariant = { λ word. 0 < word → N.failed };
+}
+
+/// Whether the output of one transfer takes no more, since its side has failed. Each transfer on
+/// two threads has one of its own.
 #[derive(Drop)]
-pub(crate) struct OutputOver {
-    word: AtomicIn<OnceFailed>,
+pub(crate) struct OutputOver<N: Naming> {
+    word: AtomicIn<OnceFailed<N>>,
+    _named: Named<N>,
 }
 
-/// Evidence that the input's side was told to end.
-#[derive(Clone, Copy)]
-pub(crate) struct InputTold(());
-
-impl OutputOver {
+impl<N: Naming> OutputOver<N> {
     /// The output is not over.
-    pub(crate) fn new() -> OutputOver {
+    pub(crate) fn new(named: Named<N>) -> OutputOver<N> {
         OutputOver {
             word: AtomicIn::new(0),
+            _named: named,
         }
     }
 
-    /// Whether the output takes no more, so that no more is to be read.
-    pub(crate) fn is_over(&self) -> bool
-        ensures { IsTrue result → OutputHasFailed }
-    {
-        0 < self.word.load(Ordering::SeqCst)
-    }
-
-    /// Tells the input's side to end, since the output failed so.
-    pub(crate) fn end_output<D>(&self, _dest: &D, _error: &TransferError) -> InputTold
-    where
-        D: Destination,
-        requires failed { IsOfDestination (D.fails _dest.now) (D.full _dest.now) _error.now }
+    /// Tells the input's side to end, since the output's side has failed.
+    pub(crate) fn end_output(&self)
+        requires failed { N.failed }
+        ensures told { IsTold N.name }
     {
         self.word.store(1, Ordering::SeqCst);
-        InputTold(())
+    }
+}
+
+impl<N: Naming> Hears for OutputOver<N> {
+    ghost failed = { N.failed };
+
+    fn is_over(&self) -> bool {
+        0 < self.word.load(Ordering::SeqCst)
+    }
+}
+
+/// On one thread nobody ends the input before it has ended.
+pub(crate) struct Nobody;
+
+impl Hears for Nobody {
+    ghost failed = { ⊥ };
+
+    fn is_over(&self) -> bool {
+        false
     }
 }

@@ -5,15 +5,18 @@ ghost use Rattle.std.specs.Duration.{as_nanos};
 ghost use Rattle.std.specs.Io.{ReadsAtMost, WritesAtMost};
 ghost use Rattle.std.specs.Io.KnownBytes.{Keeps, ReadConsumes, WriteAppends};
 ghost use Rattle.piper_transfer.specs.Taken.{StaysTaken, WriteTakes};
-ghost use Rattle.piper_transfer.specs.Transfer.{IsLasting, IsPassing, OutputHasFailed, StopsSource};
+ghost use Rattle.piper_transfer.specs.Transfer.{IsLasting, IsPassing, StopsSource};
+ghost use Rattle.piper_transfer.specs.Turns.{HasSleptFor};
+ghost use Rattle.std.specs.IoError.{error_kind};
 
 use crate::ends::{Destination, Source};
 use crate::error::{Stop, TransferError};
-use crate::meter::InputMeter;
+use crate::over::Hears;
+use crate::sleeping::sleep;
+use std::io;
 use std::io::ErrorKind;
 use std::sync::Wait;
 use std::time::{Clock, Duration};
-use std::{io, thread};
 
 /// How many milliseconds the first sleep takes. Each later one takes twice as long as the one
 /// before.
@@ -49,11 +52,13 @@ impl Patience {
     fn outlasts(&mut self, clock: &impl Clock, error: &io::Error) -> bool
         ensures lasting { result ≡ false → IsLasting error.now }
         ensures passing { IsTrue result → IsPassing error.now }
+        ensures slept { IsTrue result → error_kind error.now ≡ ErrorKind.WouldBlock →
+            HasSleptFor 1_000_000 }
     {
         match error.kind() {
             ErrorKind::Interrupted => true,
             ErrorKind::WouldBlock => {
-                thread::sleep(clock, self.pause());
+                sleep(clock, self.pause());
                 self.milliseconds = self.milliseconds.saturating_mul(2).min(LONGEST);
                 true
             }
@@ -71,18 +76,19 @@ pub fn is_lasting(error: &io::Error) -> bool
 
 /// Reads once. A read that gave nothing for now is made again, unless the output has ended
 /// meanwhile.
-pub(crate) fn read_patiently<R, S>(
+pub(crate) fn read_patiently<R, S, H>(
     rt: &R,
     source: &mut S,
     buf: &mut [u8],
-    meter: InputMeter<'_>,
+    over: &H,
 ) -> Result<usize, Stop>
 where
     R: Wait + Clock,
     S: Source,
+    H: Hears,
     ensures bound { ReadsAtMost result buf.new }
     ensures bytes { ReadConsumes (S.remaining source.old) (S.remaining source.new) result buf.new }
-    ensures stopped { IfErr result (StopsSource (S.fails source.new) OutputHasFailed) }
+    ensures stopped { IfErr result (StopsSource (S.fails source.new) H.failed) }
 {
     let mut patience = Patience::new();
     for _ in rt.forever() {
@@ -91,7 +97,7 @@ where
             Err(error) if !patience.outlasts(rt, &error) => {
                 return Err(Stop::Failed(TransferError::Read(error)));
             }
-            Err(_) if meter.over.is_over() => return Err(Stop::Told),
+            Err(_) if over.is_over() => return Err(Stop::Told),
             Err(_) => {}
         }
     }

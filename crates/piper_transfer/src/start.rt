@@ -1,18 +1,18 @@
 //! Whether a second thread has begun.
-ghost use Rattle.std.specs.Prelude.{◌≡◌, IsTrue, false};
+ghost use Rattle.std.specs.Prelude.{◌≡◌, ◌+◌, ◌<◌, IsTrue, false};
 ghost use Rattle.piper_transfer.specs.Threads.{HasTwoThreads, IsAsked, IsLate, Shows, shows_prop};
 
+use crate::naming::{Named, Naming};
+use crate::rounds::Rounds;
 use piper_protocol::reported::reported;
+use std::marker::PhantomData;
 use std::sync::{Condvar, Mutex, Wait};
 use std::thread::Threads;
-use std::time::{Clock, Duration};
+use std::time::Clock;
 use std::{io, thread};
 
-/// How many milliseconds one wait for a thread takes at most. One that begins at all mostly does so
-/// within one.
-const PATIENCE: u64 = 100;
-
-/// How many times it is waited for. A program that is stopped and goes on later uses up one.
+/// How many rounds the second thread is waited for. A program that is stopped and goes on later uses
+/// up one.
 const WAITS: u64 = 100;
 
 /// Whether the system grants a thread now. It asks for one, which ends at once.
@@ -35,10 +35,11 @@ enum Stage {
 }
 
 /// That, and what it is evidence of.
-#[derive(Clone, Copy)]
-struct Found {
+#[derive(Drop)]
+struct Found<N: Naming> {
     stage: Stage,
-    ghost shown: { Shows stage } by { shows_prop stage },
+    _of: PhantomData<N>,
+    ghost shown: { Shows N.name stage } by { shows_prop N.name stage },
 }
 
 /// Says to the first thread whether the second one has begun, and to the second one whether it is
@@ -49,25 +50,34 @@ struct Found {
 /// ago. So neither may wait for the other before both have begun; and where one has not begun for
 /// ten seconds, neither does.
 #[derive(Drop)]
-pub(crate) struct Start {
-    found: Mutex<Found>,
+pub(crate) struct Start<N: Naming> {
+    found: Mutex<Found<N>>,
     changed: Condvar,
 }
 
-impl Start {
-    pub(crate) fn new() -> Start {
+/// The right to begin, which one thread alone has: so the one that waits is another.
+#[derive(Drop)]
+pub(crate) struct Second<N: Naming> {
+    _named: Named<N>,
+}
+
+impl<N: Naming> Start<N> {
+    /// The second thread has not begun. The right to begin is for it alone.
+    pub(crate) fn new(named: Named<N>) -> (Start<N>, Second<N>) {
         let waited = Found {
             stage: Stage::Waited,
+            _of: PhantomData,
         };
-        Start {
+        let start = Start {
             found: Mutex::new(waited),
             changed: Condvar::new(),
-        }
+        };
+        (start, Second { _named: named })
     }
 
     /// The second thread begins. Returns whether it was still waited for.
-    pub(crate) fn begin(&self, rt: &impl Wait) -> bool
-        ensures late { result ≡ false → IsLate }
+    pub(crate) fn begin(&self, rt: &impl Wait, _second: &mut Second<N>) -> bool
+        ensures late { result ≡ false → IsLate N.name }
     {
         let mut found = self.found.lock(rt);
         match found.stage {
@@ -75,6 +85,7 @@ impl Start {
             Stage::Waited | Stage::Begun => {
                 let begun = Found {
                     stage: Stage::Begun,
+                    _of: PhantomData,
                 };
                 *found = begun;
                 self.changed.notify_all();
@@ -86,26 +97,47 @@ impl Start {
     /// Waits for the second thread, and gives it up once the time is over. Returns whether it
     /// has begun.
     pub(crate) fn wait(&self, rt: &(impl Wait + Clock)) -> bool
-        ensures begun { IsTrue result → HasTwoThreads }
-        ensures late { result ≡ false → IsLate }
+        ensures begun { IsTrue result → HasTwoThreads N.name }
+        ensures late { result ≡ false → IsLate N.name }
     {
-        let pause = Duration::from_millis(PATIENCE);
+        let mut rounds = Rounds::none();
         for _ in 0..WAITS {
-            let held = self.found.lock(rt);
-            let (held, _) = self
-                .changed
-                .wait_timeout_while(rt, held, pause, |found| found.stage == Stage::Waited);
-            match held.stage {
-                Stage::Begun => return true,
-                Stage::Waited | Stage::GivenUp => {}
+            if self.wait_once(rt, &mut rounds) {
+                return true;
             }
         }
+        self.give_up(rt, &rounds)
+    }
+
+    // Waits one round.
+    fn wait_once(&self, rt: &(impl Wait + Clock), rounds: &mut Rounds) -> bool
+        requires few { rounds.old.count < 100 }
+        ensures begun { IsTrue result → HasTwoThreads N.name }
+        ensures counted { rounds.new.count ≡ rounds.old.count + 1 }
+    {
+        let held = self.found.lock(rt);
+        let held = rounds.wait(rt, &self.changed, held, |found| {
+            found.stage == Stage::Waited
+        });
+        match held.stage {
+            Stage::Begun => true,
+            Stage::Waited | Stage::GivenUp => false,
+        }
+    }
+
+    // Gives up the second thread after so many rounds, unless it has begun meanwhile.
+    fn give_up(&self, rt: &impl Wait, _rounds: &Rounds) -> bool
+        requires waited { _rounds.now.count ≡ 100 }
+        ensures begun { IsTrue result → HasTwoThreads N.name }
+        ensures late { result ≡ false → IsLate N.name }
+    {
         let mut held = self.found.lock(rt);
         match held.stage {
             Stage::Begun => true,
             Stage::Waited | Stage::GivenUp => {
                 let given_up = Found {
                     stage: Stage::GivenUp,
+                    _of: PhantomData,
                 };
                 *held = given_up;
                 false
