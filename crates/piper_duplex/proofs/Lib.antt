@@ -1,3 +1,4 @@
+pub mod EchoingAll
 mod LinesOut
 mod Talking
 mod WritingBack

@@ -1,5 +1,6 @@
 pub mod Client
 pub mod Crosswise
+pub mod EchoAll
 pub mod Echoes
 pub mod Failures
 pub mod OwnedEnds

@@ -1,6 +1,6 @@
 //! Want of memory, with what it is known by: a call was refused it; or the other thread, which
 //! gives up only for want of it, has ended before all came back.
-ghost use Rattle.std.specs.Prelude.{◌≡◌, IfErr, codes, true};
+ghost use Rattle.std.specs.Prelude.{◌≡◌, IfErr, IfOk, Ok, codes, true};
 ghost use Rattle.piper_duplex.specs.Failures.{FailsWith, IsLost, LacksMemory};
 
 use crate::engine::session::Ended;
@@ -11,7 +11,8 @@ use piper::io::{AsyncBufRead, AsyncWrite};
 /// Hands on what was asked for, or that it was refused. Only memory is asked for so, and what a
 /// thread needs to wait.
 pub(crate) fn wanted<T, E: Drop>(asked: Result<T, E>) -> Result<T, Ended>
-    ensures { IfErr result LacksMemory }
+    ensures granted { IfOk asked (λ granted. result ≡ Ok granted) }
+    ensures refused { IfErr result LacksMemory }
 {
     match asked {
         Ok(granted) => Ok(granted),

@@ -1,5 +1,7 @@
 //! What threads poll that sleep until they are woken.
-ghost use Rattle.std.specs.Prelude.{IfErr};
+ghost use Rattle.std.specs.Prelude.{◌<◌, length, IfErr, ⊤};
+ghost use Rattle.futures.specs.Poll.{IfReady, OnPending};
+ghost use Rattle.futures.specs.Task.{Covers, Keeps};
 ghost use Rattle.piper_lines.specs.LineReader.{reader_of};
 ghost use Rattle.piper_duplex.specs.Failures.{LacksMemory};
 
@@ -46,14 +48,33 @@ impl<R: AsyncBufRead + Drop, W: AsyncWrite + Drop> EchoAll<R, W> {
 }
 
 impl<R: AsyncBufRead + Drop, W: AsyncWrite + Drop> Future for EchoAll<R, W> {
-    ghost use Rattle.piper_duplex.specs.Echoes.{WaitsFor, left_of};
+    ghost use Rattle.piper_duplex.specs.EchoAll.{EchoesAll};
+    ghost use Rattle.piper_duplex.specs.Echoes.{EchoPends, WaitsFor, left_of};
 
     type Output = Result<Echoed, PipeError>;
+
+    ghost gives = { EchoesAll R.taken R.known R.saw R.ended R.fails W.sent W.saw W.fails };
 
     ghost needs = { λ future. WaitsFor (R.needs (reader_of future.lines)) (W.needs future.writer)
         (left_of future.echo) };
 
-    fn poll(&mut self, cx: &mut Context<'_>) -> Poll<Result<Echoed, PipeError>> {
+    fn poll(&mut self, cx: &mut Context<'_>) -> Poll<Result<Echoed, PipeError>>
+        ensures value { IfReady result
+            (EchoesAll R.taken R.known R.saw R.ended R.fails W.sent W.saw W.fails self.old) }
+        ensures again { OnPending result ⊤ }
+        ensures same { OnPending result ((x : _) →
+            EchoesAll R.taken R.known R.saw R.ended R.fails W.sent W.saw W.fails self.new x
+            → EchoesAll R.taken R.known R.saw R.ended R.fails W.sent W.saw W.fails self.old x) }
+        ensures registered { OnPending result (Covers cx.new
+            (WaitsFor (R.needs (reader_of self.new.lines)) (W.needs self.new.writer)
+            (left_of self.new.echo))) }
+        ensures waits { OnPending result (EchoPends R.known R.told R.waits
+            (reader_of self.new.lines) (W.waits self.new.writer cx.new)
+            (left_of self.new.echo) (W.saw self.old.writer)
+            (length (R.taken (reader_of self.old.lines))
+            < length (R.taken (reader_of self.new.lines))) cx.new) }
+        ensures kept { Keeps cx.old cx.new }
+    {
         self.echo
             .poll(cx, &mut self.lines, &mut self.writer, MOST_OF_A_LINE)
     }
