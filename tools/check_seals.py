@@ -101,6 +101,7 @@ SEALS = {
     "as_told": ("piper_transfer/specs/Transfer", ["piper_transfer/proofs/over/OutputOver/end_output"]),
     "as_begun": ("piper_transfer/specs/Threads", ["piper_transfer/proofs/start/Start/begin"]),
     "as_late": ("piper_transfer/specs/Threads", ["piper_transfer/proofs/start/Start/give_up"]),
+    "as_at_once": ("piper_transfer/specs/Threads", ["piper_transfer/proofs/threads/at_once"]),
     "as_slept": ("piper_transfer/specs/Turns", ["piper_transfer/proofs/sleeping/sleep"]),
     "as_counted": ("piper_transfer/specs/Turns", ["piper_transfer/proofs/meter/Side/add_bytes"]),
     "as_opened": ("pump_engine/specs/Files", ["pump_engine/proofs/files/open_so"]),

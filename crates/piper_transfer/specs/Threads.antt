@@ -1,7 +1,8 @@
 -- On how many threads a transfer runs.
-use Rattle.std.specs.Prelude.{◌≡◌, ◌⊎◌, ℕ, Bool, true, false, Ok, refl, ⊤}
+use Rattle.std.specs.Prelude.{◌≡◌, ◌⊎◌, ℕ, Bool, true, false, Option, Result, Ok, refl, ⊤}
 use Rattle.std.specs.declared.io.Error.{Error}
 use Rattle.piper_protocol.specs.Reported.{HasFailed, IsOfStd}
+use Rattle.piper_transfer.specs.declared.error.TransferError.{TransferError}
 use Rattle.piper_transfer.specs.declared.rounds.Rounds.{Rounds}
 use Rattle.piper_transfer.specs.declared.start.Stage.{Stage}
 use Rattle.piper_transfer.specs.declared.start.Stage.TheVariants.{Waited, Begun, GivenUp}
@@ -25,13 +26,29 @@ pub as_late : (name : ℕ) (rounds : Rounds) → rounds.count ≡ 100 → IsLate
 unfolding IsLate
 as_late name rounds waited = tt
 
+-- two calls were made at once, each on a thread of its own if the system grants one, and returned
+-- these. It is sealed: no proof looks into it, and only that of `at_once` uses the lemma below
+pub WereAtOnce : {A B : Type 0} → A → B → Type 0
+WereAtOnce a b = ⊤
+
+pub as_at_once : {A B : Type 0} (a : A) (b : B) → WereAtOnce a b
+unfolding WereAtOnce
+as_at_once a b = tt
+
+-- how a side of a transfer ended, unless it was given up, or told to end
+abbrev pub SideEnds : Type 0
+SideEnds = Option (Result Unit TransferError)
+
 -- the system refused a second thread, or that one did not begin in time
 abbrev pub LacksThread : Type 0
 LacksThread = ((error : Error) × HasFailed error) ⊎ ((name : ℕ) × IsLate name)
 
--- each side has a thread of its own, or there is no second one
+-- both sides ran at once, each on a thread of its own, or there is no second one
 abbrev pub IsSpread : Type 0
-IsSpread = ((name : ℕ) × HasTwoThreads name) ⊎ LacksThread
+IsSpread =
+    ((name : ℕ) × HasTwoThreads name
+    × ((filled : SideEnds) × (drained : SideEnds) × WereAtOnce filled drained))
+    ⊎ LacksThread
 
 -- a thread was asked for, and granted or refused
 abbrev pub IsAsked : Bool → Type 0

@@ -4,7 +4,7 @@ ghost use Rattle.std.specs.Io.KnownBytes.{IsAtEnd, Keeps};
 ghost use Rattle.piper.specs.Ends.{IsEnded};
 ghost use Rattle.piper.specs.Opened.{FreshReadEnd, FreshWriteEnd};
 ghost use Rattle.piper_transfer.specs.Taken.{StaysTaken};
-ghost use Rattle.piper_transfer.specs.Threads.{HasTwoThreads, IsLate, IsSpread};
+ghost use Rattle.piper_transfer.specs.Threads.{HasTwoThreads, IsLate, IsSpread, WereAtOnce};
 ghost use Rattle.piper_transfer.specs.Transfer.{Closes, Fed, IsDrained, IsOfDestination, IsOfMemory, IsOfSide, IsOfSource};
 ghost use Rattle.piper_transfer.specs.Transfer.{IsOpen, IsTold, OutputHasFailed, Poured, PouredAll, Transfers, WritesAll};
 
@@ -19,13 +19,14 @@ use crate::one_thread::{resume, take_turns};
 use crate::over::OutputOver;
 use crate::patience::flush_patiently;
 use crate::start::{Start, grants_thread};
+use crate::threads::at_once;
 use crate::turns::{Input, Output, Turns};
 use piper::{Writer, pipe};
 use std::alloc::AllocGlobal;
 use std::marker::{Brand, Send};
 use std::random::RandomSource;
 use std::sync::Wait;
-use std::thread::{Threads, join_mut};
+use std::thread::Threads;
 use std::time::Clock;
 
 /// How many bytes a transfer holds and moves at a time.
@@ -231,13 +232,14 @@ where
     ensures told { IfSome result.1 (λ r. OnErr r (IsTold N.name)) }
     ensures begun { IfSome result.1 (λ _. HasTwoThreads N.name) }
     ensures drain_late { IfNone result.1 (IsLate N.name) }
+    ensures at_once { WereAtOnce result.0 result.1 }
 {
     let (over, start) = name.named::<N>();
     let over = OutputOver::new(over);
     let (start, mut second) = Start::new(start);
     let (begun, told) = (&start, &over);
     let second = &mut second;
-    join_mut(
+    at_once(
         rt,
         &mut || fill_from(rt, begun, second, turns, source, writer, chunk, meter, told),
         &mut || drain_from(rt, begun, output, dest, chunk, meter, told),

@@ -18,6 +18,7 @@ mod rounds;
 mod size;
 mod sleeping;
 mod start;
+mod threads;
 mod turns;
 
 pub use both_sides::{Sizes, transfer};

@@ -7,8 +7,8 @@ use Rattle.std.proofs.Crossing.{crosses}
 use Rattle.piper_transfer.proofs.Crossing.{writer_lent, start_lent, second_lent, turns_lent, meter_lent, over_lent, count_lent, handle_lent, source_lent}
 use Rattle.piper_transfer.proofs.both_sides.on_two_threads.Goals as goal
 
-pub join_mut-requires-send-F : goal.join_mut-requires-send-F
-join_mut-requires-send-F g c κs within =
+pub at_once-requires-send-F : goal.at_once-requires-send-F
+at_once-requires-send-F g c κs within =
     let send_S : IsSend (param 1 g.row.S) = c.type_bounds.send-S in
     let sync_R : IsSync (param 0 g.row.R) = c.type_bounds.sync-R in
     let row : RattleType = param 3 g.row.N in
