@@ -98,6 +98,7 @@ SEALS = {
     ),
     "as_waker_refused": ("piper_transfer/specs/Transfer", ["piper_transfer/proofs/error/no_waker"]),
     "as_cannot_wait": ("piper_transfer/specs/Transfer", ["piper_transfer/proofs/turns/of_queue"]),
+    "as_asked": ("piper_transfer/specs/Transfer", ["piper_transfer/proofs/over/OutputOverHears/is_over"]),
     "as_told": ("piper_transfer/specs/Transfer", ["piper_transfer/proofs/over/OutputOver/end_output"]),
     "as_begun": ("piper_transfer/specs/Threads", ["piper_transfer/proofs/start/Start/begin"]),
     "as_late": ("piper_transfer/specs/Threads", ["piper_transfer/proofs/start/Start/give_up"]),

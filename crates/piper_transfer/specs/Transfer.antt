@@ -135,6 +135,15 @@ pub as_told : (name : ℕ) → IsTold name
 unfolding IsTold
 as_told name = tt
 
+-- the input's side asked whether the output of the transfer of this name is over. It is sealed: no
+-- proof looks into it, and only that of `OutputOver::is_over` uses the lemma below
+pub WasAsked : ℕ → Type 0
+WasAsked name = ⊤
+
+pub as_asked : (name : ℕ) → WasAsked name
+unfolding WasAsked
+as_asked name = tt
+
 -- the side that reads the input left the pipe open, since the output's side has failed, as this
 -- says, or since it saw the pipe closed, which it had not closed
 abbrev pub IsLeft : Type 0 → WriteView → Type 0

@@ -4,7 +4,7 @@ ghost use Rattle.std.specs.Io.KnownBytes.{IsAtEnd};
 ghost use Rattle.futures.specs.Task.{IsArmed};
 ghost use Rattle.futures.specs.Poll.{IfReady, OnPending};
 ghost use Rattle.piper_transfer.specs.Threads.{IsLate};
-ghost use Rattle.piper_transfer.specs.Transfer.{Closes, Fed, IsLeft, IsOfSource, IsOpen, StopsClosed, StopsSource};
+ghost use Rattle.piper_transfer.specs.Transfer.{Closes, Fed, IsLeft, IsOfSource, IsOpen, StopsClosed, StopsSource, WasAsked};
 ghost use Rattle.piper_transfer.specs.Turns.{HasCounted, IsStill};
 
 use crate::ends::Source;
@@ -45,6 +45,7 @@ where
     ensures ended { IfSome result (λ r. OnOk r (IsAtEnd (S.remaining source.new))) }
     ensures reported { IfSome result (λ r. IfErr r (IsOfSource (S.fails source.new))) }
     ensures closed { IfSome result (λ r. Closes r writer.new.end) }
+    ensures asked { IfSome result (λ r. OnOk r (WasAsked N.name)) }
     ensures left { IfNone result (writer.new.end.shut ≡ false) }
     ensures told { IfNone result
         (IsLate N.name ⊎ (N.failed ⊎ (writer.new.end.saw ≡ true))) }
@@ -84,6 +85,7 @@ where
     ensures stopped { IfErr result
         (StopsSource (S.fails source.new) (IsLeft H.failed writer.new.end)) }
     ensures closed { StopsClosed result writer.new.end }
+    ensures asked { OnOk result H.asked }
 {
     let mut still = first;
     for _ in rt.forever() {
@@ -125,6 +127,7 @@ where
     ensures stopped { IfReady result (λ r. IfErr r
         (StopsSource (S.fails source.new) (IsLeft H.failed writer.new.end))) }
     ensures closed { IfReady result (λ r. StopsClosed r writer.new.end) }
+    ensures asked { H.asked }
     ensures is_open { OnPending result (IsOpen writer.new.end) }
     ensures armed { OnPending result (IsArmed cx.new) }
     ensures still { OnPending result (IsStill cx.new) }

@@ -11,9 +11,13 @@ pub(crate) trait Hears {
     // what it says where it is over
     ghost failed: { Type 0 };
 
+    // it was asked
+    ghost asked: { Type 0 };
+
     /// Whether the output takes no more, so that no more is to be read.
     fn is_over(&self) -> bool
-        ensures { IsTrue result → failed };
+        ensures over { IsTrue result → failed }
+        ensures asked { asked };
 }
 
 /// What the word of an `OutputOver` says: more than 0 only once the output's side has failed.
@@ -54,7 +58,11 @@ impl<N: Naming> OutputOver<N> {
 }
 
 impl<N: Naming> Hears for OutputOver<N> {
+    ghost use Rattle.piper_transfer.specs.Transfer.{WasAsked};
+
     ghost failed = { N.failed };
+
+    ghost asked = { WasAsked N.name };
 
     fn is_over(&self) -> bool {
         0 < self.word.load(Ordering::SeqCst)
@@ -65,7 +73,11 @@ impl<N: Naming> Hears for OutputOver<N> {
 pub(crate) struct Nobody;
 
 impl Hears for Nobody {
+    ghost use Rattle.std.specs.Prelude.{⊤};
+
     ghost failed = { ⊥ };
+
+    ghost asked = { ⊤ };
 
     fn is_over(&self) -> bool {
         false
