@@ -1,5 +1,5 @@
 -- The echo of all lines, poll by poll.
-use Rattle.std.proofs.Common.{◌≡◌, ℕ, ◌<◌, ◌⊎◌, Bool, true, List, [], ◌++◌, length, Result, Ok, Err, refl, sym, subst, ap, ◌∙◌, append_assoc}
+use Rattle.std.proofs.Common.{◌≡◌, ℕ, ◌<◌, ◌⊎◌, Bool, true, List, [], ◌++◌, length, Result, Ok, Err, refl, subst, append_assoc}
 use Rattle.std.specs.List.{concat}
 use Rattle.futures.specs.Poll.{IfReady, OnPending}
 use Rattle.futures.specs.declared.task.Poll.{Poll}
@@ -13,7 +13,7 @@ use Rattle.piper_lines.specs.Refusals.{IsReported, LacksRoom}
 use Rattle.piper_lines.specs.Sends.{Sends}
 use Rattle.piper_lines.proofs.Moving.{moves_then}
 use Rattle.piper_lines.proofs.Sending.{sends_front, sends_then}
-use Rattle.piper_duplex.specs.EchoAll.{EchoesAll, EndsEcho, Returns}
+use Rattle.piper_duplex.specs.EchoAll.{EchoesAll, Returns}
 use Rattle.piper_duplex.specs.Echoes.{Echoes, left_of}
 use Rattle.piper_duplex.specs.declared.engine.echoing.Echoed.{Echoed}
 use Rattle.piper_duplex.specs.declared.engine.echoing.Echoed.TheVariants.{ToTheEnd, UntilClosed}

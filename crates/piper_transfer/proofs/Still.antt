@@ -1,5 +1,5 @@
 -- Turns that are pending and still, and ends that close the pipe.
-use Rattle.std.proofs.Common.{◌≡◌, ◌⊎◌, Err, inl, inr, true}
+use Rattle.std.proofs.Common.{◌≡◌, Err, inl, inr, true}
 use Rattle.futures.specs.declared.task.context.Context.{Context}
 use Rattle.piper.specs.Waits.{ReaderPends, WriterPends}
 use Rattle.piper.specs.WriteView.{WriteView}

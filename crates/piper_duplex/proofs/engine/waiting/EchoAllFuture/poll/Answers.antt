@@ -1,5 +1,4 @@
 -- What a poll of the echo gives, and what it hands on to the next one.
-use Rattle.piper_duplex.specs.declared.engine.waiting.EchoAll.{EchoAll}
 use Rattle.piper_duplex.proofs.EchoingAll.{gives_later, gives_now, returns_pieces}
 use Rattle.piper_duplex.proofs.engine.waiting.EchoAllFuture.poll.Goals as goal
 
