@@ -68,6 +68,9 @@ SEALS = {
         [f"piper/proofs/handles/{handle}/leave" for handle in ("Reader", "Writer")],
     ),
     "just_registered": ("piper/specs/Contexts", ["piper/proofs/slots/Slots/grant"]),
+    "as_read": ("piper/specs/StdEnds", ["piper/proofs/like/std_ends/std_read"]),
+    "as_written": ("piper/specs/StdEnds", ["piper/proofs/like/std_ends/std_write"]),
+    "as_flushed": ("piper/specs/StdEnds", ["piper/proofs/like/std_ends/std_flush"]),
     "as_left": (
         "piper_c/specs/Leaving",
         [f"piper_c/proofs/halves/{half}/leave" for half in ("ReadHalf", "WriteHalf")],
