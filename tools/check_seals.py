@@ -108,14 +108,30 @@ SEALS = {
     "as_at_once": ("piper_transfer/specs/Threads", ["piper_transfer/proofs/threads/at_once"]),
     "as_slept": ("piper_transfer/specs/Turns", ["piper_transfer/proofs/sleeping/sleep"]),
     "as_counted": ("piper_transfer/specs/Turns", ["piper_transfer/proofs/meter/Side/add_bytes"]),
-    "as_opened": ("pump_engine/specs/Files", ["pump_engine/proofs/files/open_so"]),
+    "as_words": ("pump_engine/specs/CommandLine", ["pump_engine/proofs/command_line/CommandLine/read"]),
+    "as_failed_so": (
+        "pump_engine/specs/Outcome",
+        ["pump_engine/proofs/ends/Outlet/open", "pump_engine/proofs/ends/OutletDestination/write"],
+    ),
+    "as_returned": ("pump_engine/specs/Outcome", ["pump_engine/proofs/running/run"]),
+    "as_opened": ("pump_engine/specs/Handle", ["pump_engine/proofs/handle/Handle/open"]),
+    "as_answer_of": ("pump_engine/specs/Handle", ["pump_engine/proofs/handle/Handle/metadata"]),
+    "as_answer_for": ("pump_engine/specs/Handle", ["pump_engine/proofs/handle/ask"]),
+    "as_resized": ("pump_engine/specs/Handle", ["pump_engine/proofs/handle/Handle/resize"]),
+    "as_empty": ("pump_engine/specs/Handle", ["pump_engine/proofs/handle/Handle/metadata"]),
+    "as_all_open": ("pump_engine/specs/AllOpen", ["pump_engine/proofs/outputs/all_open"]),
+    "as_said": ("pump_engine/specs/Saying", ["pump_engine/proofs/saying/say"]),
     "as_lost": ("piper_duplex/specs/Failures", ["piper_duplex/proofs/engine/lost/lost"]),
     "as_had_seen": ("piper_futures/specs/Threads", ["piper_futures/proofs/threads/closed_by_writer"]),
 }
 
 
-# It looks into sealed definitions, and says only that two pieces of such evidence are the same.
-GIVES_NONE = {("piper_transfer/specs/Threads", "shows_prop")}
+# These look into sealed definitions, and say only that two pieces of such evidence are the same.
+GIVES_NONE = {
+    ("piper_transfer/specs/Threads", "shows_prop"),
+    ("pump_engine/specs/AllOpen", "are_all_open_prop"),
+    ("pump_engine/specs/CommandLine", "are_words_prop"),
+}
 
 # The crates that hold memory which two threads share, or which belongs to C.
 UNSAFE = {"lent_space", "piper_c", "piper_ring", "token_cell"}

@@ -3,15 +3,13 @@
 #![tactic(auto)]
 
 use piper_transfer::Plain;
-use pump_engine::arguments::words;
-use pump_engine::ended::Ended;
+use pump_engine::command_line::CommandLine;
 use pump_engine::files::SystemFile;
 use pump_engine::outcome::Outcome;
 use pump_engine::program::{Nothing, STACK, run_and_report};
 use pump_engine::streams::{Streams, is_open};
 use std::io::IsTerminal;
 use std::process::ExitCode;
-use std::sync::Arc;
 use std::thread::Builder;
 
 fn main(rt: HostRuntime) -> ExitCode {
@@ -25,24 +23,22 @@ fn main(rt: HostRuntime) -> ExitCode {
         Ok(fillers) => fillers,
         Err(ended) => return ended.report(&rt),
     };
-    let words = match words(&rt) {
-        Ok(words) => words,
+    let line = match CommandLine::read(&rt) {
+        Ok(line) => line,
         Err(ended) => return ended.report(&rt),
     };
-    let Ok(outcome) = Arc::new(rt.alloc(), Outcome::new()) else {
-        return Ended::Memory.report(&rt);
-    };
-    let Ok(theirs) = Arc::try_clone(&outcome) else {
-        return Ended::Memory.report(&rt);
+    let (outcome, theirs) = match Outcome::for_two(rt.alloc()) {
+        Ok(outcomes) => outcomes,
+        Err(ended) => return ended.report(&rt),
     };
     let (source, dest) = (Plain(rt.stdin()), Plain(rt.stdout()));
     let started = Builder::new()
         .stack_size(STACK)
         .spawn_with(&rt, Nothing, move || {
-            run_and_report::<_, SystemFile, _, _>(rt, words, source, dest, streams, theirs)
+            run_and_report::<_, SystemFile, _, _>(rt, line, source, dest, streams, theirs)
         });
     if let Err(refused) = started {
         (refused.value)();
     }
-    outcome.wait(&rt).report(&rt)
+    outcome.report(&rt)
 }

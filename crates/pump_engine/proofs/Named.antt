@@ -1,8 +1,10 @@
 -- What is read and written once files are opened.
 use Rattle.std.proofs.Common.{◌≡◌, ◌≢◌, refl, sym, subst, ℕ, List, Option, Some, None, codes}
-use Rattle.std.specs.Prelude.{IfSome}
+use Rattle.std.specs.Prelude.{IfSome, Result}
+use Rattle.std.specs.declared.fs.Metadata.{Metadata}
+use Rattle.std.specs.declared.io.Error.{Error}
 use Rattle.pump_engine.specs.Ended.{IsEarly, IsOfOption, IsUnopened}
-use Rattle.pump_engine.specs.Opening.{IsDrainOf, IsInletOf, OpensNamed, ReadsNamed, WritesNamed}
+use Rattle.pump_engine.specs.Opening.{IsDrainOf, IsFoundInlet, IsFoundOpen, IsInletOf, IsInputFound, OpensNamed, ReadsNamed, WritesNamed}
 use Rattle.pump_engine.specs.declared.ended.Ended.{Ended}
 use Rattle.pump_engine.specs.declared.ended.Ended.TheVariants as ended
 use Rattle.pump_engine.specs.declared.ends.Drain.{Drain}
@@ -57,3 +59,20 @@ pub early_option : (option text : List ℕ) (e : Ended) → IsOfOption option te
 early_option option text (ended.Value word) told = tt
 early_option option text ended.Memory told = told
 early_option option text other told = absurd told
+
+-- what was found of the input is that of the file that was opened, or of standard input
+pub input_found : {S F : Type 0} (name : F → Option (List ℕ)) (answers : F → Result Metadata Error → Type 0) (word : Option (List ℕ)) (opened : Option F) (found : Found)
+    (new : Inlet S F) → OpensNamed name word opened → IsFoundOpen answers opened found → IfSome opened (λ f. new ≡ inlet.File f)
+    → IsInputFound answers word found new
+input_found name answers word None found new opens is some = record {
+  unnamed = λ _. is;
+  named = λ t p q. absurd (opens.file t p q);
+}
+input_found {S} {F} name answers None (Some f) found new opens is some = record {
+  unnamed = λ _. let no : Some f ≡ None = opens.left_out refl in cc;
+  named = λ t p q. subst (λ (i : Inlet S F). IsFoundInlet answers found i) (sym some) is;
+}
+input_found {S} {F} name answers (Some u) (Some f) found new opens is some = record {
+  unnamed = λ of_stream. let no : Some f ≡ None = opens.dash u refl (of_stream u refl) in cc;
+  named = λ t p q. subst (λ (i : Inlet S F). IsFoundInlet answers found i) (sym some) is;
+}

@@ -5,6 +5,7 @@ use Rattle.std.specs.List.{All}
 use Rattle.std.specs.declared.io.Error.{Error}
 use Rattle.sha2.specs.Sha256.{sha256}
 use Rattle.pump_engine.specs.Copies.{HavePassed, IsCopy, IsSumOf, name_of_sum, names_of}
+use Rattle.pump_engine.specs.Lines.{IsSumSaid}
 use Rattle.pump_engine.specs.declared.copies.Copies.{Copies}
 
 -- nothing of them has changed
@@ -15,5 +16,5 @@ passed_same name written fails old new parts m tees sum digest passed = record {
   parts_are = (λ i. name_of_sum (sum i) ∷ names_of (tees i).items) ∙ passed.parts_are;
   tees = subst (λ ts. All (IsCopy name written fails m) ts.items) (sym tees) passed.tees;
   sum = subst (IsSumOf m) (sym sum) passed.sum;
-  digest = subst (λ d. IfSome d (λ digest. digest ≡ sha256 m)) (sym digest) passed.digest;
+  digest = subst (λ d. IfSome d (λ digest. (digest ≡ sha256 m) × IsSumSaid digest)) (sym digest) passed.digest;
 }

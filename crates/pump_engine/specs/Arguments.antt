@@ -1,5 +1,5 @@
 -- What the words on the command line ask for. `clap` says what each argument then has.
-use Rattle.std.specs.Prelude.{◌≡◌, ◌<◌, ◌≤◌, ℕ, true, false, List, [], ◌∷◌, Option, Some, None, IsSome, IsNone, codes, map, option_map, unwrap_or}
+use Rattle.std.specs.Prelude.{◌≡◌, ◌<◌, ◌≤◌, ℕ, true, false, List, [], ◌∷◌, Option, Some, IsSome, IsNone, codes, map, option_map, unwrap_or}
 use Rattle.clap.specs.Words.{AddsArg, App, Row, Rule, Text, all_of, app_of, fault_of, first_of, one_of, matches_of, takes}
 use Rattle.clap.specs.Simple.{on_top, with_rule}
 use denote.Ref.{Bor}
@@ -141,11 +141,6 @@ pub record AreTaken (words : List Text) : Type 0 where
   pub taken : takes pump_command words ≡ true
   pub capacity : IsSize (capacity_text words)
   pub chunk : IsSize (chunk_text words)
-
--- the words name no file that replaces the input or the output
-pub record NamesNoFile (words : List Text) : Type 0 where
-  pub input : first_of (codes "input") (said_by words) ≡ None
-  pub output : first_of (codes "output") (said_by words) ≡ None
 
 -- progress is reported where these words ask for it, and are not to be quiet; else it is not
 pub record ShowsAsAsked {W : Type 0} (words : List Text) (reported : Option W) : Type 0 where

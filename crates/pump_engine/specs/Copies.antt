@@ -7,10 +7,11 @@ use Rattle.sha2.specs.Sha256.{sha256}
 use Rattle.sha2.specs.declared.Sha256.{Sha256}
 use Rattle.pump_engine.specs.Asked.{AreAskedBy}
 use Rattle.pump_engine.specs.Files.{IsJust}
+use Rattle.pump_engine.specs.Lines.{IsLossSaid, IsSumSaid}
 use Rattle.pump_engine.specs.declared.sinks.Sink.{Sink}
 use Rattle.pump_engine.specs.declared.copies.Copies.{Copies}
 
--- a file that has its name, and got just these bytes; or of which a call has failed
+-- a file that has its name, and got just these bytes; or of which a call has failed, which was said
 pub record IsCopy {F : Type 0}
     (name written : F → Option (List ℕ))
     (fails : F → Error → Type 0)
@@ -18,7 +19,7 @@ pub record IsCopy {F : Type 0}
     (sink : Sink F) : Type 0 where
   pub named : IsJust (name sink.file) (string_bytes sink.name)
   pub got : sink.has_failed ≡ false → IsJust (written sink.file) passed
-  pub failed : sink.has_failed ≡ true → (e : Error) × fails sink.file e
+  pub failed : sink.has_failed ≡ true → (e : Error) × fails sink.file e × IsLossSaid (string_bytes sink.name) e
 
 -- the names of a sink and of its file stay, and whether it was given up
 pub record SameSink {F : Type 0} (name : F → Option (List ℕ)) (old new : Sink F) : Type 0 where
@@ -61,7 +62,7 @@ pub record HavePassed {R F : Type 0}
   pub parts_are : parts_of copies ≡ parts
   pub tees : All (IsCopy name written fails passed) copies.tees.items
   pub sum : IsSumOf passed copies.sum
-  pub digest : IfSome copies.digest (λ digest. digest ≡ sha256 passed)
+  pub digest : IfSome copies.digest (λ digest. (digest ≡ sha256 passed) × IsSumSaid digest)
 
 -- all that these words ask for got just these bytes, unless it failed
 pub record HaveGot {R F : Type 0}

@@ -1,11 +1,11 @@
 -- What is known of a file.
-use Rattle.std.specs.Prelude.{◌≡◌, ◌⊎◌, ℕ, true, List, Option, IfOk, IfSome, Result, Ok, Err, MatchResult, take, ⊤}
-use Rattle.std.specs.Fs.{IsFile, file_type, metadata_len, new_options, with_create_new, with_read, with_write}
-use Rattle.std.specs.declared.fs.File.{File}
+use Rattle.std.specs.Prelude.{◌≡◌, ◌⊎◌, ℕ, true, List, Option, IfSome, IsErr, Result, MatchResult, take}
+use Rattle.std.specs.Fs.{new_options, with_create_new, with_read, with_write}
 use Rattle.std.specs.declared.fs.Metadata.{Metadata}
 use Rattle.std.specs.declared.fs.options.OpenOptions.{OpenOptions}
 use Rattle.std.specs.declared.io.Error.{Error}
 use Rattle.std.specs.Io.KnownBytes.{append_known}
+use Rattle.pump_engine.specs.Handle.{HasLength, IsAnswerOf, IsOpenedBy}
 use Rattle.pump_engine.specs.declared.files.SystemFile.{SystemFile}
 use Rattle.pump_engine.specs.declared.files.SystemFile.TheVariants as system
 
@@ -16,20 +16,6 @@ IsJust known bs = IfSome known (λ xs. xs ≡ bs)
 -- `write(buf)` wrote n bytes at `Ok(n)`, and none at `Err`
 abbrev pub Writes : {E : Type 0} → Option (List ℕ) → Option (List ℕ) → Result ℕ E → List ℕ → Type 0
 Writes old new r buf = MatchResult r (λ n. new ≡ append_known old (take n buf)) (λ _. new ≡ old)
-
--- it is no regular file, or one that holds no byte
-abbrev pub HoldsNothing : Metadata → Type 0
-HoldsNothing m = (¬ IsFile (file_type m)) ⊎ (metadata_len m ≡ 0)
-
--- the system opened this file by its name, in this way. It is sealed: no proof looks into it, and
--- only that of `open_so` uses the lemma below
-pub IsOpenedBy : OpenOptions → List ℕ → File → Type 0
-IsOpenedBy how name file = ⊤
-
-pub as_opened : (how : OpenOptions) (name : List ℕ) (returned : Result File Error) → IfOk returned (IsOpenedBy how name)
-unfolding IsOpenedBy
-as_opened how name (Ok file) = tt
-as_opened how name (Err e) = tt
 
 -- ways to open a file: to be read; to be written, as it is; to be written, where there is none
 abbrev pub reads : OpenOptions
@@ -44,4 +30,15 @@ makes = with_create_new (with_write new_options true) true
 -- the system opened it in this way
 abbrev pub IsFileOf : OpenOptions → SystemFile → Type 0
 IsFileOf how system.Named = ⊥
-IsFileOf how (system.Open file) = (name : List ℕ) × IsOpenedBy how name file
+IsFileOf how (system.Open handle) = (name : List ℕ) × IsOpenedBy how name handle
+
+-- the system cut off what it held, or said that it holds nothing, or made it
+abbrev pub IsCutFile : SystemFile → Type 0
+IsCutFile system.Named = ⊥
+IsCutFile (system.Open handle) =
+    HasLength 0 handle ⊎ ((name : List ℕ) × IsOpenedBy makes name handle)
+
+-- the system was asked of it, and answered so; where it is not open, that is reported
+abbrev pub IsAnswerOfFile : SystemFile → Result Metadata Error → Type 0
+IsAnswerOfFile system.Named answer = IsErr answer
+IsAnswerOfFile (system.Open handle) answer = IsAnswerOf handle answer

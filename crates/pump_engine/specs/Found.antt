@@ -18,8 +18,9 @@ TellsFound (Ok m) found =
     × (¬ IsFile (file_type m) → IsOther found)
 TellsFound (Err e) found = IsOther found
 
--- the system was asked, and this is what its answer tells
-pub record IsFound (found : Found) : Type 0 where
+-- this is what such an answer of the system tells
+pub record IsFound (IsAsked : Result Metadata Error → Type 0) (found : Found) : Type 0 where
   pub read : Result Metadata Error
   pub is_read : IsOfStd read
+  pub is_asked : IsAsked read
   pub tells : TellsFound read found

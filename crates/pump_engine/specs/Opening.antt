@@ -1,16 +1,20 @@
 -- The files that are opened: by which names, that no two are one file, and that none holds bytes.
-use Rattle.std.specs.Prelude.{◌≡◌, ◌≢◌, ◌≤◌, ℕ, List, Option, Some, None, IsSomeAnd, Result, Ok, Err, codes, map}
+use Rattle.std.specs.Prelude.{◌≡◌, ◌≢◌, ◌≤◌, ℕ, List, ◌∷◌, Option, Some, None, IsSomeAnd, Result, Ok, Err, codes, map, string_bytes}
 use Rattle.std.specs.Fs.{IsFile, file_type, metadata_len}
 use Rattle.std.specs.List.{All, AllPairs, filter_map}
 use Rattle.std.specs.declared.fs.Metadata.{Metadata}
 use Rattle.std.specs.declared.io.Error.{Error}
 use Rattle.pump_engine.specs.Files.{IsJust}
+use Rattle.pump_engine.specs.Found.{IsFound}
+use Rattle.pump_engine.specs.Handle.{IsAnswerFor}
+use Rattle.pump_engine.specs.Plan.{IsOfStream}
 use Rattle.pump_engine.specs.declared.ends.Drain.{Drain}
 use Rattle.pump_engine.specs.declared.ends.Drain.TheVariants as drain
 use Rattle.pump_engine.specs.declared.ends.Inlet.{Inlet}
 use Rattle.pump_engine.specs.declared.ends.Inlet.TheVariants as inlet
 use Rattle.pump_engine.specs.declared.found.FileId.{FileId}
 use Rattle.pump_engine.specs.declared.found.Found.{Found}
+use Rattle.pump_engine.specs.declared.opening.Places.{Places}
 use Rattle.pump_engine.specs.declared.sinks.Sink.{Sink}
 
 -- the file that this word names was opened, which has that name, where its name is known; none was
@@ -67,6 +71,45 @@ AreDistinct ids = AllPairs (λ x y. x ≢ y) ids
 -- no two of them are one regular file
 abbrev pub AreApart : List Found → Type 0
 AreApart founds = AreDistinct (ids_of founds)
+
+-- this was found where the system was asked of the file that this word names; or, where that is left
+-- out or is `-`, of the standard stream that has this name
+pub record IsFoundAt (word : Option (List ℕ)) (stream : List ℕ) (found : Found) : Type 0 where
+  pub unnamed : IsOfStream word → IsFound (IsAnswerFor stream) found
+  pub named : (t : List ℕ) → word ≡ Some t → t ≢ codes "-" → IsFound (IsAnswerFor t) found
+
+-- the same where the file was opened, of the open file
+abbrev pub IsFoundOpen : {F : Type 0} → (F → Result Metadata Error → Type 0) → Option F → Found → Type 0
+IsFoundOpen answers None found = IsFound (IsAnswerFor (codes "/proc/self/fd/0")) found
+IsFoundOpen answers (Some file) found = IsFound (answers file) found
+
+abbrev pub IsFoundInlet : {S F : Type 0} → (F → Result Metadata Error → Type 0) → Found → Inlet S F → Type 0
+IsFoundInlet answers found (inlet.Standard s) = ⊥
+IsFoundInlet answers found (inlet.File file) = IsFound (answers file) found
+
+pub record IsInputFound {S F : Type 0}
+    (answers : F → Result Metadata Error → Type 0)
+    (word : Option (List ℕ))
+    (found : Found)
+    (input : Inlet S F) : Type 0 where
+  pub unnamed : IsOfStream word → IsFound (IsAnswerFor (codes "/proc/self/fd/0")) found
+  pub named : (t : List ℕ) → word ≡ Some t → t ≢ codes "-" → IsFoundInlet answers found input
+
+-- this was found where the system was asked of the file by its name
+abbrev pub IsFoundByName : {F : Type 0} → Sink F → Type 0
+IsFoundByName sink = IsFound (IsAnswerFor (string_bytes sink.name)) sink.found
+
+-- the system was asked of all that is read and written, and no two of them are one regular file
+pub record AreFoundApart {S F : Type 0}
+    (answers : F → Result Metadata Error → Type 0)
+    (input_word output_word : Option (List ℕ))
+    (places : Places)
+    (input : Inlet S F)
+    (tees : List (Sink F)) : Type 0 where
+  pub read : IsInputFound answers input_word places.input input
+  pub written : IsFoundAt output_word (codes "/proc/self/fd/1") places.output
+  pub copied : All IsFoundByName tees
+  pub apart : AreApart (places.input ∷ places.output ∷ founds_of tees)
 
 -- the file that this word names held no byte where it was opened, and neither did these
 pub record HoldNothing {F : Type 0}

@@ -6,12 +6,11 @@ use Rattle.pump_engine.specs.declared.arguments.Texts.{Texts}
 use Rattle.pump_engine.specs.declared.ended.Ended.{Ended}
 use Rattle.pump_engine.specs.declared.ended.Ended.TheVariants as ended
 use Rattle.pump_engine.specs.declared.streams.Streams.{Streams}
-use denote.Ref.{Bor}
 
 -- the number that the text writes, if there is a text
-abbrev pub IsRead : (List ℕ → ℕ → Type 0) → Option (Bor (List ℕ)) → Option ℕ → Type 0
+abbrev pub IsRead : (List ℕ → ℕ → Type 0) → Option (List ℕ) → Option ℕ → Type 0
 IsRead Writes None number = number ≡ None
-IsRead Writes (Some text) number = IsSomeAnd number (Writes text.now)
+IsRead Writes (Some text) number = IsSomeAnd number (Writes text)
 
 -- the word is left out or is `-`
 abbrev pub IsOfStream : Option (List ℕ) → Type 0

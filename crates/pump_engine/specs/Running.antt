@@ -5,14 +5,9 @@ use Rattle.piper_transfer.specs.Transfer.{WritesAll}
 use Rattle.piper_transfer.specs.declared.error.TransferError.{TransferError}
 use Rattle.pump_engine.specs.Ended.{EndsAs, IsEarly, IsUnopened}
 use Rattle.pump_engine.specs.declared.ended.Ended.{Ended}
-
--- it ended before the first byte
-pub record StopsEarly
-    (input_old input_new output_old output_new : Option (List ℕ))
-    (e : Ended) : Type 0 where
-  pub early : IsEarly e
-  pub input : input_new ≡ input_old
-  pub output : output_new ≡ output_old
+use Rattle.pump_engine.specs.declared.ends.Inlet.{Inlet}
+use Rattle.pump_engine.specs.declared.ends.Outlet.{Outlet}
+use Rattle.pump_engine.specs.declared.running.Plan.{Plan}
 
 -- it ended as a transfer did, unless a file that is to be written could not be opened
 abbrev pub EndsSo : Type 0 → Result Unit TransferError → Bool → Ended → Type 0
@@ -44,10 +39,20 @@ pub record EndsWithTransfer
   pub opened : OnOk answer is_open
   pub reported : IfErr answer IsFailed
 
--- one of the two
-abbrev pub Runs : (input_old input_new output_old output_new : Option (List ℕ))
-    → (List ℕ → Type 0) → (is_flushed is_open is_refused : Type 0) → (TransferError → Type 0) → Bool
-    → Ended → Type 0
-Runs i j o p IsCopied is_flushed is_open is_refused IsFailed has_copy_failed e =
-    StopsEarly i j o p e
-    ⊎ EndsWithTransfer i j o p IsCopied is_flushed is_open is_refused IsFailed has_copy_failed e
+-- it ended before the first byte, and left what is read and written as it was; or by a plan, from what
+-- was opened by that
+pub record FollowsPlan {R S D F : Type 0}
+    (IsPlanned : Plan → Inlet S F → Outlet R D F → Type 0)
+    (Ends : Inlet S F → Outlet R D F → Type 0) : Type 0 where
+  pub plan : Plan
+  pub input : Inlet S F
+  pub output : Outlet R D F
+  pub planned : IsPlanned plan input output
+  pub ends : Ends input output
+
+abbrev pub Runs : {R S D F : Type 0}
+    → (Plan → Inlet S F → Outlet R D F → Type 0)
+    → (i j : Inlet S F) → (o p : Outlet R D F)
+    → (Inlet S F → Outlet R D F → Type 0) → Ended → Type 0
+Runs IsPlanned i j o p Ends ended =
+    (IsEarly ended × (j ≡ i) × (p.drain ≡ o.drain)) ⊎ FollowsPlan IsPlanned Ends

@@ -1,20 +1,13 @@
-//! The words on the command line.
-ghost use Rattle.std.specs.Prelude.{◌≡◌, ◌≢◌, [], IfOk, IfErr, codes, map, option_map, string_bytes, unwrap_or};
-ghost use Rattle.std.specs.IoError.{error_kind};
-ghost use Rattle.std.specs.declared.io.ErrorKind.TheVariants.{InvalidData};
+//! What the words on the command line ask for.
+ghost use Rattle.std.specs.Prelude.{◌≡◌, [], IfOk, IfErr, codes, map, option_map, string_bytes, unwrap_or};
 ghost use Rattle.clap.specs.Words.{app_of, first_value, found_of, kind_of, matched_of, raw_values};
 ghost use Rattle.pump_engine.specs.Arguments.{AddsRule, file_rule, flag_rule, pump_command, size_rule, tee_rule};
 ghost use Rattle.pump_engine.specs.Arguments.{AskFor, AreTaken, IsSize, IsSizeOf, text_or};
-ghost use Rattle.pump_engine.specs.Ended.{IsOfWords};
 
-use crate::ended::Ended;
 use clap::error::ErrorKind;
 use clap::{Arg, ArgAction, ArgMatches, Command, Error};
-use piper_protocol::reported::reported;
 use piper_transfer::{Sizes, parse_size};
-use std::alloc::{AllocGlobal, Global};
-use std::env::Env;
-use std::{env, io};
+use std::alloc::Global;
 
 /// What the exit statuses mean, for the help.
 const STATUSES: &str = "Exit status:
@@ -50,26 +43,6 @@ pub struct Texts<'a> {
     pub start_at: Option<&'a str>,
     pub input: Option<&'a str>,
     pub output: Option<&'a str>,
-}
-
-/// The words on the command line, of which the first is the program's name.
-pub fn words<R: Env + AllocGlobal>(rt: &R) -> Result<Vec<String>, Ended>
-    ensures ended { IfErr result IsOfWords }
-{
-    let words = reported(env::args(rt).map_err(ended_by))?;
-    reported(words.collect(rt.alloc()).map_err(|_| Ended::Memory))
-}
-
-// How the program ends where the words can't be read.
-fn ended_by(error: io::Error) -> Ended
-    ensures text { error_kind error ≡ InvalidData → result ≡ Ended.NotText }
-    ensures memory { error_kind error ≢ InvalidData → result ≡ Ended.Memory }
-{
-    if error.kind() == io::ErrorKind::InvalidData {
-        Ended::NotText
-    } else {
-        Ended::Memory
-    }
 }
 
 /// What the words ask for. Those that ask for something are refused only for want of memory.

@@ -8,7 +8,9 @@ ghost use Rattle.sha2.specs.Sha256.{sha256};
 
 use crate::files::NamedFile;
 use crate::pace::Pace;
+use crate::saying::say;
 use crate::sinks::Sink;
+use crate::sums::SumLine;
 use sha2::{Digest, Sha256};
 use std::time::Clock;
 
@@ -68,7 +70,7 @@ impl<'a, R: Clock + Eprint, F: NamedFile> Copies<'a, R, F> {
         ensures tees { self.new.tees ≡ self.old.tees }
     {
         if let Some(digest) = digest_of(&self.sum) {
-            print_sum(self.rt, digest, name);
+            say(self.rt, SumLine { digest, name });
             self.digest = Some(digest);
         }
     }
@@ -147,27 +149,6 @@ fn keep_pace(clock: &impl Clock, pace: &mut Option<Pace>, count: usize)
     if let Some(pace) = pace {
         pace.keep(clock, count);
     }
-}
-
-// In the form of `sha256sum`, which a backslash begins where the name has one or an end of line.
-fn print_sum(rt: &impl Eprint, digest: [u8; 32], name: &str) {
-    // There is nowhere left to say that standard error is closed.
-    if name.chars().any(|c| matches!(c, '\\' | '\n' | '\r')) {
-        let _ = eprint!(rt; "\\");
-    }
-    for byte in &digest {
-        let _ = eprint!(rt; "{:02x}", byte);
-    }
-    let _ = eprint!(rt; "  ");
-    for c in name.chars() {
-        let _ = match c {
-            '\\' => eprint!(rt; "\\\\"),
-            '\n' => eprint!(rt; "\\n"),
-            '\r' => eprint!(rt; "\\r"),
-            c => eprint!(rt; "{c}"),
-        };
-    }
-    let _ = eprintln!(rt; "");
 }
 
 // Gives each file these bytes.

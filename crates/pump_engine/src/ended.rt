@@ -3,13 +3,16 @@ ghost use Rattle.std.specs.Prelude.{◌≡◌, ◌⊎◌, IfErr, IfOk, string_by
 ghost use Rattle.std.specs.Process.{exit_status};
 ghost use Rattle.piper_protocol.specs.Reported.{HasFailed};
 ghost use Rattle.pump_engine.specs.Ended.{EndsAs, HasStatus, IsOfOption, IsOfRange, IsShown, IsUnopened};
+ghost use Rattle.pump_engine.specs.Why.{IsWhySaid, SaysWhy, why_text};
 
+use crate::saying::say;
 use piper_protocol::reported::reported;
 use piper_transfer::TransferError;
 use std::alloc::{AllocGlobal, Global};
-use std::io;
+use std::fmt::{Display, Formatter};
 use std::io::ErrorKind;
 use std::process::ExitCode;
+use std::{fmt, io};
 
 /// A file that can't be opened, and why.
 #[derive(Drop)]
@@ -125,62 +128,76 @@ impl Ended {
 
     /// Says why it ended early, if it did, and returns the status.
     pub fn report(&self, rt: &(impl Print + Eprint + AllocGlobal)) -> ExitCode
-        ensures { HasStatus self.now (exit_status result) }
+        ensures status { HasStatus self.now (exit_status result) }
+        ensures said { SaysWhy self.now }
     {
-        let (reported, status) = match self {
-            Ended::Moved => (Ok(()), 0),
-            Ended::Words(error) => report_words(rt, error),
-            Ended::NotText => (eprintln!(rt; "piper_pump: an argument is not UTF-8"), 2),
-            Ended::Value(word) => (report_not_taken(rt, word), 2),
-            Ended::NoInput(file) => (
-                eprintln!(rt; "piper_pump: {}: {}", file.name, file.error),
-                3,
-            ),
-            Ended::NoOutput(file) => {
-                (
-                    eprintln!(rt; "piper_pump: {}: {}", file.name, file.error),
-                    4,
-                )
-            }
-            Ended::Input(error) => (eprintln!(rt; "piper_pump: {error}"), 3),
-            Ended::Output(error) => (eprintln!(rt; "piper_pump: {error}"), 4),
-            Ended::Closed => (eprintln!(rt; "piper_pump: the output was closed"), 5),
-            Ended::Copies => (Ok(()), 7),
-            Ended::Memory => (eprintln!(rt; "piper_pump: out of memory"), 6),
-        };
-        // There is nowhere left to say that standard error is closed.
-        let _ = reported;
+        match self {
+            Ended::Moved => ExitCode::from(0),
+            Ended::Copies => ExitCode::from(7),
+            Ended::Words(error) => ExitCode::from(report_words(rt, error)),
+            Ended::NotText | Ended::Value(_) => self.say_why(rt, 2),
+            Ended::NoInput(_) | Ended::Input(_) => self.say_why(rt, 3),
+            Ended::NoOutput(_) | Ended::Output(_) => self.say_why(rt, 4),
+            Ended::Closed => self.say_why(rt, 5),
+            Ended::Memory => self.say_why(rt, 6),
+        }
+    }
+
+    fn say_why(&self, rt: &impl Eprint, status: u8) -> ExitCode
+        ensures status { exit_status result ≡ status }
+        ensures said { IsWhySaid self.now }
+    {
+        say(rt, Why { ended: self });
         ExitCode::from(status)
     }
 }
 
-// In the words that other options are refused in.
-fn report_not_taken(rt: &impl Eprint, word: &NotTaken) -> io::Result<()> {
-    eprintln!(rt;
-        "piper_pump: invalid value '{}' for '{}': {}\n\nFor more information, try '--help'.",
-        word.text, word.option, word.range
-    )
+/// Why the program ended, after its name. An option is refused in the words that others are refused in.
+#[derive(Clone, Copy)]
+pub struct Why<'a> {
+    ended: &'a Ended,
+}
+
+impl Display for Why<'_> {
+    ghost output = { λ why. why_text why.ended.now };
+
+    fn fmt<W: fmt::Write>(&self, f: &mut Formatter<W>) -> fmt::Result {
+        match self.ended {
+            Ended::Moved | Ended::Copies | Ended::Words(_) => Ok(()),
+            Ended::NotText => f.write_str("piper_pump: an argument is not UTF-8"),
+            Ended::Value(word) => write!(
+                f,
+                "piper_pump: invalid value '{}' for '{}': {}\n\nFor more information, try '--help'.",
+                word.text, word.option, word.range
+            ),
+            Ended::NoInput(file) | Ended::NoOutput(file) => {
+                write!(f, "piper_pump: {}: {}", file.name, file.error)
+            }
+            Ended::Input(error) | Ended::Output(error) => write!(f, "piper_pump: {error}"),
+            Ended::Closed => f.write_str("piper_pump: the output was closed"),
+            Ended::Memory => f.write_str("piper_pump: out of memory"),
+        }
+    }
 }
 
 // Prints the help or the version, or why the words are refused. A help that can't be printed is an
 // output that failed.
-fn report_words<R: Print + Eprint + AllocGlobal>(
-    rt: &R,
-    error: &clap::Error,
-) -> (io::Result<()>, u8)
-    ensures shown { IsShown error.now → (result.1 ≡ 0) ⊎ (result.1 ≡ 4) }
-    ensures refused { ¬ IsShown error.now → result.1 ≡ 2 }
+fn report_words<R: Print + Eprint + AllocGlobal>(rt: &R, error: &clap::Error) -> u8
+    ensures shown { IsShown error.now → (result ≡ 0) ⊎ (result ≡ 4) }
+    ensures refused { ¬ IsShown error.now → result ≡ 2 }
 {
     let status = error.exit_code() as u8;
     if status != 0 {
-        return (print_refused(rt, error), status);
+        // There is nowhere left to say that standard error is closed.
+        let _ = print_refused(rt, error);
+        return status;
     }
     match error.print(rt) {
-        Err(failed) => (
-            eprintln!(rt; "piper_pump: writing the output failed: {failed}"),
-            4,
-        ),
-        printed => (printed, status),
+        Err(failed) => {
+            let _ = eprintln!(rt; "piper_pump: writing the output failed: {failed}");
+            4
+        }
+        Ok(()) => status,
     }
 }
 

@@ -3,11 +3,13 @@ ghost use Rattle.std.specs.Prelude.{◌≡◌, ◌<◌, ℕ, List, [], length, O
 ghost use Rattle.std.specs.Io.{ReadsAtMost, WritesAtMost};
 ghost use Rattle.std.specs.Io.KnownBytes.{append_known, ReadConsumes};
 ghost use Rattle.piper_protocol.specs.Reported.{HasFailed, IsOfStd};
-ghost use Rattle.pump_engine.specs.Files.{HoldsNothing, IsFileOf, IsJust, IsOpenedBy, Writes, keeps, makes, reads};
+ghost use Rattle.pump_engine.specs.Files.{IsAnswerOfFile, IsCutFile, IsFileOf, IsJust, Writes, keeps, makes, reads};
+ghost use Rattle.pump_engine.specs.Handle.{HoldsNothing, IsAnswerFor};
 
+use crate::all_open::AllOpen;
+use crate::handle::{Handle, ask};
 use piper_protocol::reported::reported;
-use std::fs::{File, Files, Metadata, OpenFile, OpenOptions};
-use std::io::{Read, Write};
+use std::fs::{File, Files, Metadata, OpenOptions};
 use std::{fs, io};
 
 /// A file that has a name.
@@ -15,6 +17,8 @@ use std::{fs, io};
 /// It can say which one, whether it is open, what was written to it since then, whether that is
 /// flushed, and how its calls fail. Of the system's files nothing of that is said, but each answer is one of theirs.
 pub trait NamedFile: Drop {
+    ghost use Rattle.std.specs.Prelude.{Result};
+    ghost use Rattle.std.specs.declared.fs.Metadata.{Metadata};
     ghost use Rattle.std.specs.declared.io.Error.{Error};
 
     // the name that it is opened by, where that is known
@@ -28,6 +32,9 @@ pub trait NamedFile: Drop {
 
     // it was not there, and was made
     ghost is_made: { Self → Type 0 } = { λ _. ⊤ };
+
+    // the system was asked of it, and answered so
+    ghost answers: { Self → Result Metadata Error → Type 0 } = { λ _ _. ⊤ };
 
     // it holds no byte but those that were written to it
     ghost is_cut: { Self → Type 0 } = { λ _. ⊤ };
@@ -49,6 +56,7 @@ pub trait NamedFile: Drop {
 
     /// What the system reports of it.
     fn attributes(&self) -> io::Result<Metadata>
+        ensures asked { answers self.now result }
         ensures empty { IfOk result (λ m. HoldsNothing m → is_cut self.now) }
         ensures reported { IsOfStd result }
         ensures failed { IfErr result HasFailed };
@@ -60,8 +68,8 @@ pub trait NamedFile: Drop {
         ensures error { IfErr result (fails self.new) }
         ensures reported { IsOfStd result };
 
-    /// Cuts off what it held where it was opened.
-    fn cut(&mut self) -> io::Result<()>
+    /// Cuts off what it held where it was opened, which waits until all files are open.
+    fn cut(&mut self, all_open: AllOpen) -> io::Result<()>
         ensures cut { OnOk result (is_cut self.new) }
         ensures opened { (is_kept self.old → is_kept self.new)
             × (is_made self.old → is_made self.new) }
@@ -105,6 +113,7 @@ pub trait Opens<F: NamedFile> {
 
     /// What the system reports of it, whether it can be opened or not.
     fn look(&self, name: &str) -> io::Result<Metadata>
+        ensures asked { IsAnswerFor name.now result }
         ensures reported { IsOfStd result }
         ensures failed { IfErr result HasFailed };
 
@@ -136,7 +145,7 @@ pub trait Opens<F: NamedFile> {
 #[derive(Drop)]
 pub enum SystemFile {
     Named,
-    Open(File),
+    Open(Handle),
 }
 
 impl NamedFile for SystemFile {
@@ -146,44 +155,48 @@ impl NamedFile for SystemFile {
 
     ghost is_made = { IsFileOf makes };
 
+    ghost answers = { IsAnswerOfFile };
+
+    ghost is_cut = { IsCutFile };
+
     fn attributes(&self) -> io::Result<Metadata> {
         match self {
-            SystemFile::Open(file) => reported(file.metadata()),
+            SystemFile::Open(file) => file.metadata(),
             SystemFile::Named => reported(Err(not_open())),
         }
     }
 
     fn read(&mut self, buf: &mut [u8]) -> io::Result<usize> {
         match self {
-            SystemFile::Open(file) => reported(Read::read(file, buf)),
+            SystemFile::Open(file) => file.read(buf),
             SystemFile::Named => reported(Err(not_open())),
         }
     }
 
-    fn cut(&mut self) -> io::Result<()> {
+    fn cut(&mut self, all_open: AllOpen) -> io::Result<()> {
         match self {
-            SystemFile::Open(file) => reported(file.set_len(0)),
+            SystemFile::Open(file) => file.cut(all_open),
             SystemFile::Named => reported(Err(not_open())),
         }
     }
 
     fn write(&mut self, buf: &[u8]) -> io::Result<usize> {
         match self {
-            SystemFile::Open(file) => reported(Write::write(file, buf)),
+            SystemFile::Open(file) => file.write(buf),
             SystemFile::Named => reported(Err(not_open())),
         }
     }
 
     fn write_all(&mut self, buf: &[u8]) -> io::Result<()> {
         match self {
-            SystemFile::Open(file) => reported(Write::write_all(file, buf)),
+            SystemFile::Open(file) => file.write_all(buf),
             SystemFile::Named => reported(Err(not_open())),
         }
     }
 
     fn flush(&mut self) -> io::Result<()> {
         match self {
-            SystemFile::Open(file) => reported(Write::flush(file)),
+            SystemFile::Open(file) => file.flush(),
             SystemFile::Named => reported(Err(not_open())),
         }
     }
@@ -195,11 +208,11 @@ fn not_open() -> io::Error {
 
 impl<R: Files<File = File>> Opens<SystemFile> for R {
     fn open(&self, name: &str) -> io::Result<SystemFile> {
-        Ok(SystemFile::Open(open_so(self, OpenOptions::new().read(true), name)?))
+        Ok(SystemFile::Open(Handle::open(self, OpenOptions::new().read(true), name)?))
     }
 
     fn look(&self, name: &str) -> io::Result<Metadata> {
-        reported(fs::metadata(self, name))
+        ask(self, name)
     }
 
     fn to_write(&self, _name: &str) -> SystemFile {
@@ -207,13 +220,13 @@ impl<R: Files<File = File>> Opens<SystemFile> for R {
     }
 
     fn open_to_write(&self, name: &str, file: &mut SystemFile) -> io::Result<()> {
-        *file = SystemFile::Open(open_so(self, OpenOptions::new().write(true), name)?);
+        *file = SystemFile::Open(Handle::open(self, OpenOptions::new().write(true), name)?);
         Ok(())
     }
 
     fn make(&self, name: &str, file: &mut SystemFile) -> io::Result<()> {
         let mut how = OpenOptions::new();
-        let opened = open_so(self, how.write(true).create_new(true), name)?;
+        let opened = Handle::open(self, how.write(true).create_new(true), name)?;
         *file = SystemFile::Open(opened);
         Ok(())
     }
@@ -221,14 +234,4 @@ impl<R: Files<File = File>> Opens<SystemFile> for R {
     fn remove(&self, name: &str) -> io::Result<()> {
         reported(fs::remove_file(self, name))
     }
-}
-
-// Opens a file in this way.
-fn open_so<R>(files: &R, how: &OpenOptions, name: &str) -> io::Result<File>
-where
-    R: Files<File = File>,
-    ensures opened { IfOk result (IsOpenedBy how.now name.now) }
-    ensures failed { IfErr result HasFailed }
-{
-    reported(how.open(files, name))
 }

@@ -1,13 +1,14 @@
 //! What the system reports of a file where it is opened: which one it is, and how much it holds.
-ghost use Rattle.std.specs.Prelude.{IfErr, IfOk};
-ghost use Rattle.piper_protocol.specs.Reported.{HasFailed, IsOfStd};
+ghost use Rattle.std.specs.Prelude.{IfErr, IfOk, codes};
+ghost use Rattle.piper_protocol.specs.Reported.{HasFailed};
 ghost use Rattle.pump_engine.specs.Found.{IsFound, TellsFound};
+ghost use Rattle.pump_engine.specs.Handle.{IsAnswerFor};
 
 use crate::files::NamedFile;
-use piper_protocol::reported::reported;
+use crate::handle::ask;
 use std::fs::{Files, Metadata};
+use std::io;
 use std::os::unix::fs::MetadataExt;
-use std::{fs, io};
 
 /// The names that the system gives to what is under the numbers of the standard streams.
 pub(crate) const STANDARD_INPUT: &str = "/proc/self/fd/0";
@@ -34,8 +35,8 @@ pub struct Found {
 
 impl Found {
     /// Of a file that is written.
-    pub(crate) fn of_output(file: &impl NamedFile) -> io::Result<Found>
-        ensures found { IfOk result IsFound }
+    pub(crate) fn of_output<F: NamedFile>(file: &F) -> io::Result<Found>
+        ensures found { IfOk result (IsFound (F.answers file.now)) }
         ensures failed { IfErr result HasFailed }
     {
         let attributes = file.attributes()?;
@@ -44,31 +45,30 @@ impl Found {
 
     /// Of a file that is to be written, by what the system reported of its name.
     pub(crate) fn of_name(looked: &io::Result<Metadata>) -> Found
-        requires asked { IsOfStd looked.now }
-        ensures found { IsFound result }
+        ensures tells { TellsFound looked.now result }
     {
         of_answer(looked)
     }
 
     /// Of the file that is read.
-    pub(crate) fn of_input(file: &impl NamedFile) -> Found
-        ensures { IsFound result }
+    pub(crate) fn of_input<F: NamedFile>(file: &F) -> Found
+        ensures { IsFound (F.answers file.now) result }
     {
         of_answer(&file.attributes())
     }
 
     /// Of standard input.
     pub(crate) fn at_input(files: &impl Files) -> Found
-        ensures { IsFound result }
+        ensures { IsFound (IsAnswerFor (codes "/proc/self/fd/0")) result }
     {
-        of_answer(&reported(fs::metadata(files, STANDARD_INPUT)))
+        of_answer(&ask(files, STANDARD_INPUT))
     }
 
     /// Of standard output.
     pub(crate) fn at_output(files: &impl Files) -> Found
-        ensures { IsFound result }
+        ensures { IsFound (IsAnswerFor (codes "/proc/self/fd/1")) result }
     {
-        of_answer(&reported(fs::metadata(files, STANDARD_OUTPUT)))
+        of_answer(&ask(files, STANDARD_OUTPUT))
     }
 }
 

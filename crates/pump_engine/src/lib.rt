@@ -2,12 +2,15 @@
 //! them, and what it reports of that.
 #![tactic(auto)]
 
+pub mod all_open;
 pub mod arguments;
+pub mod command_line;
 pub mod copies;
 pub mod ended;
 pub mod ends;
 pub mod files;
 mod found;
+pub mod handle;
 mod lines;
 mod opening;
 pub mod outcome;
@@ -17,6 +20,8 @@ mod plan;
 pub mod program;
 mod progress;
 pub mod running;
+mod saying;
 mod sinks;
 pub mod streams;
+mod sums;
 mod units;

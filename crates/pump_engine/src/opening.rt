@@ -1,6 +1,6 @@
 //! The files that are named: the input is opened, and those that are to be written are looked at.
 //! Those that may not be written are refused, before one of them is opened.
-ghost use Rattle.std.specs.Prelude.{◌≡◌, ◌++◌, ◌∷◌, [], None, Ok, OnErr, OnOk, IfErr, IfOk, IfSome, IsSomeAnd, Result, Some, false, map, string_bytes};
+ghost use Rattle.std.specs.Prelude.{◌≡◌, ◌++◌, ◌∷◌, [], None, Ok, OnErr, OnOk, IfErr, IfOk, IfSome, IsSomeAnd, Result, Some, codes, false, map, string_bytes};
 ghost use Rattle.std.specs.Fs.{IsFile, file_type, metadata_len};
 ghost use Rattle.std.specs.List.{All};
 ghost use Rattle.std.specs.declared.fs.Metadata.{Metadata};
@@ -13,7 +13,9 @@ ghost use Rattle.pump_engine.specs.Ended.{IsOfFailure, IsToldOf, IsUnopened};
 ghost use Rattle.pump_engine.specs.Ends.{Awaits};
 ghost use Rattle.pump_engine.specs.Files.{IsJust};
 ghost use Rattle.pump_engine.specs.Found.{IsFound};
-ghost use Rattle.pump_engine.specs.Opening.{AreApart, AreDistinct, HoldNothing, OpensNamed};
+ghost use Rattle.pump_engine.specs.Handle.{IsAnswerFor};
+ghost use Rattle.pump_engine.specs.Opening.{AreApart, AreDistinct, AreFoundApart, HoldNothing};
+ghost use Rattle.pump_engine.specs.Opening.{IsFoundAt, IsFoundByName, IsFoundOpen, OpensNamed};
 ghost use Rattle.pump_engine.specs.Opening.{ReadsNamed, TellsSize, WritesNamed, founds_of, ids_of};
 ghost use Rattle.pump_engine.specs.Pace.{HasRate};
 
@@ -22,6 +24,7 @@ use crate::ended::{Ended, Unopened};
 use crate::ends::{Drain, Inlet, Opening, Outlet};
 use crate::files::{NamedFile, Opens};
 use crate::found::{FileId, Found, STANDARD_INPUT};
+use crate::handle::ask;
 use crate::plan::named;
 use crate::sinks::{HOLDS_BYTES, Sink};
 use piper_protocol::reported::reported;
@@ -75,8 +78,9 @@ where
     ensures awaited { OnOk result (Awaits arguments.now.overwrites output.new.opening) }
     ensures copies { OnOk result (HavePassed F.name F.written F.fails output.new.copies
         (parts_wanted arguments.now) [] × HasRate rate output.new.copies.pace) }
-    ensures apart { IfOk result (λ places. AreApart
-        (places.input ∷ places.output ∷ founds_of output.new.copies.tees.items)) }
+    ensures apart { IfOk result (λ places. AreFoundApart F.answers
+        (text_in arguments.now.texts.input) (text_in arguments.now.texts.output) places
+        input.new output.new.copies.tees.items) }
     ensures spared { arguments.now.overwrites ≡ false → IfOk result (λ places.
         HoldNothing (text_in arguments.now.texts.output) places.output
         output.new.copies.tees.items) }
@@ -137,6 +141,11 @@ where
         (text_in arguments.now.texts.output) opened.output) }
     ensures found { IfOk result (λ opened. IfSome opened.output
         (λ sink. sink.found ≡ opened.places.output)) }
+    ensures input_found { IfOk result (λ opened.
+        IsFoundOpen F.answers opened.input opened.places.input) }
+    ensures output_found { IfOk result (λ opened. IsFoundAt
+        (text_in arguments.now.texts.output) (codes "/proc/self/fd/1") opened.places.output) }
+    ensures tees_found { IfOk result (λ opened. All IsFoundByName opened.tees.items) }
     ensures names { IfOk result (λ opened. names_of opened.tees.items
         ≡ map (λ name. name.now) arguments.now.tees.items) }
     ensures copies { IfOk result (λ opened.
@@ -157,8 +166,8 @@ where
     })
 }
 
-fn found_of_input(files: &impl Files, input: &Option<impl NamedFile>) -> Found
-    ensures { IsFound result }
+fn found_of_input<F: NamedFile>(files: &impl Files, input: &Option<F>) -> Found
+    ensures { IsFoundOpen F.answers input.now result }
 {
     match input {
         Some(file) => Found::of_input(file),
@@ -167,7 +176,8 @@ fn found_of_input(files: &impl Files, input: &Option<impl NamedFile>) -> Found
 }
 
 fn found_of_output<F: NamedFile>(files: &impl Files, output: &Option<Sink<F>>) -> Found
-    ensures { IfSome output.now (λ sink. sink.found ≡ result) }
+    ensures file { IfSome output.now (λ sink. sink.found ≡ result) }
+    ensures stream { output.now ≡ None → IsFound (IsAnswerFor (codes "/proc/self/fd/1")) result }
 {
     match output {
         Some(sink) => sink.found,
@@ -205,6 +215,8 @@ where
     ensures none { name.entry ≡ None → result ≡ Ok None }
     ensures file { IfSome name.entry (λ text. IfOk result (λ opened.
         IsSomeAnd opened (λ sink. IsJust (F.name sink.file) text.now))) }
+    ensures found { IfSome name.entry (λ text. IfOk result (λ opened.
+        IsSomeAnd opened (λ sink. IsFound (IsAnswerFor text.now) sink.found))) }
     ensures failed { IfErr result IsOfFailure }
 {
     match name {
@@ -222,6 +234,7 @@ where
     ensures named { IfErr result (IsToldOf name.now) }
     ensures name { IfOk result (λ sink. string_bytes sink.name ≡ name.now) }
     ensures copy { IfOk result (IsCopy F.name F.written F.fails []) }
+    ensures found { IfOk result (λ sink. IsFound (IsAnswerFor name.now) sink.found) }
     ensures failed { IfErr result IsOfFailure }
 {
     match Sink::look(rt, alloc, name) {
@@ -238,6 +251,7 @@ where
     ensures early { IfErr result IsUnopened }
     ensures names { IfOk result (λ tees. names_of tees.items ≡ map (λ name. name.now) names.now) }
     ensures copies { IfOk result (λ tees. All (IsCopy F.name F.written F.fails []) tees.items) }
+    ensures found { IfOk result (λ tees. All IsFoundByName tees.items) }
     ensures failed { IfErr result IsOfFailure }
 {
     let mut tees = Vec::new(alloc);
@@ -337,7 +351,7 @@ where
     match input {
         Inlet::File(file) => len_of(&file.attributes().ok()?),
         Inlet::Standard(_) => {
-            let len = len_of(&reported(fs::metadata(rt, STANDARD_INPUT)).ok()?)?;
+            let len = len_of(&ask(rt, STANDARD_INPUT).ok()?)?;
             Some(len.saturating_sub(position(rt).unwrap_or(0)))
         }
     }

@@ -1,13 +1,15 @@
 //! The files that are written are opened, once the input has given its first bytes or has ended:
 //! first those that are there, which keep what they hold, then the others are made, and then all are
 //! cut off.
-ghost use Rattle.std.specs.Prelude.{◌≡◌, [], OnOk, IfErr};
+ghost use Rattle.std.specs.Prelude.{◌≡◌, OnOk, IfErr};
 ghost use Rattle.std.specs.List.{All};
-ghost use Rattle.pump_engine.specs.Copies.{IsCopy, names_of};
 ghost use Rattle.pump_engine.specs.Ended.{IsUnopened};
 ghost use Rattle.pump_engine.specs.Ends.{drain_bytes};
-ghost use Rattle.pump_engine.specs.Steps.{GetsBy, HasDrain, HaveAll, NeedsFor};
+ghost use Rattle.pump_engine.specs.AllOpen.{HasDrain, HaveAll, IsOpenedUnlessFailed};
+ghost use Rattle.pump_engine.specs.Prepared.{StayCopies, StayUnwritten};
+ghost use Rattle.pump_engine.specs.Steps.{GetsBy, IsCutUnlessFailed, NeedsFor};
 
+use crate::all_open::AllOpen;
 use crate::ended::Ended;
 use crate::ends::Drain;
 use crate::files::{NamedFile, Opens};
@@ -27,14 +29,10 @@ where
     R: Opens<F> + AllocGlobal,
     D: Destination + Drop,
     F: NamedFile,
-    ensures bytes { drain_bytes D.contents F.written drain.new
-        ≡ drain_bytes D.contents F.written drain.old }
-    ensures early { IfErr result IsUnopened }
-    ensures copies { OnOk result (All (IsCopy F.name F.written F.fails []) tees.old
-        → All (IsCopy F.name F.written F.fails []) tees.new) }
-    ensures names { OnOk result (names_of tees.new ≡ names_of tees.old) }
-    ensures cut { OnOk result (HaveAll (GetsBy Step.Cut F.is_kept F.is_made F.is_cut)
-        drain.new tees.new) }
+    ensures stay { StayUnwritten F.name F.written F.fails
+        (drain_bytes D.contents F.written drain.old)
+        (drain_bytes D.contents F.written drain.new) tees.old tees.new result }
+    ensures cut { OnOk result (HaveAll (IsCutUnlessFailed F.is_cut) drain.new tees.new) }
 {
     take_all(rt, Step::Open { overwrites }, drain, tees)?;
     match make_and_cut(rt, drain, tees) {
@@ -53,18 +51,26 @@ where
     D: Destination + Drop,
     F: NamedFile,
     requires open { HaveAll (NeedsFor Step.Make F.is_kept F.is_made) drain.old tees.old }
-    ensures cut { OnOk result (HaveAll (GetsBy Step.Cut F.is_kept F.is_made F.is_cut)
-        drain.new tees.new) }
-    ensures bytes { drain_bytes D.contents F.written drain.new
-        ≡ drain_bytes D.contents F.written drain.old }
-    ensures early { IfErr result IsUnopened }
-    ensures copies { OnOk result (All (IsCopy F.name F.written F.fails []) tees.old
-        → All (IsCopy F.name F.written F.fails []) tees.new) }
-    ensures names { OnOk result (names_of tees.new ≡ names_of tees.old) }
+    ensures cut { OnOk result (HaveAll (IsCutUnlessFailed F.is_cut) drain.new tees.new) }
+    ensures stay { StayUnwritten F.name F.written F.fails
+        (drain_bytes D.contents F.written drain.old)
+        (drain_bytes D.contents F.written drain.new) tees.old tees.new result }
 {
     take_all(rt, Step::Make, drain, tees)?;
-    take_all(rt, Step::Cut, drain, tees)?;
+    let all_open = all_open(drain, tees);
+    take_all(rt, Step::Cut { all_open }, drain, tees)?;
     Ok(())
+}
+
+// That all files are open.
+fn all_open<D, F>(_drain: &Drain<D, F>, _tees: &[Sink<F>]) -> AllOpen
+where
+    D: Destination + Drop,
+    F: NamedFile,
+    requires { HaveAll (IsOpenedUnlessFailed F.is_kept F.is_made) _drain.now _tees.now }
+{
+    let all_open = AllOpen { made: () };
+    all_open
 }
 
 // Takes a step for each file.
@@ -81,12 +87,9 @@ where
     requires needs { HaveAll (NeedsFor step F.is_kept F.is_made) drain.old tees.old }
     ensures gets { OnOk result (HaveAll (GetsBy step F.is_kept F.is_made F.is_cut)
         drain.new tees.new) }
-    ensures bytes { drain_bytes D.contents F.written drain.new
-        ≡ drain_bytes D.contents F.written drain.old }
-    ensures early { IfErr result IsUnopened }
-    ensures copies { OnOk result (All (IsCopy F.name F.written F.fails []) tees.old
-        → All (IsCopy F.name F.written F.fails []) tees.new) }
-    ensures names { OnOk result (names_of tees.new ≡ names_of tees.old) }
+    ensures stay { StayUnwritten F.name F.written F.fails
+        (drain_bytes D.contents F.written drain.old)
+        (drain_bytes D.contents F.written drain.new) tees.old tees.new result }
 {
     take_drain(rt, step, drain)?;
     take_tees(rt, step, tees)
@@ -116,9 +119,7 @@ where
     requires needs { All (NeedsFor step F.is_kept F.is_made) tees.old }
     ensures gets { OnOk result (All (GetsBy step F.is_kept F.is_made F.is_cut) tees.new) }
     ensures early { IfErr result IsUnopened }
-    ensures copies { OnOk result (All (IsCopy F.name F.written F.fails []) tees.old
-        → All (IsCopy F.name F.written F.fails []) tees.new) }
-    ensures names { OnOk result (names_of tees.new ≡ names_of tees.old) }
+    ensures stay { OnOk result (StayCopies F.name F.written F.fails tees.old tees.new) }
 {
     for tee in tees.iter_mut() {
         tee.take(rt, rt.alloc(), step)?;

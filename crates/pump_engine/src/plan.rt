@@ -38,8 +38,8 @@ pub fn numbers_of(alloc: Global, sizes: Sizes, texts: Texts<'_>) -> Result<Numbe
     ensures early { IfErr result IsEarly }
     ensures capacity { IfOk result (λ n. n.sizes.capacity ≡ sizes.capacity) }
     ensures chunk { IfOk result (λ n. n.sizes.chunk ≡ sizes.chunk) }
-    ensures rate { IfOk result (λ n. IsRead IsSizeOf texts.entry.rate n.rate) }
-    ensures total { IfOk result (λ n. IsRead IsTotalOf texts.entry.size n.total) }
+    ensures rate { IfOk result (λ n. IsRead IsSizeOf (text_in texts.entry.rate) n.rate) }
+    ensures total { IfOk result (λ n. IsRead IsTotalOf (text_in texts.entry.size) n.total) }
     ensures level { IfOk result (λ n. texts.entry.start_at ≡ None → n.sizes.level ≡ 0) }
 {
     let rate = match texts.rate {

@@ -1,6 +1,7 @@
 //! The whole program: a run on a thread of its own, for whose end the first thread waits.
 ghost use Rattle.std.specs.Prelude.{⊤};
 
+use crate::command_line::CommandLine;
 use crate::copies::Copies;
 use crate::ends::{Drain, Inlet, Opening, Outlet};
 use crate::files::{NamedFile, Opens};
@@ -35,7 +36,7 @@ impl Promise<()> for Nothing {
 /// failed, though a read is under way that no byte comes for.
 pub fn run_and_report<R, F, S, D>(
     rt: R,
-    words: Vec<String>,
+    line: CommandLine,
     source: S,
     dest: D,
     streams: Streams,
@@ -59,6 +60,6 @@ where
         meter: &meter,
         progress: None,
     };
-    let ended = run(&rt, words.as_slice(), &mut input, &mut output, streams);
+    let ended = run(&rt, line.as_slice(), &mut input, &mut output, streams);
     outcome.end(&rt, ended);
 }

@@ -1,15 +1,19 @@
 //! The whole run, from the words on the command line to how it ends.
-ghost use Rattle.std.specs.Prelude.{◌≡◌, ◌≢◌, ◌∷◌, [], OnErr, OnOk, IfOk, IfErr, codes, map, string_bytes};
-ghost use Rattle.clap.specs.Words.{fault_of, first_of};
+ghost use Rattle.std.specs.Prelude.{◌≡◌, ◌≢◌, [], None, OnErr, OnOk, IfOk, IfErr, IfSome, codes, false, map, string_bytes, true};
+ghost use Rattle.clap.specs.Words.{fault_of};
 ghost use Rattle.piper_transfer.specs.Transfer.{IsOfSide, Transfers, WritesAll};
-ghost use Rattle.pump_engine.specs.Arguments.{AreSizedBy, NamesNoFile, ShowsAsAsked, pump_command, said_by};
+ghost use Rattle.pump_engine.specs.Arguments.{AreSizedBy, IsSizeOf, ShowsAsAsked, pump_command};
 ghost use Rattle.pump_engine.specs.Copies.{HaveGot, has_failed};
 ghost use Rattle.pump_engine.specs.Ended.{IsEarly};
-ghost use Rattle.pump_engine.specs.Ends.{drain_bytes, inlet_bytes, AreAllFlushed, HaveTaken};
+ghost use Rattle.pump_engine.specs.Ends.{drain_bytes, inlet_bytes, AreAllFlushed, Awaits, HaveTaken};
 ghost use Rattle.pump_engine.specs.Ends.{InletFails, IsAwaited, IsDone, IsFull, IsRefused};
 ghost use Rattle.pump_engine.specs.Ends.{OutletFails, OutletTook};
-ghost use Rattle.pump_engine.specs.Opening.{AreApart, ReadsNamed, WritesNamed, founds_of};
-ghost use Rattle.pump_engine.specs.Running.{Runs};
+ghost use Rattle.pump_engine.specs.Opening.{AreFoundApart, HoldNothing, ReadsNamed, WritesNamed};
+ghost use Rattle.pump_engine.specs.Outcome.{RunReturned};
+ghost use Rattle.pump_engine.specs.Pace.{HasRate};
+ghost use Rattle.pump_engine.specs.Plan.{IsOfStream, IsRead};
+ghost use Rattle.pump_engine.specs.Planned.{IsPlanned, SparesBytes, after};
+ghost use Rattle.pump_engine.specs.Running.{EndsWithTransfer, Runs};
 
 use crate::arguments::read_words;
 use crate::ended::Ended;
@@ -28,13 +32,15 @@ use std::sync::Wait;
 use std::thread::{Threads, join_mut};
 use std::time::Clock;
 
-/// What the words ask for, once the files that they name are opened.
+/// What is done, once the files that the words name are found.
 #[derive(Clone, Copy)]
-struct Task {
-    places: Places,
-    sizes: Sizes,
+pub struct Plan {
+    pub places: Places,
+    pub sizes: Sizes,
+    /// How many bytes may pass in a second.
+    pub rate: Option<usize>,
     /// What is told of the transfer, if progress is asked for.
-    asked: Option<Watched>,
+    pub asked: Option<Watched>,
 }
 
 /// Does what the words ask for, between an input and an output that represent files that are not
@@ -56,12 +62,15 @@ where
     F: NamedFile + Send,
     S: Source + Send + Drop,
     D: Destination + Drop,
+    ensures returned { RunReturned (map string_bytes words.now) streams result }
     ensures refused { fault_of pump_command (map string_bytes words.now) ≢ [] →
         IsEarly result × (input.new ≡ input.old) × (output.new.drain ≡ output.old.drain) }
-    ensures runs { NamesNoFile (map string_bytes words.now) →
-        Runs (inlet_bytes S.remaining F.remaining input.old)
+    ensures runs { Runs (IsPlanned F.name F.written F.fails F.answers
+        (map string_bytes words.now) streams input.old output.old)
+        input.old input.new output.old output.new
+        (λ i o. EndsWithTransfer (inlet_bytes S.remaining F.remaining i)
         (inlet_bytes S.remaining F.remaining input.new)
-        (drain_bytes D.contents F.written output.old.drain)
+        (drain_bytes D.contents F.written o.drain)
         (drain_bytes D.contents F.written output.new.drain)
         (λ passed. HaveTaken output.new.opening (HaveGot F.name F.written F.fails
         (map string_bytes words.now) output.new.copies passed) passed)
@@ -70,14 +79,15 @@ where
         (IsDone output.new.opening) (IsRefused output.new.opening)
         (IsOfSide (InletFails S.fails F.fails input.new)
         (OutletFails D.fails F.fails output.new.opening output.new.drain)
-        (IsFull D.full F.full output.new.drain)) (has_failed output.new.copies.tees.items) result }
+        (IsFull D.full F.full output.new.drain))
+        (has_failed output.new.copies.tees.items) result) result }
 {
-    let task = match prepare(rt, words, input, output, streams) {
-        Ok(task) => task,
+    let plan = match prepare(rt, words, input, output, streams) {
+        Ok(plan) => plan,
         Err(ended) => return ended,
     };
-    let watched = output.ask_progress(task.asked);
-    let moved = move_all(rt, input, output, task.sizes, watched);
+    let watched = output.ask_progress(plan.asked);
+    let moved = move_all(rt, input, output, plan.sizes, watched);
     output.report_rest(&moved);
     output.ended(moved)
 }
@@ -122,7 +132,7 @@ fn prepare<R, F, S, D>(
     input: &mut Inlet<S, F>,
     output: &mut Outlet<'_, R, D, F>,
     streams: Streams,
-) -> Result<Task, Ended>
+) -> Result<Plan, Ended>
 where
     R: Wait + Clock + Eprint + AllocGlobal + Files + Opens<F>,
     F: NamedFile,
@@ -132,21 +142,37 @@ where
     ensures stays { OnErr result
         ((input.new ≡ input.old) × (output.new.drain ≡ output.old.drain)) }
     ensures taken { IfOk result (λ _. fault_of pump_command (map string_bytes words.now) ≡ []) }
-    ensures unnamed { NamesNoFile (map string_bytes words.now) →
-        (input.new ≡ input.old) × (output.new.drain ≡ output.old.drain) }
-    ensures shown { IfOk result (λ task.
-        ShowsAsAsked (map string_bytes words.now) task.asked) }
+    ensures sizes { IfOk result (λ plan. AreSizedBy (map string_bytes words.now) plan.sizes) }
+    ensures level { IfOk result (λ plan. after (codes "start-at") (map string_bytes words.now)
+        ≡ None → plan.sizes.level ≡ 0) }
+    ensures rate { IfOk result (λ plan.
+        IsRead IsSizeOf (after (codes "rate") (map string_bytes words.now)) plan.rate) }
+    ensures shown { IfOk result (λ plan.
+        ShowsAsAsked (map string_bytes words.now) plan.asked) }
+    ensures watched { IfOk result (λ plan. IfSome plan.asked (λ w.
+        (w.capacity ≡ plan.sizes.capacity) × (w.redraws ≡ streams.redraws))) }
+    ensures input { OnOk result (ReadsNamed F.name
+        (after (codes "input") (map string_bytes words.now)) input.old input.new) }
+    ensures output { IfOk result (λ plan. WritesNamed F.name
+        (after (codes "output") (map string_bytes words.now)) plan.places.output
+        output.old.drain output.new.drain) }
+    ensures has_input { OnOk result (IsOfStream (after (codes "input")
+        (map string_bytes words.now)) → streams.has_input ≡ true) }
+    ensures has_output { OnOk result (IsOfStream (after (codes "output")
+        (map string_bytes words.now)) → streams.has_output ≡ true) }
+    ensures apart { IfOk result (λ plan. AreFoundApart F.answers
+        (after (codes "input") (map string_bytes words.now))
+        (after (codes "output") (map string_bytes words.now))
+        plan.places input.new output.new.copies.tees.items) }
+    ensures spared { SparesBytes (map string_bytes words.now) → IfOk result (λ plan.
+        HoldNothing (after (codes "output") (map string_bytes words.now)) plan.places.output
+        output.new.copies.tees.items) }
     ensures copies { OnOk result (HaveGot F.name F.written F.fails
         (map string_bytes words.now) output.new.copies []) }
+    ensures paced { IfOk result (λ plan. HasRate plan.rate output.new.copies.pace) }
     ensures awaited { OnOk result (IsAwaited output.new.opening) }
-    ensures sizes { IfOk result (λ task. AreSizedBy (map string_bytes words.now) task.sizes) }
-    ensures input { OnOk result (ReadsNamed F.name
-        (first_of (codes "input") (said_by (map string_bytes words.now))) input.old input.new) }
-    ensures output { IfOk result (λ task. WritesNamed F.name
-        (first_of (codes "output") (said_by (map string_bytes words.now))) task.places.output
-        output.old.drain output.new.drain) }
-    ensures apart { IfOk result (λ task. AreApart (task.places.input ∷ task.places.output
-        ∷ founds_of output.new.copies.tees.items)) }
+    ensures spares { SparesBytes (map string_bytes words.now)
+        → OnOk result (Awaits false output.new.opening) }
 {
     let arguments = match read_words(rt.alloc(), words) {
         Ok(arguments) => arguments,
@@ -162,9 +188,10 @@ where
         redraws: streams.redraws,
     };
     let shows_progress = arguments.shows_progress && !arguments.is_quiet;
-    Ok(Task {
+    Ok(Plan {
         places,
         sizes: numbers.sizes,
+        rate: numbers.rate,
         asked: if shows_progress { Some(watched) } else { None },
     })
 }

@@ -8,16 +8,22 @@ ghost use Rattle.pump_engine.specs.Copies.{IsCopy, IsFlushedOrFailed, SameSink};
 ghost use Rattle.pump_engine.specs.Ended.{IsToldOf, IsUnopened};
 ghost use Rattle.pump_engine.specs.Files.{Writes};
 ghost use Rattle.pump_engine.specs.Found.{IsFound};
-ghost use Rattle.pump_engine.specs.Steps.{GetsBy, IsOpened, NeedsFor};
+ghost use Rattle.pump_engine.specs.AllOpen.{IsOpened};
+ghost use Rattle.pump_engine.specs.Handle.{IsAnswerFor};
+ghost use Rattle.pump_engine.specs.Lines.{IsLossSaid};
+ghost use Rattle.pump_engine.specs.Steps.{GetsBy, NeedsFor};
 
+use crate::all_open::AllOpen;
 use crate::ended::{Ended, Unopened};
 use crate::files::{NamedFile, Opens};
 use crate::found::Found;
+use crate::saying::say;
 use piper_protocol::reported::reported;
 use std::alloc::Global;
+use std::fmt::{Display, Formatter};
 use std::fs::Metadata;
-use std::io;
 use std::io::ErrorKind;
+use std::{fmt, io};
 
 /// What is said of a file that holds bytes, where those are not to be overwritten.
 pub(crate) const HOLDS_BYTES: &str = "it holds bytes, which --force overwrites";
@@ -29,8 +35,25 @@ pub(crate) enum Step {
     Open { overwrites: bool },
     /// It is made if it is not there.
     Make,
-    /// What it holds is cut off.
-    Cut,
+    /// What it holds is cut off, once all are open.
+    Cut { all_open: AllOpen },
+}
+
+/// That a copy can't be written, and gets no more.
+#[derive(Clone, Copy)]
+pub struct Loss<'a> {
+    name: &'a str,
+    error: io::Error,
+}
+
+impl Display for Loss<'_> {
+    fn fmt<W: fmt::Write>(&self, f: &mut Formatter<W>) -> fmt::Result {
+        write!(
+            f,
+            "piper_pump: {}: {}; it gets no more",
+            self.name, self.error
+        )
+    }
 }
 
 /// A file that is written.
@@ -56,7 +79,7 @@ impl<F: NamedFile> Sink<F> {
         R: Opens<F>,
         ensures named { IfOk result (λ sink. string_bytes sink.name ≡ name.now) }
         ensures copy { IfOk result (IsCopy F.name F.written F.fails []) }
-        ensures found { IfOk result (λ sink. IsFound sink.found) }
+        ensures found { IfOk result (λ sink. IsFound (IsAnswerFor name.now) sink.found) }
         ensures failed { IfErr result HasFailed }
     {
         let looked = rt.look(name);
@@ -96,7 +119,7 @@ impl<F: NamedFile> Sink<F> {
         let taken = match step {
             Step::Open { overwrites } => self.open(rt, overwrites),
             Step::Make => self.make(rt),
-            Step::Cut => self.cut(),
+            Step::Cut { all_open } => self.cut(all_open),
         };
         match taken {
             Ok(()) => Ok(()),
@@ -187,15 +210,16 @@ impl<F: NamedFile> Sink<F> {
     }
 
     fn give_up(&mut self, rt: &impl Eprint, error: io::Error)
-        ensures { self.new ≡ record self.old { has_failed = true } }
+        ensures same { self.new ≡ record self.old { has_failed = true } }
+        ensures said { IsLossSaid (string_bytes self.old.name) error }
     {
         self.has_failed = true;
-        // There is nowhere left to say that standard error is closed.
-        let _ = eprintln!(rt; "piper_pump: {}: {error}; it gets no more", self.name);
+        let name = self.name.as_str();
+        say(rt, Loss { name, error });
     }
 
     // Cuts off what it holds.
-    fn cut(&mut self) -> io::Result<()>
+    fn cut(&mut self, all_open: AllOpen) -> io::Result<()>
         ensures same { SameSink F.name self.old self.new }
         ensures bytes { F.written self.new.file ≡ F.written self.old.file }
         ensures opened { IsOpened F.is_kept F.is_made self.old
@@ -204,7 +228,7 @@ impl<F: NamedFile> Sink<F> {
     {
         let attributes = self.file.attributes()?;
         if attributes.is_file() && 0 < attributes.len() {
-            self.file.cut()?;
+            self.file.cut(all_open)?;
         }
         Ok(())
     }

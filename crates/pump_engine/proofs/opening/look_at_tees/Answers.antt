@@ -2,6 +2,9 @@ use Rattle.std.proofs.Common.{rules, [], sym, subst}
 use Rattle.std.specs.List.{All}
 use Rattle.std.proofs.lemmas.List.Elements.{All-push}
 use Rattle.pump_engine.specs.Copies.{IsCopy}
+use Rattle.pump_engine.specs.Found.{IsFound}
+use Rattle.pump_engine.specs.Handle.{IsAnswerFor}
+use Rattle.pump_engine.specs.Opening.{IsFoundByName}
 use Rattle.pump_engine.proofs.Tees.{named_more}
 use Rattle.pump_engine.proofs.opening.look_at_tees.Goals as goal
 
@@ -11,7 +14,9 @@ loop-name-preserved g c =
     let before = c.loop-name.tees.items in
     let after = c.add_tee.new.tees.items in
     let items = c.in_ok-add_tee.ensures.items in
+    let found : IsFoundByName c.in_ok-sink.sink = subst (λ n. IsFound (IsAnswerFor n) c.in_ok-sink.sink.found) (sym c.in_ok-sink.ensures.name) c.in_ok-sink.ensures.found in
     record {
+      found = subst (All IsFoundByName) (sym items) (All-push IsFoundByName before c.in_ok-sink.sink c.loop-name.invariant.found found);
       named = named_more before after c.in_ok-sink.sink c.args.names.now c.loop-name.name-index _ (search rules) items c.loop-name.invariant.named c.in_ok-sink.ensures.name;
       copies = subst (All Copy) (sym items) (All-push Copy before c.in_ok-sink.sink c.loop-name.invariant.copies c.in_ok-sink.ensures.copy);
     }

@@ -2,11 +2,13 @@
 use Rattle.std.proofs.Common.{◌≡◌, [], map, take}
 use Rattle.std.specs.List.{All}
 use Rattle.pump_engine.specs.Copies.{IsCopy, names_of}
+use Rattle.pump_engine.specs.Opening.{IsFoundByName}
 use Rattle.pump_engine.proofs.opening.look_at_tees.Given as goal
 
 abbrev pub invariant-loop-name : goal.invariant-loop-name
 invariant-loop-name g l =
     record {
       named : names_of l.tees.items ≡ map (λ name. name.now) (take l.name-index l.names);
+      found : All IsFoundByName l.tees.items;
       copies : All (IsCopy g.F.NamedFile.name g.F.NamedFile.written g.F.NamedFile.fails []) l.tees.items;
     }

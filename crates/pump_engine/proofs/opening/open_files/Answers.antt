@@ -1,8 +1,8 @@
-use Rattle.std.proofs.Common.{◌≡◌, ◌∷◌, sym, subst}
+use Rattle.std.proofs.Common.{◌≡◌, sym, subst}
 use Rattle.std.specs.List.{All}
 use Rattle.pump_engine.specs.Arguments.{text_in}
-use Rattle.pump_engine.specs.Opening.{AreApart, founds_of}
-use Rattle.pump_engine.proofs.Named.{none_held, reads_named, writes_named}
+use Rattle.pump_engine.specs.Opening.{AreFoundApart}
+use Rattle.pump_engine.proofs.Named.{input_found, none_held, reads_named, writes_named}
 use Rattle.pump_engine.proofs.opening.open_files.Goals as goal
 
 pub returns-clause-input : goal.returns-clause-input
@@ -16,8 +16,15 @@ returns-clause-output g c =
 
 pub returns-clause-apart : goal.returns-clause-apart
 returns-clause-apart g c =
-    let places = c.in_ok-opened.opened.places in
-    subst (λ tees. AreApart (places.input ∷ places.output ∷ founds_of tees.items)) (sym c.ask.ensures.tees) c.in_ok-refuse_shared.ensures.apart
+    let file = g.F.NamedFile in
+    let opened = c.in_ok-opened.opened in
+    let said = c.in_ok-opened.ensures in
+    subst (λ tees. AreFoundApart file.answers (text_in c.args.arguments.now.texts.input) (text_in c.args.arguments.now.texts.output) opened.places c.take_input.new.input tees.items) (sym c.ask.ensures.tees) (record {
+      read = input_found file.name file.answers (text_in c.args.arguments.now.texts.input) opened.input opened.places.input _ said.input said.input_found c.take_input.ensures.some;
+      written = said.output_found;
+      copied = said.tees_found;
+      apart = c.in_ok-refuse_shared.ensures.apart;
+    })
 
 pub returns-clause-spared : goal.returns-clause-spared
 returns-clause-spared g c = λ unasked. record {

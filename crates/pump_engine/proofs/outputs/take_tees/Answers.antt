@@ -22,9 +22,11 @@ loop-tee-preserved g c =
       names = map-set_same _ tees i c.take.new.self c.tee-item.result (ap string_bytes c.take.ensures.name) ∙ before.names;
     }
 
-pub returns-clause-copies : goal.returns-clause-copies
-returns-clause-copies g c = λ all k d inside.
-    c.loop-tee.invariant.given all k d (omega arith) (search rules)
+pub returns-clause-stay : goal.returns-clause-stay
+returns-clause-stay g c = record {
+  copies = λ all k d inside. c.loop-tee.invariant.given all k d (omega arith) (search rules);
+  names = c.loop-tee.invariant.names;
+}
 
 pub returns-clause-gets : goal.returns-clause-gets
 returns-clause-gets g c = λ k d inside.

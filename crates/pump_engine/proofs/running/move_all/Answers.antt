@@ -1,4 +1,3 @@
-use Rattle.std.proofs.Common.{rules}
 use Rattle.pump_engine.specs.Ends.{drain_bytes, inlet_bytes, OutletTook}
 use Rattle.pump_engine.proofs.Concluded.{concluded}
 use Rattle.pump_engine.proofs.running.move_all.Goals as goal

@@ -1,14 +1,21 @@
-use Rattle.std.proofs.Common.{◌≡◌, List, ℕ, [], inr, ap, map, string_bytes, sym, subst, ◌++◌, ◌∙◌}
+use Rattle.std.proofs.Common.{List, ℕ, [], inr, ap, map, string_bytes, sym, subst}
 use Rattle.std.specs.Prelude.{IfErr, OnOk}
-use Rattle.std.specs.Io.KnownBytes.{Appends, Consumes}
+use Rattle.std.specs.Io.KnownBytes.{Appends}
 use Rattle.piper_transfer.specs.Transfer.{IsOfSide}
 use Rattle.pump_engine.specs.Copies.{HaveGot, HavePassed}
 use Rattle.pump_engine.specs.Ends.{drain_bytes, inlet_bytes, HaveTaken, InletFails, IsDone, IsFull, OutletFails}
+use Rattle.pump_engine.specs.Outcome.{as_returned}
 use Rattle.pump_engine.proofs.Concluded.{all_flushed_same, awaiting_taken, map_taken, taken_answered}
 use Rattle.pump_engine.proofs.running.run.Goals as goal
 
+pub returns-clause-returned : goal.returns-clause-returned
+returns-clause-returned g c = as_returned _ _ _
+
+pub returns-in-Err-clause-returned : goal.returns-in-Err-clause-returned
+returns-in-Err-clause-returned g c = as_returned _ _ _
+
 pub returns-clause-runs : goal.returns-clause-runs
-returns-clause-runs g c = λ unnamed.
+returns-clause-runs g c =
     let file = g.F.NamedFile in
     let words : List (List ℕ) = map string_bytes c.args.words.now in
     let input_bytes = inlet_bytes g.S.Source.remaining file.remaining in
@@ -34,21 +41,42 @@ returns-clause-runs g c = λ unnamed.
     (HaveGot file.name file.written file.fails words last.copies moved.written) moved.written
     (λ have. record { parts = parts; asked = begun.copies.asked; have = ended.copies parts moved.written have }) taken) in
     inr (record {
-      answer = answer;
-      ends = (c.ended.ensures.opened, λ refused. c.ended.ensures.refused refused (taken_answered last.opening _ _ refused copied));
-      written = moved.written;
-      left = moved.left;
-      given = subst (λ x. Consumes (input_bytes x) (input_bytes c.move_all-moved.new.input) (moved.written ++ moved.left)) (begun.unnamed unnamed).0 moved.given;
-      appended = subst (λ x. Appends (output_bytes x) (output_bytes last.drain) moved.written) (asked.0 ∙ (begun.unnamed unnamed).1)
-          (subst (λ x. Appends (output_bytes before.drain) (output_bytes x) moved.written) (sym ended.drain) moved.gets.appended);
-      copied = copied;
-      all = moved.all;
-      ended = moved.ended;
-      flushed = λ writes. all_flushed_same g.D.Destination.flushed file.flushed after.opening last.opening after.drain last.drain after.copies.tees.items last.copies.tees.items
-          ended.opening ended.drain (ap (λ tees. tees.items) ended.failed) (all.flushed writes);
-      opened = subst (λ o. OnOk answer (IsDone o)) (sym ended.opening) all.opened;
-      reported = subst (λ o. IfErr answer (IsOfSide (InletFails g.S.Source.fails file.fails c.move_all-moved.new.input)
-          (OutletFails g.D.Destination.fails file.fails o last.drain) (IsFull g.D.Destination.full file.full last.drain))) (sym ended.opening)
-          (subst (λ d. IfErr answer (IsOfSide (InletFails g.S.Source.fails file.fails c.move_all-moved.new.input)
-          (OutletFails g.D.Destination.fails file.fails after.opening d) (IsFull g.D.Destination.full file.full d))) (sym ended.drain) all.reported);
+      plan = c.in-Ok.plan;
+      input = c.prepare.new.input;
+      output = c.prepare.new.output;
+      planned = record {
+        taken = begun.taken;
+        numbers = record { sizes = begun.sizes; level = begun.level; rate = begun.rate; shown = begun.shown; watched = begun.watched };
+        files = record {
+          read = begun.input;
+          written = begun.output;
+          has_input = begun.has_input;
+          has_output = begun.has_output;
+          apart = begun.apart;
+          spared = begun.spared;
+        };
+        copies = begun.copies;
+        paced = begun.paced;
+        awaited = begun.awaited;
+        spares = begun.spares;
+      };
+      ends = record {
+        answer = answer;
+        ends = (c.ended.ensures.opened, λ refused. c.ended.ensures.refused refused (taken_answered last.opening _ _ refused copied));
+        written = moved.written;
+        left = moved.left;
+        given = moved.given;
+        appended = subst (λ x. Appends (output_bytes x) (output_bytes last.drain) moved.written) asked.0
+            (subst (λ x. Appends (output_bytes before.drain) (output_bytes x) moved.written) (sym ended.drain) moved.gets.appended);
+        copied = copied;
+        all = moved.all;
+        ended = moved.ended;
+        flushed = λ writes. all_flushed_same g.D.Destination.flushed file.flushed after.opening last.opening after.drain last.drain after.copies.tees.items last.copies.tees.items
+            ended.opening ended.drain (ap (λ tees. tees.items) ended.failed) (all.flushed writes);
+        opened = subst (λ o. OnOk answer (IsDone o)) (sym ended.opening) all.opened;
+        reported = subst (λ o. IfErr answer (IsOfSide (InletFails g.S.Source.fails file.fails c.move_all-moved.new.input)
+            (OutletFails g.D.Destination.fails file.fails o last.drain) (IsFull g.D.Destination.full file.full last.drain))) (sym ended.opening)
+            (subst (λ d. IfErr answer (IsOfSide (InletFails g.S.Source.fails file.fails c.move_all-moved.new.input)
+            (OutletFails g.D.Destination.fails file.fails after.opening d) (IsFull g.D.Destination.full file.full d))) (sym ended.drain) all.reported);
+      };
     })

@@ -1,3 +1,6 @@
+use Rattle.std.proofs.Common.{rules}
+use Rattle.pump_engine.specs.Ends.{DrainFails, IsFull}
+use Rattle.pump_engine.specs.Outcome.{as_failed_so}
 use Rattle.pump_engine.proofs.Concluded.{done_taken, taken_done}
 use Rattle.pump_engine.proofs.Passed.{passed_same}
 use Rattle.pump_engine.proofs.ends.OutletDestination.write.Goals as goal
@@ -9,3 +12,10 @@ returns-in-Ok-clause-taken g c = λ parts m passed.
     done_taken _ _ _ done (c.keep.ensures.copies parts m
     (passed_same g.F.NamedFile.name g.F.NamedFile.written g.F.NamedFile.fails c.begin.new.self.copies c.begin-most.new.self parts m
     c.begin-most.ensures.same.0 c.begin-most.ensures.same.1 c.begin-most.ensures.same.2 had))
+
+pub fail-requires : goal.fail-requires
+fail-requires g c = as_failed_so (λ e. ⊥) (IsFull g.D.Destination.full g.F.NamedFile.full c.write.new.self) _ (search rules)
+
+pub fail-requires-then-is_lasting : goal.fail-requires-then-is_lasting
+fail-requires-then-is_lasting g c =
+    as_failed_so (DrainFails g.D.Destination.fails g.F.NamedFile.fails c.write.new.self) ⊥ _ (search rules)
