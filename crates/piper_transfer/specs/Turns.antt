@@ -1,5 +1,5 @@
 -- How a side waits: it sleeps, or its turn ends calm; and what its meter counts.
-use Rattle.std.specs.Prelude.{ℕ, ◌≤◌, ◌⊎◌, ⊤}
+use Rattle.std.specs.Prelude.{Bool, ℕ, ◌≤◌, ◌⊎◌, ⊤}
 use Rattle.futures.specs.declared.task.context.Context.{Context}
 use Rattle.piper.specs.Contexts.{AsksAgain, IsCalm}
 use Rattle.piper.specs.Waits.{ReaderIsAway, WriterIsAway}
@@ -36,4 +36,4 @@ IsAway = ((a : Reader) × (b : Reader) × ReaderIsAway a b)
 -- a pending turn sleeps until it is woken: its task was registered, and didn't ask for another turn
 -- itself; only where the place of its waker is away it did
 abbrev pub IsStill : Context → Type 0
-IsStill cx = IsCalm cx ⊎ (AsksAgain cx × IsAway)
+IsStill cx = ((had : Bool) × IsCalm had cx) ⊎ (AsksAgain cx × IsAway)
