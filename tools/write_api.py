@@ -236,10 +236,27 @@ def proofs(page, names):
         any_item(page, names[name][0], name, names[name][1])
 
 
+def table(page, crate):
+    """The table of a crate's calls, if it has one. It is written once their headings are known."""
+    path = DATA / f"{crate}.toml"
+    if not path.is_file():
+        return []
+    said = tomllib.loads(path.read_text())
+    width = len(said["columns"])
+    lines = ["", f"| {' | '.join(said['columns'])} |", "|" + "---|" * width]
+    for name, cells in said["rows"].items():
+        if anchor(name) not in page.seen or len(cells) != width - 1:
+            raise Wrong(f"tools/api/{crate}.toml: {name} is no call of the page, or has other cells")
+        shown = " | ".join(cell or "–" for cell in cells)
+        lines.append(f"| [`{name}`](#{anchor(name)}) | {shown} |")
+    return lines + ["", "Each is also pending where the call of a handle below it yields."]
+
+
 def crate_page(crate, links):
     """The page of any other crate: functions, types, traits."""
     page = Page(page_of(crate), f"`{crate}`", links)
     page.lines += spaced(paragraphs(about(crate)))
+    top = len(page.lines)
     above = sorted(name for name, (owner, _path) in exports("piper").items() if owner == crate)
     page.lines += ["", f"`piper` exports some of it, too: {listed(above)}."] if above else []
     names = {name: one for name, one in sorted(exports(crate).items()) if name != "OutOfMemory"}
@@ -251,6 +268,7 @@ def crate_page(crate, links):
             page.heading(2, title, False)
         for name in group:
             any_item(page, names[name][0], name, names[name][1])
+    page.lines[top:top] = table(page, crate)
     return page
 
 
