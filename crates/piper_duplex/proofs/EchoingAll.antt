@@ -42,7 +42,7 @@ module _ {R W : Type 0} (taken known : R → List ℕ) (saw_end : R → Bool) (e
     (sent : W → List ℕ) (saw : W → Bool) (write_fails : W → Context → PipeError → Type 0)
     (a b : EchoAll R W)
     (returns : Returns (taken (reader_of a.lines)) (taken (reader_of b.lines)) (kept_of a.lines) (kept_of b.lines) (left_of a.echo) (left_of b.echo)
-        (sent a.writer) (sent b.writer) (saw a.writer) (saw b.writer)) where
+    (sent a.writer) (sent b.writer) (saw a.writer) (saw b.writer)) where
   -- what a later poll gives, this one may give
   pub gives_later : (r : Poll (Result Echoed PipeError)) → OnPending r ((x : Result Echoed PipeError)
       → EchoesAll taken known saw_end ended read_fails sent saw write_fails b x → EchoesAll taken known saw_end ended read_fails sent saw write_fails a x)

@@ -46,7 +46,7 @@ pub fn poll_frames<R: AsyncBufRead>(
         × Pends R.known R.told R.waits (reader_of frames.new)
         (WentOn (length out.old.items) (length out.new.items)
         ⊎ WentOn (length (R.taken (reader_of frames.old)))
-            (length (R.taken (reader_of frames.new))))
+        (length (R.taken (reader_of frames.new))))
         cx.new) }
     ensures kept { Keeps cx.old cx.new }
 {
