@@ -144,10 +144,6 @@ impl Reader {
     /// ```
     #[inline]
     pub fn consume(&mut self, amt: usize) {
-        assert!(
-            amt <= self.end.known_now().len(),
-            "cannot consume more bytes than `peek_buf` shows"
-        );
         self.end.consume(amt);
     }
 

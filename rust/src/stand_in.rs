@@ -24,7 +24,9 @@ pub(crate) struct Side {
     places: Vec<u8>,
     known: usize,
     next: usize,
-    lent: Option<usize>,
+    /// How many places are lent to a copy, and how many are left of those lent by `lend`.
+    lent: usize,
+    left: usize,
 }
 
 pub(crate) use self::{Side as Lender, Side as ReadEnd, Side as WriteEnd};
@@ -35,7 +37,8 @@ pub(crate) fn open(capacity: usize) -> Option<(ReadEnd, WriteEnd)> {
         shared: Arc::clone(&shared),
         places: vec![0; capacity],
         next: 0,
-        lent: None,
+        lent: 0,
+        left: 0,
         is_writer,
         known,
     });
@@ -48,11 +51,11 @@ impl Side {
     pub(crate) fn capacity(&self) -> usize { self.places.len() }
     pub(crate) fn is_closed(&self) -> bool { self.lock().is_closed }
     pub(crate) fn known_now(&mut self) -> &[u8] { self.known() }
-    pub(crate) fn consume(&mut self, n: usize) { self.hand_over(n); }
     pub(crate) fn lender(&mut self) -> &mut Lender { self }
-    pub(crate) fn has_lent(&mut self) -> bool { self.lent.is_some() }
+    pub(crate) fn unlend(&mut self) { self.left = 0; }
+    pub(crate) fn lend_to_copy(&mut self, max: usize) { (self.lent, self.left) = (self.piece().min(max), 0); }
     pub(crate) fn known(&self) -> &[u8] { &self.places[self.next..self.next + self.piece()] }
-    pub(crate) fn room(&mut self) -> &mut [u8] { &mut self.places[self.next..self.next + self.lent.unwrap_or(0)] }
+    pub(crate) fn room(&mut self) -> &mut [u8] { &mut self.places[self.next..self.next + self.lent] }
     fn lock(&self) -> MutexGuard<'_, Shared> { self.shared.lock().unwrap_or_else(PoisonError::into_inner) }
     fn piece(&self) -> usize { self.known.min(self.capacity() - self.next) }
 }
@@ -79,7 +82,6 @@ impl Side {
     }
     /// Looks, leaves the waker where nothing is found, and looks once more.
     pub(crate) fn poll(&mut self, waker: &Waker) -> Poll<bool> {
-        self.lent = None;
         if let Poll::Ready(found) = self.look() {
             return Poll::Ready(found);
         }
@@ -111,40 +113,46 @@ impl Side {
         n
     }
     pub(crate) fn lend(&mut self, max: usize) -> &mut [u8] {
-        self.lent = Some(self.piece().min(max));
+        self.lend_to_copy(max);
+        self.left = self.lent;
         self.room()
     }
     pub(crate) fn offer(&mut self, waker: &Waker, max: usize) -> Poll<bool> {
         let found = self.poll(waker);
-        self.lent = Some(self.piece().min(max)).filter(|_| found.is_ready());
+        if found.is_ready() {
+            self.lend_to_copy(max);
+        }
         found
     }
+    pub(crate) fn consume(&mut self, n: usize) {
+        let known = self.piece();
+        assert!(n <= known, "more is consumed than `peek_buf` shows");
+        self.hand_over(n);
+    }
     pub(crate) fn publish(&mut self, n: usize) {
-        assert!(
-            Some(n) <= self.lent.take(),
-            "more bytes are published than were lent"
-        );
+        assert!(n <= self.left, "more is published than was lent");
+        self.left -= n;
         self.hand_over(n);
     }
     pub(crate) fn next(&mut self, n: usize, max: usize) -> bool {
-        self.publish(n);
-        self.lend(max);
+        assert!(n <= self.lent, "a source gave more than it had room for");
+        self.hand_over(n);
+        self.lend_to_copy(max);
         self.is_closed()
     }
     pub(crate) fn write(&mut self, bytes: &[u8]) -> usize {
-        self.lent = None;
         if bytes.is_empty() || self.look() != Poll::Ready(true) {
             return 0;
         }
-        let room = self.lend(bytes.len());
-        room.copy_from_slice(&bytes[..room.len()]);
-        let n = room.len();
-        self.publish(n);
+        self.lend_to_copy(bytes.len());
+        let n = self.lent;
+        self.room().copy_from_slice(&bytes[..n]);
+        self.hand_over(n);
         n
     }
     /// Closes the pipe for good, and wakes both sides.
     pub(crate) fn close(&mut self) {
-        (self.known, self.lent) = (0, None);
+        (self.known, self.lent, self.left) = (0, 0, 0);
         self.lock().is_closed = true;
         let wakers = take(&mut self.lock().wakers);
         for waker in wakers.into_iter().flatten() {

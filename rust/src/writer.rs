@@ -21,17 +21,11 @@ use std::{
 pub struct Writer {
     end: WriteEnd,
     draws: Draws,
-    /// How many bytes are left of the slice last lent by `write_buf`.
-    lent: usize,
 }
 
 impl Writer {
     pub(crate) fn new(end: WriteEnd, draws: Draws) -> Writer {
-        Writer {
-            end,
-            draws,
-            lent: 0,
-        }
+        Writer { end, draws }
     }
 
     /// How many bytes were published and not consumed. The reader may consume some at any time.
@@ -125,9 +119,7 @@ impl Writer {
     /// ```
     #[inline]
     pub fn write_buf(&mut self, max: usize) -> &mut [u8] {
-        let room = self.end.lend(max);
-        self.lent = room.len();
-        room
+        self.end.lend(max)
     }
 
     /// Publishes the first `n` bytes of what is left of the slice that
@@ -151,18 +143,6 @@ impl Writer {
     /// ```
     #[inline]
     pub fn produced(&mut self, n: usize) {
-        assert!(
-            n <= self.lent,
-            "cannot publish more bytes than `write_buf` lent"
-        );
-        if !self.end.has_lent() {
-            // A loan ends with each call. What was left of it lies at the front of the room, as it was
-            // written: a lend sets only places that never were.
-            let room = self.end.lend(self.lent);
-            assert_eq!(room.len(), self.lent, "the pipe lent less than before");
-        }
-        // Before the publish, which wakes: a waker may panic.
-        self.lent -= n;
         self.end.publish(n);
     }
 
@@ -177,7 +157,7 @@ impl Writer {
     /// assert_eq!(writer.try_fill(b"ef"), 0);
     /// ```
     pub fn try_fill(&mut self, src: &[u8]) -> usize {
-        self.lent = 0;
+        self.end.unlend();
         self.write(src)
     }
 
@@ -195,7 +175,7 @@ impl Writer {
     /// assert_eq!(block_on(poll_fn(|cx| writer.poll_fill_bytes(cx, b"ef"))), 0);
     /// ```
     pub fn poll_fill_bytes(&mut self, cx: &mut Context<'_>, bytes: &[u8]) -> Poll<usize> {
-        self.lent = 0;
+        self.end.unlend();
         match self.end.poll(cx.waker()) {
             Poll::Ready(true) if self.draws.draw() => yield_now(cx),
             Poll::Ready(true) => Poll::Ready(self.write(bytes)),
@@ -222,7 +202,7 @@ impl Writer {
     #[cfg(feature = "std")]
     #[inline]
     pub fn poll_fill(&mut self, cx: &mut Context<'_>, src: impl Read) -> Poll<io::Result<usize>> {
-        self.lent = 0;
+        self.end.unlend();
         // It is drawn before the look, since a copy that yields lends nothing.
         let yields = self.draws.draw();
         let found = match yields {
@@ -245,7 +225,7 @@ impl Writer {
             return count;
         }
         let rest = FromSlice(&bytes[count..]);
-        self.end.lend(rest.asks().min(MOST_A_ROUND));
+        self.end.lend_to_copy(rest.asks().min(MOST_A_ROUND));
         count + without_fail(self.fill_lent(rest))
     }
 
@@ -256,15 +236,13 @@ impl Writer {
         let lender = self.end.lender();
         let mut count = 0;
         loop {
-            let room = lender.room();
-            let most = room.len();
-            let given = src.give(room)?;
-            assert!(
-                given <= most,
-                "a source gave more bytes than there was room for"
-            );
+            let given = src.give(lender.room())?;
+            if given == 0 {
+                return Ok(count);
+            }
+            let is_closed = lender.next(given, src.asks().min(MOST_A_ROUND));
             count += given;
-            if given == 0 || lender.next(given, src.asks().min(MOST_A_ROUND)) {
+            if is_closed {
                 return Ok(count);
             }
         }
@@ -304,7 +282,7 @@ impl AsyncWrite for Writer {
     /// Closes the pipe for good, and wakes both sides.
     fn poll_close(self: Pin<&mut Self>, _cx: &mut Context<'_>) -> Poll<io::Result<()>> {
         let writer = self.get_mut();
-        writer.lent = 0;
+        writer.end.unlend();
         writer.end.close();
         Poll::Ready(Ok(()))
     }

@@ -128,10 +128,18 @@ impl ReadEnd {
         known
     }
 
-    /// Gives the first `n` known bytes back to the writer and wakes it. At most `known_now` are given.
+    /// Gives the first `n` known bytes back to the writer and wakes it.
+    ///
+    /// # Panics
+    ///
+    /// If `n` is more than `known_now` shows.
     #[inline]
     pub(crate) fn consume(&mut self, n: usize) {
         let known = self.known_now();
+        assert!(
+            n <= known.len(),
+            "cannot consume more bytes than `peek_buf` shows"
+        );
         // What is left stays where it is: the pipe moves no byte, and writes only where bytes were consumed.
         let rest = &known[n..];
         self.known = Some(Piece {

@@ -79,9 +79,26 @@ fn a_loan_ends_with_its_publish_and_before_any_other_call() {
 }
 
 #[test]
-#[should_panic]
+#[should_panic(expected = "cannot publish more bytes than `write_buf` lent")]
 fn no_more_is_published_than_was_lent() {
     let (_reader, mut writer) = open(64).unwrap();
     writer.lend(3);
     writer.publish(4);
+}
+
+#[test]
+#[should_panic(expected = "a source gave more bytes than there was room for")]
+fn no_more_is_copied_than_was_lent() {
+    let (_reader, mut writer) = open(64).unwrap();
+    writer.lend_to_copy(3);
+    writer.lender().next(4, 3);
+}
+
+#[test]
+#[should_panic(expected = "cannot publish more bytes than `write_buf` lent")]
+fn what_a_copy_was_lent_is_not_left_for_a_publish() {
+    let (_reader, mut writer) = open(64).unwrap();
+    writer.lend(8);
+    writer.lend_to_copy(3);
+    writer.publish(1);
 }

@@ -15,6 +15,9 @@ pub(crate) struct Lender {
     raw: RawWriter,
     /// From a lend until the room is taken back, by its publish or before another call.
     loan: Option<Loan>,
+    /// How many bytes are left of the slice last lent by `lend`. At most the length of the loan, where
+    /// there is one.
+    left: usize,
 }
 
 /// Room that is lent.
@@ -42,42 +45,75 @@ impl Lender {
         }
     }
 
-    /// Ends the loan, and says where the room is, of which `n` bytes are to be published.
-    #[inline]
-    fn end_loan(&mut self, n: usize) -> *mut u8 {
-        let Loan { at, len } = self.loan.take().expect("room is lent");
-        assert!(n <= len, "more bytes are published than were lent");
-        at.as_ptr()
-    }
-
-    /// Publishes the first `n` bytes of the room that is lent, takes it back, and wakes the reader.
+    /// Publishes the first `n` bytes of what is left of the slice last lent by `lend`, takes the room
+    /// back, and wakes the reader.
     #[inline]
     fn publish(&mut self, n: usize) {
-        let at = self.end_loan(n);
+        if self.loan.is_none() {
+            self.lend_again();
+        }
+        assert!(
+            n <= self.left,
+            "cannot publish more bytes than `write_buf` lent"
+        );
+        let Loan { at, .. } = self.loan.take().expect("room is lent");
+        // Before the publish, which wakes: a waker may panic.
+        self.left -= n;
         // SAFETY: the handle is open, whoever has it mutably has it alone, the room is that of its
-        // last lend, of which no slice is left, and `n` is at most its length.
-        wake(unsafe { sys::piper_writer_publish(&mut self.raw, at, n) });
+        // last lend, of which no slice is left, and `n` is at most its length, as `left` was.
+        wake(unsafe { sys::piper_writer_publish(&mut self.raw, at.as_ptr(), n) });
     }
 
-    /// As `publish`, and lends at most `max` bytes of known room. It returns whether the pipe is
-    /// closed.
+    /// Lends what is left once more. A loan ends with each call; what was left of it lies at the front of
+    /// the room, as it was written: a lend sets only places that never were.
+    #[cold]
+    fn lend_again(&mut self) {
+        let loan = self.ask(self.left);
+        self.lends(loan, loan.len);
+    }
+
+    /// Publishes the first `n` bytes of the room that is lent to a copy, takes it back, wakes the reader,
+    /// and lends at most `max` bytes of known room. It returns whether the pipe is closed.
     #[inline]
     pub(crate) fn next(&mut self, n: usize, max: usize) -> bool {
-        let (ended, mut at) = (self.end_loan(n), ptr::null_mut());
-        // SAFETY: as in `publish`; and `at` is a value of ours.
-        let next = unsafe { sys::piper_writer_next(&mut self.raw, ended, n, max, &mut at) };
+        let Loan { at, len } = self.loan.take().expect("room is lent");
+        assert!(n <= len, "a source gave more bytes than there was room for");
+        let mut next_at = ptr::null_mut();
+        // SAFETY: as in `publish`, with `n` at most the length of the loan; and `next_at` is a value of ours.
+        let next =
+            unsafe { sys::piper_writer_next(&mut self.raw, at.as_ptr(), n, max, &mut next_at) };
         // SAFETY: `next` gave this address.
-        let at = unsafe { address(at) };
-        self.loan = Some(Loan { at, len: next.len });
+        let at = unsafe { address(next_at) };
+        self.lends(Loan { at, len: next.len }, 0);
         wake(next.wake);
         next.is_closed
+    }
+
+    /// From now on this room is lent, and `left` bytes of it by `lend`: at most all.
+    #[inline]
+    fn lends(&mut self, loan: Loan, left: usize) {
+        debug_assert!(left <= loan.len, "no more is left than was lent");
+        self.loan = Some(loan);
+        self.left = left;
+    }
+
+    /// Lends room in one piece, at most `max` bytes, where none is lent.
+    #[inline]
+    fn ask(&mut self, max: usize) -> Loan {
+        let mut at = ptr::null_mut();
+        // SAFETY: the handle is open, whoever has it mutably has it alone, and `at` is a value of ours.
+        let len = unsafe { sys::piper_writer_lend(&mut self.raw, max, &mut at) };
+        // SAFETY: the lend gave this address.
+        let at = unsafe { address(at) };
+        Loan { at, len }
     }
 
     /// The handle, with no room lent.
     #[inline]
     fn free(&mut self) -> &mut RawWriter {
         if let Some(Loan { at, .. }) = self.loan.take() {
-            // SAFETY: as in `publish`.
+            // SAFETY: the handle is open, whoever has it mutably has it alone, and the room is that of
+            // its last lend, of which no slice is left.
             unsafe { sys::piper_writer_reclaim(&mut self.raw, at.as_ptr()) };
         }
         &mut self.raw
@@ -87,7 +123,11 @@ impl Lender {
 impl WriteEnd {
     pub(super) fn new(raw: RawWriter, capacity: usize) -> WriteEnd {
         WriteEnd {
-            raw: Turns::new(Lender { raw, loan: None }),
+            raw: Turns::new(Lender {
+                raw,
+                loan: None,
+                left: 0,
+            }),
             capacity,
         }
     }
@@ -104,7 +144,7 @@ impl WriteEnd {
         }
     }
 
-    /// As `poll`; and where there is room, it lends at most `max` bytes of it.
+    /// As `poll`; and where there is room, it lends at most `max` bytes of it to a copy.
     #[cfg(feature = "std")]
     #[inline]
     pub(crate) fn offer(&mut self, waker: &Waker, max: usize) -> Poll<bool> {
@@ -115,7 +155,7 @@ impl WriteEnd {
             Poll::Ready(true) => {
                 // SAFETY: an offer of room gave this address.
                 let at = unsafe { address(at) };
-                self.raw.get_mut().loan = Some(Loan { at, len: seen.len });
+                self.raw.get_mut().lends(Loan { at, len: seen.len }, 0);
                 Poll::Ready(true)
             }
             Poll::Ready(false) => Poll::Ready(false),
@@ -131,13 +171,13 @@ impl WriteEnd {
         unsafe { sys::piper_writer_poll(self.free(), mine) }.settle()
     }
 
-    /// As `leave`; and where there is room now, it lends some.
+    /// As `leave`; and where there is room now, it lends some to a copy.
     #[cfg(feature = "std")]
     #[cold]
     fn leave_to_lend(&mut self, waker: &Waker, max: usize) -> Poll<bool> {
         let found = self.leave(waker);
         if found == Poll::Ready(true) {
-            self.lend(max);
+            self.lend_to_copy(max);
         }
         found
     }
@@ -149,17 +189,35 @@ impl WriteEnd {
         self.raw.get_mut().free()
     }
 
-    /// Lends room in one piece, at most `max` bytes. It is the caller's until the next call.
+    /// Lends room in one piece, at most `max` bytes, for `publish`. It is the caller's until the next
+    /// call.
     #[inline]
     pub(crate) fn lend(&mut self, max: usize) -> &mut [u8] {
-        let mut at = ptr::null_mut();
-        // SAFETY: the handle is open and ours alone, and `at` is a value of ours.
-        let len = unsafe { sys::piper_writer_lend(self.free(), max, &mut at) };
         let lender = self.raw.get_mut();
-        // SAFETY: the lend gave this address.
-        let at = unsafe { address(at) };
-        lender.loan = Some(Loan { at, len });
+        lender.free();
+        let loan = lender.ask(max);
+        lender.lends(loan, loan.len);
         lender.room()
+    }
+
+    /// Lends room in one piece, at most `max` bytes, to a copy, which goes on by `next`.
+    pub(crate) fn lend_to_copy(&mut self, max: usize) {
+        let lender = self.raw.get_mut();
+        lender.free();
+        let loan = lender.ask(max);
+        lender.lends(loan, 0);
+    }
+
+    /// Whether room is lent, and was not given back by another call since.
+    #[cfg(test)]
+    pub(super) fn has_lent(&mut self) -> bool {
+        self.raw.get_mut().loan.is_some()
+    }
+
+    /// From now on nothing is left of the slice last lent by `lend`.
+    #[inline]
+    pub(crate) fn unlend(&mut self) {
+        self.raw.get_mut().left = 0;
     }
 
     /// The room that is lent, and what becomes of it.
@@ -168,13 +226,12 @@ impl WriteEnd {
         self.raw.get_mut()
     }
 
-    /// Whether room is lent, and was not given back by another call since.
-    #[inline]
-    pub(crate) fn has_lent(&mut self) -> bool {
-        self.raw.get_mut().loan.is_some()
-    }
-
-    /// Publishes the first `n` bytes of the room that is lent, takes it back, and wakes the reader.
+    /// Publishes the first `n` bytes of what is left of the slice last lent by `lend`, and wakes the
+    /// reader.
+    ///
+    /// # Panics
+    ///
+    /// If `n` is more than that.
     #[inline]
     pub(crate) fn publish(&mut self, n: usize) {
         self.raw.get_mut().publish(n);
