@@ -1,6 +1,6 @@
 #!/usr/bin/env python3
-"""Tries what README.md, docs/USING.md and CONTRIBUTING.md have their readers type, and the links
-of every page.
+"""Tries what README.md, docs/USING.md, CONTRIBUTING.md and the examples of docs/api have their
+readers type, and the links of every page.
 
     tests/pages.py [WORD]
 
@@ -15,9 +15,9 @@ Each block of code on these pages is fenced, and its first word says what become
 - `text`: not run, since it takes an hour, or root.
 
 The gate's own proofs are not made again: of `rt run` the stored output of the crate is compared. A
-section that begins with "From" needs no `rt`, and has a PATH without it. `~` is a new folder. The section SETUP of a page is
-tried first, and each other one of that page in a copy of what it left, beside the others. With a
-WORD only sections whose heading has it are tried. A section whose tools are missing is left out,
+section that begins with "From" needs no `rt`, and has a PATH without it. `~` is a new folder. The section SETUP of the guide
+is tried first, and each other one of it and of docs/api in a copy of what it left, beside the
+others. With a WORD only sections whose heading has it are tried. A section whose tools are missing is left out,
 which is said. The last line is `N passed, M failed`.
 """
 import os
@@ -32,7 +32,9 @@ from functools import cache
 from pathlib import Path
 
 TOP = Path(__file__).resolve().parent.parent
-PAGES = ["README.md", "docs/USING.md", "CONTRIBUTING.md"]
+GUIDE = "docs/USING.md"
+EXAMPLES = [f"docs/api/piper_{name}.md" for name in ("futures", "streams", "duplex")]
+PAGES = ["README.md", GUIDE, "CONTRIBUTING.md", *EXAMPLES]
 SETUP = "A repository of your own"
 FILES = ("rust", "c", "toml")
 WORDS = FILES + ("console", "text")
@@ -201,15 +203,15 @@ def tried(section, home, before):
 
 
 def try_sections(sections, scratch):
-    """Tries the set-up of each page, and then the other sections side by side."""
+    """Tries the guide's set-up, and then the other sections side by side."""
     homes = {section: scratch / str(number) / "home" for number, section in enumerate(sections)}
-    setups = {section.page: section for section in sections if section.heading == SETUP}
-    went = [tried(section, homes[section], None) for section in setups.values()]
+    setup = next(section for section in sections if section.heading == SETUP)
+    went = [tried(setup, homes[setup], None)]
     with ThreadPoolExecutor(os.cpu_count()) as pool:
         waiting = []
         for section in sections:
-            if section.heading != SETUP:
-                before = homes.get(setups.get(section.page))
+            if section is not setup:
+                before = homes[setup] if section.page in (GUIDE, *EXAMPLES) else None
                 waiting.append(pool.submit(tried, section, homes[section], before))
         return went + [one.result() for one in waiting]
 

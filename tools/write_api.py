@@ -1,7 +1,8 @@
 #!/usr/bin/env python3
 """Writes docs/api from the sources: a page for each crate, with its public items, their comments,
-calls and clauses, and one of the definitions that clauses cite. What no comment says shortly is in
-tools/api. `tools/write_api.py --check` writes nothing, and fails where a page differs.
+calls and clauses, one of the definitions that clauses cite, and one of the language of scripts.
+What no comment says shortly is in tools/api. `tools/write_api.py --check` writes nothing, and fails
+where a page differs.
 """
 import difflib
 import re
@@ -249,7 +250,19 @@ def table(page, crate):
             raise Wrong(f"tools/api/{crate}.toml: {name} is no call of the page, or has other cells")
         shown = " | ".join(cell or "–" for cell in cells)
         lines.append(f"| [`{name}`](#{anchor(name)}) | {shown} |")
-    return lines + ["", "Each is also pending where the call of a handle below it yields."]
+    return lines + ["", "Each that can be pending is so, too, where the call of a handle below it yields."]
+
+
+def told(page, name):
+    """What a file of tools/api says, with its headings, if there is one."""
+    path = DATA / name
+    for line in ["", *path.read_text().rstrip().splitlines()] if path.is_file() else []:
+        if line.startswith("## "):
+            while page.lines and not page.lines[-1]:
+                page.lines.pop()
+            page.heading(2, line[3:], False)
+        else:
+            page.lines.append(line)
 
 
 def crate_page(crate, links):
@@ -268,13 +281,17 @@ def crate_page(crate, links):
             page.heading(2, title, False)
         for name in group:
             any_item(page, names[name][0], name, names[name][1])
-    page.lines[top:top] = table(page, crate)
+    path = DATA / f"holds/{crate}.md"
+    holds = ["", *path.read_text().splitlines()] if path.is_file() else []
+    page.lines[top:top] = holds + table(page, crate)
+    told(page, f"examples/{crate}.md")
     return page
 
 
 def definitions(links):
     """The page of all definitions that are cited, also by one another."""
     page = Page("definitions.md", "Definitions", links)
+    told(page, "definitions.md")
     done = {}
     while len(done) < len(links.cited):
         for full, one in list(links.cited.items()):
@@ -300,8 +317,7 @@ def definitions_text(page):
     """It, with contents that name files alone."""
     page.contents = [one for one in page.contents if one[0] < 4]
     return page.text().replace("Contents:", "What clauses cite, of the files of `specs/`. Each "
-                               "definition links those that it names. [CONTRACTS.md](../CONTRACTS.md) "
-                               "has the words of the toolchain.\n\nContents:", 1)
+                               "definition links those that it names.\n\nContents:", 1)
 
 
 def start_page(pages):
@@ -311,7 +327,16 @@ def start_page(pages):
     for crate, page in zip(CRATES, pages):
         first = paragraphs(about(crate))[0]
         lines.append(f"- [`{crate}`]({page.name}): {first[0].lower() + first[1:]}")
-    return "\n".join(lines + ["- [definitions](definitions.md): what the words of clauses mean"]) + "\n"
+    lines += ["- [definitions](definitions.md): what the words of clauses mean",
+              "- [scripts](scripts.md): the language that `piper_replay` and `piper_compare` play"]
+    return "\n".join(lines) + "\n"
+
+
+def scripts_page(links):
+    """The language of scripts, which stands in tools/api as it is."""
+    page = Page("scripts.md", "The script language", links)
+    told(page, "scripts.md")
+    return page
 
 
 def written():
@@ -320,6 +345,7 @@ def written():
     pages = [piper_page(links) if crate == "piper" else crate_page(crate, links) for crate in CRATES]
     found = {page.name: page.text() for page in pages}
     found["definitions.md"] = definitions_text(definitions(links))
+    found["scripts.md"] = scripts_page(links).text()
     return {"README.md": start_page(pages), **found}
 
 
