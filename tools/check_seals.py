@@ -36,24 +36,13 @@ SEALS = {
     ),
     "as_flag": (
         "piper_ring/specs/Loads",
-        [
-            f"piper_ring/proofs/ring/seats/{seat}/{load}"
-            for seat in ("ReadSeat", "WriteSeat")
-            for load in ("is_registered", "cancel")
-        ],
+        [f"piper_ring/proofs/ring/slots/SlotWords/{load}" for load in ("is_registered", "cancel")],
     ),
     "as_waiter": (
         "piper_ring/specs/Loads",
-        [
-            f"piper_ring/proofs/ring/seats/{seat}/{load}"
-            for seat in ("ReadSeat", "WriteSeat")
-            for load in ("look_flag", "take_waker")
-        ],
+        [f"piper_ring/proofs/ring/slots/SlotWords/{load}" for load in ("look_flag", "take_waker")],
     ),
-    "as_handed_back": (
-        "piper_ring/specs/Loads",
-        [f"piper_ring/proofs/ring/seats/{seat}/reclaim" for seat in ("ReadSeat", "WriteSeat")],
-    ),
+    "as_handed_back": ("piper_ring/specs/Loads", ["piper_ring/proofs/ring/slots/SlotWords/reclaim"]),
     "as_back": (
         "piper_ring/specs/Loads",
         [f"piper_ring/proofs/ends/{end}/reclaim_waker" for end in ("reader/ReadEnd", "writer/WriteEnd")],

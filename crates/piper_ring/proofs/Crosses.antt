@@ -29,8 +29,8 @@ module _ (w p : Ptr) (z : Names) where
 
   slots-Keyless : Keyless (slots w p z)
   slots-Keyless = (
-    λ s. ((λ _. tt), ((tt, tt), ((tt, tt), (announced-Keyless z s.1.0.1.1.0 s.1.0.1.1.1, right-Keyless (held_at s.1.1).0 z.reader_place (held_at s.1.1).1)))),
-    λ s. ((λ _. tt), ((tt, tt), ((tt, tt), ((took-Keyless z s.1.0.1.1.0, raised-Keyless z.closed s.1.0.1.1.1), right-Keyless (held_at s.1.1).0 z.writer_place (held_at s.1.1).1)))),
+    λ s. ((λ _. tt), ((tt, tt), ((tt, tt), (announced-Keyless z s.1.0.1.1.bytes s.1.0.1.1.closed, right-Keyless (held_at s.1.1).0 z.reader_place (held_at s.1.1).1)))),
+    λ s. ((λ _. tt), ((tt, tt), ((tt, tt), ((took-Keyless z s.1.0.1.1.count, raised-Keyless z.closed s.1.0.1.1.closed), right-Keyless (held_at s.1.1).0 z.writer_place (held_at s.1.1).1)))),
   )
 
   rights-Keyless : Keyless (rights w p z)

@@ -7,6 +7,8 @@ use denote.Struct.Tuple.{Tuple, tuple_type}
 use denote.RattleType.{Valss}
 use denote.Shadow.{makes_shadow}
 use denote.Struct.Struct.{within}
+use denote.Ref.{NamedLft}
+use Rattle.piper_ring.specs.contracts.ring.slots.SlotWords as SlotWords
 use Rattle.lent_space.specs.contracts.Lease as Lease
 use Rattle.lent_space.specs.contracts.Lender as Lender
 use Rattle.lent_space.specs.contracts.Space as Space
@@ -22,10 +24,8 @@ use Rattle.piper_ring.specs.contracts.ring.places.Base as Base
 use Rattle.piper_ring.specs.contracts.ring.marks.WriteMark as WriteMark
 use Rattle.piper_ring.specs.contracts.ring.marks.ReadMark as ReadMark
 use Rattle.piper_ring.specs.contracts.ring.marks.Saw as Saw
-use Rattle.piper_ring.specs.contracts.ring.slots.ReaderWaits as ReaderWaits
-use Rattle.piper_ring.specs.contracts.ring.slots.WriterWakes as WriterWakes
-use Rattle.piper_ring.specs.contracts.ring.slots.WriterWaits as WriterWaits
-use Rattle.piper_ring.specs.contracts.ring.slots.ReaderWakes as ReaderWakes
+use Rattle.piper_ring.specs.contracts.ring.slots.Waits as Waits
+use Rattle.piper_ring.specs.contracts.ring.slots.Wakes as Wakes
 
 abbrev pub seat_val : Ptr → Val
 seat_val w = vstruct (vcons (ptr_val w) vnil)
@@ -158,29 +158,31 @@ BaseData = Struct (Declared.shape Base.the_type)
 pub base_made : {M : Type 1} {𝓤 : Ura M} (𝓛 : Logic 𝓤) (p : Ptr) → ent 𝓤 (emp 𝓤) (sem 𝓛 (BaseData.own_val (p, tt) (seat_val p ∷ [])))
 base_made 𝓛 p = makes_shadow 𝓛 (BaseData.own_val (p, tt) (seat_val p ∷ [])) (λ vss. (tt, (tt, tt))) ((ptr_val p ∷ [], tt), (refl, (refl, tt)))
 
-abbrev pub ReaderWaitsData : RattleType
-ReaderWaitsData = Struct (shape ReaderWaits.the_type)
+abbrev pub WaitsData : RattleType
+WaitsData = Struct (shape Waits.the_type)
 
-pub reader_waits_made : {M : Type 1} {𝓤 : Ura M} (𝓛 : Logic 𝓤) → ent 𝓤 (emp 𝓤) (sem 𝓛 (ReaderWaitsData.own_val (record {}, tt) (ghost_val ∷ [])))
-reader_waits_made 𝓛 = makes_shadow 𝓛 (ReaderWaitsData.own_val (record {}, tt) (ghost_val ∷ [])) (λ vss. (tt, ((λ uss. (tt, tt)), tt))) ((vstruct vnil ∷ [], tt), (refl, ((tt, (refl, tt)), tt)))
+pub waits_made : {M : Type 1} {𝓤 : Ura M} (𝓛 : Logic 𝓤) → ent 𝓤 (emp 𝓤) (sem 𝓛 (WaitsData.own_val (record {}, tt) (ghost_val ∷ [])))
+waits_made 𝓛 = makes_shadow 𝓛 (WaitsData.own_val (record {}, tt) (ghost_val ∷ [])) (λ vss. (tt, ((λ uss. (tt, tt)), tt))) ((vstruct vnil ∷ [], tt), (refl, ((tt, (refl, tt)), tt)))
 
-abbrev pub WriterWakesData : RattleType
-WriterWakesData = Struct (shape WriterWakes.the_type)
+abbrev pub WakesData : RattleType
+WakesData = Struct (shape Wakes.the_type)
 
-pub writer_wakes_made : {M : Type 1} {𝓤 : Ura M} (𝓛 : Logic 𝓤) → ent 𝓤 (emp 𝓤) (sem 𝓛 (WriterWakesData.own_val (record {}, tt) (ghost_val ∷ [])))
-writer_wakes_made 𝓛 = makes_shadow 𝓛 (WriterWakesData.own_val (record {}, tt) (ghost_val ∷ [])) (λ vss. (tt, ((λ uss. (tt, tt)), tt))) ((vstruct vnil ∷ [], tt), (refl, ((tt, (refl, tt)), tt)))
+pub wakes_made : {M : Type 1} {𝓤 : Ura M} (𝓛 : Logic 𝓤) → ent 𝓤 (emp 𝓤) (sem 𝓛 (WakesData.own_val (record {}, tt) (ghost_val ∷ [])))
+wakes_made 𝓛 = makes_shadow 𝓛 (WakesData.own_val (record {}, tt) (ghost_val ∷ [])) (λ vss. (tt, ((λ uss. (tt, tt)), tt))) ((vstruct vnil ∷ [], tt), (refl, ((tt, (refl, tt)), tt)))
 
-abbrev pub WriterWaitsData : RattleType
-WriterWaitsData = Struct (shape WriterWaits.the_type)
+-- the words that an end lends: a pointer, and a field that takes no space
+abbrev pub lent_val : Ptr → Val
+lent_val w = vstruct (vcons (ptr_val w) (vcons (vstruct vnil) vnil))
 
-pub writer_waits_made : {M : Type 1} {𝓤 : Ura M} (𝓛 : Logic 𝓤) → ent 𝓤 (emp 𝓤) (sem 𝓛 (WriterWaitsData.own_val (record {}, tt) (ghost_val ∷ [])))
-writer_waits_made 𝓛 = makes_shadow 𝓛 (WriterWaitsData.own_val (record {}, tt) (ghost_val ∷ [])) (λ vss. (tt, ((λ uss. (tt, tt)), tt))) ((vstruct vnil ∷ [], tt), (refl, ((tt, (refl, tt)), tt)))
+module _ (a : NamedLft) where
+  abbrev pub LentData : RattleType
+  LentData = Struct (shape (SlotWords.the_type a))
 
-abbrev pub ReaderWakesData : RattleType
-ReaderWakesData = Struct (shape ReaderWakes.the_type)
+  pub lent_told : (w : Ptr) (vs : List Val) → Is LentData (w, (tt, tt)) vs → vs ≡ lent_val w ∷ []
+  lent_told w vs is = is.1.0 ∙ ap (λ (ws : List Val). vstruct (of_list (ws ++ (is.0.1.0 ++ []))) ∷ []) is.1.1.0 ∙ ap (λ (ws : List Val). vstruct (of_list (ptr_val w ∷ (ws ++ []))) ∷ []) is.1.1.1.0.1.0
 
-pub reader_wakes_made : {M : Type 1} {𝓤 : Ura M} (𝓛 : Logic 𝓤) → ent 𝓤 (emp 𝓤) (sem 𝓛 (ReaderWakesData.own_val (record {}, tt) (ghost_val ∷ [])))
-reader_wakes_made 𝓛 = makes_shadow 𝓛 (ReaderWakesData.own_val (record {}, tt) (ghost_val ∷ [])) (λ vss. (tt, ((λ uss. (tt, tt)), tt))) ((vstruct vnil ∷ [], tt), (refl, ((tt, (refl, tt)), tt)))
+  pub lent_made : {M : Type 1} {𝓤 : Ura M} (𝓛 : Logic 𝓤) (w : Ptr) → ent 𝓤 (emp 𝓤) (sem 𝓛 (LentData.own_val (w, (tt, tt)) (lent_val w ∷ [])))
+  lent_made 𝓛 w = makes_shadow 𝓛 (LentData.own_val (w, (tt, tt)) (lent_val w ∷ [])) (λ vss. (tt, (tt, ((λ uss. (tt, tt)), tt)))) ((ptr_val w ∷ [], (vstruct vnil ∷ [], tt)), (refl, (refl, ((tt, (refl, tt)), tt))))
 
 -- a tuple of seven
 abbrev pub seven_val : Val → Val → Val → Val → Val → Val → Val → Val

@@ -20,7 +20,7 @@ pub use types.Part.{agg, whole, sub, look_in}
 pub use types.Run.{no_more, and_then, returns, enter, of_opd, unit_lit, stop, fld, lit, first, exec, blocks, init, bin, assigns_last, load, look, Calls-last}
 pub use types.Tokens.{shr_bor-open, obor_close}
 pub use denote.Builtin.{u8, usize, RefOf, u64}
-pub use denote.Exit.{yes}
+pub use denote.Exit.{yes, no}
 pub use denote.Laws.{Is, shows}
 pub use denote.Memory.{part_at, lone, shared_of, mem, hidden_shr, cell_at}
 pub use denote.Opens.{unhide, hide}
@@ -32,7 +32,7 @@ pub use denote.RattleType.{RattleType, owns}
 pub use denote.RawPtr.{Ptr, block_ptr, block_of, count_of, ptr_val, null_ptr, in_a_block, RawPtr, at_block}
 pub use denote.Ref.{shr_vals, shr_Tells, mut_vals, mut_Tells}
 pub use denote.SharingLaws.{beside_shr_laws, nothing_shr_laws, said_shr_laws}
-pub use denote.Signature.{plain, types_at}
+pub use denote.Signature.{plain, types_at, named_lft}
 pub use denote.Steps.{nothing, peeks, opens, closes}
 pub use denote.Struct.Laws.{field_copy, RawPtr-copy}
 pub use denote.Struct.Lending.{Lends, Lends-both, Lends-nothing, Lends-said, Lends-first, of_Lends, lent_out}
@@ -42,7 +42,7 @@ pub use denote.Triple.Entry.{alive}
 pub use denote.Triple.Walked.{Stays, stay_dropped, walk_of, Goes-dropped, stay_ref, Goes-ref}
 pub use contract.Monad.{fact, fact_i}
 pub use contract.Running.{tables}
-pub use Rattle.core.proofs.atomic.Steps.{tail}
+pub use Rattle.core.proofs.atomic.Steps.{tail, guard_good}
 pub use Rattle.core.proofs.slots.Bodies.{after}
 pub use Rattle.core.proofs.slots.Lent.{pointer_in, pointer_out}
 pub use Rattle.core.specs.Allocator.{array_of, owned_block, block_if_ok}
@@ -53,9 +53,9 @@ pub use Rattle.piper_protocol.specs.WriterIndices.{WriterIndices, room_in, left_
 pub use Rattle.piper_ring.specs.Block.{heap_token, words_type}
 pub use Rattle.piper_ring.specs.Places.{byte, unset, place, run_lent, places_lent}
 pub use Rattle.piper_ring.specs.ReadView.{ReadView, read_view_of, in_one_piece}
-pub use Rattle.piper_ring.specs.Shared.{announced, raised, Names, State, Holds, half, other, flag, word, writer_knows, reader_knows, ends, Inner, common, slots, deeds, gone, where_gone, until_both, arrived_first, blanks, memory, reader_owns, reader_lends, writer_owns, writer_lends, took, idle, word_room, slot_rooms, all_rooms, state_holds, began, Placed, Consumed, coded_stream, coded_consumed, published, consumed, waits_for, wakes_for, waits_back, wakes_back, ring_of}
-pub use Rattle.piper_ring.specs.SlotViews.{of_reader_waits, of_reader_wakes, of_writer_wakes, of_writer_waits}
-pub use Rattle.piper_ring.specs.Slots.{held_at, Waits, Wakes, IsWhere, Slot, with_waiter, code_of, slot, slot_at, Looks, Takes, GivesBack, PublishesWaker, Reclaims, IsRemembered}
+pub use Rattle.piper_ring.specs.Shared.{announced, raised, Names, State, Holds, half, other, flag, word, writer_knows, reader_knows, ends, Inner, common, slots, deeds, gone, where_gone, until_both, arrived_first, blanks, memory, reader_owns, reader_lends, writer_owns, writer_lends, took, idle, word_room, slot_rooms, all_rooms, state_holds, began, Placed, Known, by_reader, by_writer, knows, evidence, flag_word, waker_place, waits_in, wakes_in, words_lent, lent_by, ring_of}
+pub use Rattle.piper_ring.specs.SlotViews.{of_waits, of_wakes, SameWaiter, SameWaker}
+pub use Rattle.piper_ring.specs.Slots.{Stored, as_stored, nothing_stored, stored_code, held_at, Waits, Wakes, IsWhere, Slot, with_waiter, code_of, slot, slot_at, Looks, Takes, GivesBack, PublishesWaker, Reclaims, IsRemembered}
 pub use Rattle.piper_ring.specs.Streams.{Stream, Reaches, streams, reaches_same, open_reaches, reaches_trans}
 pub use Rattle.piper_ring.specs.WriteView.{WriteView}
 pub use Rattle.rtrb.proofs.Asks.{Lies}

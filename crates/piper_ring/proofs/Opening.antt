@@ -1,6 +1,6 @@
 -- A ring is opened: the words are cut out of their room, the bytes are places, and the invariant is
 -- made. Assumes `Logic`.
-use Rattle.piper_ring.proofs.Kit.{◌≡◌, ℕ, suc, ◌+◌, ◌-◌, ◌*◌, ◌<◌, ◌^◌, true, false, List, [], ◌∷◌, length, sym, refl, ap, ◌∙◌, subst, arith, Ura, full_share, Order, numbers, latest, at_least, SProp, ent, sep, emp, ex, via, id⊢, Fml, ftrue, fsep, finv, fobs, Logic, sem, latest_shows, assume, ‵, ◌⊛◌, some, later, ◌$◌, ◌∵◌, !, qed, by, move, split, split3, fsplit, fsplit3, fjoin, fjoin3, fpack, pick, show, frame, rewrite, check, use0, use1, use2, use3, updating, await, now, done, Ptr, nothing, Ty, ty_int, w64, u8, lone, block_of, count_of, array_of, fwand, froom, span, slot_of as offset_of, span_map, unset, Stream, streams, reaches_same, Names, State, Holds, half, other, word, word_room, words_type, slot_rooms, all_rooms, idle, Inner, Placed, common, reader_owns, writer_owns, Waits, Wakes, IsWhere, Slot, with_waiter, code_of, slot, slot_at, Consumed, coded_stream, coded_consumed, published, consumed, took, waits_for, wakes_for, waits_back, wakes_back}
+use Rattle.piper_ring.proofs.Kit.{Stored, nothing_stored, stored_code, evidence, waits_in, wakes_in, ◌≡◌, ℕ, suc, ◌+◌, ◌-◌, ◌*◌, ◌<◌, ◌^◌, true, false, List, [], ◌∷◌, length, sym, refl, ap, ◌∙◌, subst, arith, Ura, full_share, Order, numbers, latest, at_least, SProp, ent, sep, emp, ex, via, id⊢, Fml, ftrue, fsep, finv, fobs, Logic, sem, latest_shows, assume, ‵, ◌⊛◌, some, later, ◌$◌, ◌∵◌, !, qed, by, move, split, split3, fsplit, fsplit3, fjoin, fjoin3, fpack, pick, show, frame, rewrite, check, use0, use1, use2, use3, updating, await, now, done, Ptr, nothing, Ty, ty_int, w64, u8, lone, block_of, count_of, array_of, fwand, froom, span, slot_of as offset_of, span_map, unset, Stream, streams, reaches_same, Names, State, Holds, half, other, word, word_room, words_type, slot_rooms, all_rooms, idle, Inner, Placed, common, reader_owns, writer_owns, Waits, Wakes, IsWhere, Slot, with_waiter, code_of, slot, slot_at, took}
 use types.Growing.{latest_new}
 use denote.RawPtr.{InBlock}
 use types.Owned.{basic}
@@ -107,7 +107,7 @@ module _ {M : Type 1} {𝓤 : Ura M} (𝓛 : Logic 𝓤) (w p : Ptr) (cap : ℕ)
 
   -- each side of a slot, as it begins
   abbrev pub Slotted : Names → Fml
-  Slotted z = fsep (fsep (waits_for z true 0 [] false) (wakes_for z false 0 [] false)) (fsep (waits_back z true 0 0 false) (wakes_back z false 0 0 false))
+  Slotted z = fsep (fsep (waits_in z true true 0 nothing_stored) (wakes_in z true false 0 nothing_stored)) (fsep (waits_in z false true 0 nothing_stored) (wakes_in z false false 0 nothing_stored))
 
   abbrev pub IsNamed : ℕ → ℕ → ℕ → Names → Type 0
   IsNamed mine theirs life z = (z.capacity ≡ cap) × (z.reader_place ≡ mine) × (z.writer_place ≡ theirs) × (z.life ≡ life)
@@ -167,14 +167,14 @@ module _ {M : Type 1} {𝓤 : Ura M} (𝓛 : Logic 𝓤) (w p : Ptr) (cap : ℕ)
       use0 𝓛 (later (some (λ (γ : ℕ). ‵ (latest numbers half γ 0) ⊛ ‵ (latest numbers other γ 0)))) (starts 0) $ await ! tt $ pick ! (λ k. split ! $
       move ! (3 ∷ 0 ∷ []) $ fjoin ! $ move ! (2 ∷ 1 ∷ []) $ fjoin ! $
       use0 𝓛 (later (some (λ (γ : ℕ). ‵ (latest numbers full_share γ 0)))) (via 𝓤 _ (latest_new numbers 𝓛 0) (basic 𝓛 _)) $ await ! tt $ pick ! (λ x.
-      let y : Names = names_of cap s l h k x j i 0 0 0 0 0 0 0 in let was : Consumed = (0, false) in
-      move ! (4 ∷ []) $ fsplit3 ! $ use1 𝓛 (‵ (latest O half s none) ⊛ ‵ (published y none)) (latest_shows O 𝓛 half s none none (reaches_same none)) $ split ! $ move ! (0 ∷ 2 ∷ 3 ∷ []) $ fjoin3 ! $
+      let y : Names = names_of cap s l h k x j i 0 0 0 0 0 0 0 in let n : Stored = nothing_stored in
+      move ! (4 ∷ []) $ fsplit3 ! $ use1 𝓛 (‵ (latest O half s none) ⊛ ‵ (evidence y true nothing_stored)) (latest_shows O 𝓛 half s none none (reaches_same none)) $ split ! $ move ! (0 ∷ 2 ∷ 3 ∷ []) $ fjoin3 ! $
       move ! (4 ∷ []) $ fsplit ! $ fsplit ! $ use1 𝓛 (‵ (latest numbers half h 0) ⊛ ‵ (took y 0)) (latest_shows numbers 𝓛 half h 0 0 (omega arith)) $ split ! $ move ! (0 ∷ 2 ∷ []) $ fjoin ! $ move ! (0 ∷ 2 ∷ []) $ fjoin ! $
       move ! (1 ∷ []) $ nothing ! $ move ! (1 ∷ 0 ∷ []) $ fjoin ! $ move ! (9 ∷ []) $ fsplit3 ! $ move ! (2 ∷ []) $ fsplit ! $
-      move ! (0 ∷ 1 ∷ 4 ∷ []) $ use3 𝓛 (later (some (λ (γ : ℕ × ℕ). ‵ (slot w 72 γ.0 γ.1 theirs coded_consumed (consumed y)) ⊛ ‵ (fobs γ.0 ((code_of Consumed coded_consumed).code (true, (0, was)))) ⊛ ‵ (fobs γ.1 ((code_of Consumed coded_consumed).code (false, (0, was)))))))
-      (slot_new coded_consumed (consumed y) was theirs 72) $ await ! tt $ pick ! (λ d. split3 ! $
-      move ! (3 ∷ 4 ∷ 7 ∷ []) $ use3 𝓛 (later (some (λ (γ : ℕ × ℕ). ‵ (slot w 144 γ.0 γ.1 mine coded_stream (published y)) ⊛ ‵ (fobs γ.0 ((code_of Stream coded_stream).code (true, (0, none)))) ⊛ ‵ (fobs γ.1 ((code_of Stream coded_stream).code (false, (0, none)))))))
-      (slot_new coded_stream (published y) none mine 144) $ await ! tt $ pick ! (λ a. split3 ! $
+      move ! (0 ∷ 1 ∷ 4 ∷ []) $ use3 𝓛 (later (some (λ (γ : ℕ × ℕ). ‵ (slot w 72 γ.0 γ.1 theirs stored_code (evidence y false)) ⊛ ‵ (fobs γ.0 ((code_of Stored stored_code).code (true, (0, n)))) ⊛ ‵ (fobs γ.1 ((code_of Stored stored_code).code (false, (0, n)))))))
+      (slot_new stored_code (evidence y false) n theirs 72) $ await ! tt $ pick ! (λ d. split3 ! $
+      move ! (3 ∷ 4 ∷ 7 ∷ []) $ use3 𝓛 (later (some (λ (γ : ℕ × ℕ). ‵ (slot w 144 γ.0 γ.1 mine stored_code (evidence y true)) ⊛ ‵ (fobs γ.0 ((code_of Stored stored_code).code (true, (0, n)))) ⊛ ‵ (fobs γ.1 ((code_of Stored stored_code).code (false, (0, n)))))))
+      (slot_new stored_code (evidence y true) n mine 144) $ await ! tt $ pick ! (λ a. split3 ! $
       let z : Names = names_of cap s l h k x j i a.0 a.1 d.0 d.1 mine theirs life in let so : Holds cap fresh = record { known = omega arith; arrived = omega arith; written = omega arith; freed = omega arith; closing = omega arith; shutting = omega arith; stages = (omega arith, omega arith) } in
       let I : Fml = Inner w p z in let C : Fml = common w p z in
       move ! (0 ∷ 3 ∷ []) $ fjoin ! $ move ! (11 ∷ 0 ∷ []) $ nothing ! $ nothing ! $ fjoin ! $ move ! (1 ∷ 0 ∷ []) $ fjoin ! $ fjoin ! $ move ! (1 ∷ 2 ∷ []) $ fjoin ! $ move ! (2 ∷ 3 ∷ []) $ fjoin ! $ move ! (1 ∷ 0 ∷ []) $ fjoin ! $ move ! (1 ∷ 4 ∷ 5 ∷ 2 ∷ 6 ∷ 3 ∷ 7 ∷ 0 ∷ []) $

@@ -3,6 +3,7 @@ use Rattle.piper_ring.proofs.Kit.{ℕ, Bool, List, [], ◌∷◌, Ura, Order, nu
 use base.Share.{left, right, halves}
 use base.Fml.{fbor, fshr_bor}
 use ghost.Rules.{Halves}
+use Rattle.piper_ring.specs.Shared.{Known, by_reader, by_writer, knows}
 use types.Logic.{lfts}
 use types.Growing.{latest_cut, latest_glue}
 use types.Tokens.{bor_fracture}
@@ -63,6 +64,10 @@ module _ {M : Type 1} {𝓤 : Ura M} (𝓛 : Logic 𝓤) where
     pub reader_halves : (head seen stage : ℕ) → Halves 𝓤 H A (λ q. reader_knows w p z q head seen stage)
     reader_halves head seen stage = both_halve (λ q. fsep (latest numbers q z.head head) (latest numbers q z.reader_stage stage)) (λ q. latest numbers q z.seen seen)
         (both_halve (λ q. latest numbers q z.head head) (λ q. latest numbers q z.reader_stage stage) (right_halves numbers z.head head) (right_halves numbers z.reader_stage stage)) (right_halves numbers z.seen seen)
+
+    pub known_halves : (k : Known) → Halves 𝓤 H A (knows w p z k)
+    known_halves (by_reader head seen leaving) = reader_halves head seen (flag leaving)
+    known_halves (by_writer sent limit shut) = writer_halves sent limit shut 0
 
     pub fractures : (Φ : Share → Fml) (s : Share) (l : Lft) → Lends 𝓛 (Φ s) (one Φ) l
     fractures Φ s l ν ts inc sp = qed 𝓛 (‵ (fbor ν (Φ s)) ∷ raw (lfts 𝓛 ts) ∷ []) {P = H.⇛ (sep 𝓤 (sem 𝓛 (fshr_bor ν Φ)) (lfts 𝓛 ts))} (updating ! $ bor_fracture ! tt Φ s $ now ! $ done !)

@@ -1,15 +1,23 @@
 -- The steps of both sides on a slot. Assumes `Logic`.
-use Rattle.piper_ring.proofs.Kit.{◌≡◌, ℕ, ◌+◌, ◌≤◌, ◌⊎◌, inl, inr, Bool, true, false, List, [], ◌∷◌, sym, refl, ◌∙◌, subst, arith, Ura, SProp, ent, sep, upd, ex, guard, upd_i, apply∗, Share, Fml, ftrue, fsep, fex, fwand, fobs, Logic, sem, ‵, raw, ◌⊛◌, some, given, ◌$◌, ◌∵◌, !, qed, by, move, keep, split, split3, fsplit, fsplit3, fjoin, fjoin3, fpick, fpack, pick, learn, check, show, frame, assume, settle, suffices, rewrite, use1, use2, done, drop as forget, Ptr, block_ptr, block_of, count_of, nothing, asks, always, Lies, with_waiter, held_at, Waits, Wakes, IsWhere, Slot, code_of, slot, slot_at, Looks, Takes, GivesBack, PublishesWaker, Reclaims, IsRemembered, Names, State, Holds, other, word, reader_knows, writer_knows, slots, Inner, common, Order, numbers, latest, latest_shows, Stream, streams, reaches_same, took, raised, published, consumed, coded_stream, coded_consumed, Consumed}
+use Rattle.piper_ring.proofs.Kit.{◌*◌, ◌^◌, ◌<◌, lit<, flag, ◌≡◌, ℕ, ◌+◌, ◌≤◌, ◌⊎◌, inl, inr, Bool, true, false, List, [], ◌∷◌, sym, refl, ◌∙◌, subst, arith, Ura, SProp, ent, sep, upd, ex, guard, upd_i, apply∗, Share, Fml, ftrue, fsep, fex, fwand, fobs, Logic, sem, ‵, raw, ◌⊛◌, some, given, ◌$◌, ◌∵◌, !, qed, by, move, keep, split, split3, fsplit, fsplit3, fjoin, fjoin3, fpick, fpack, pick, learn, check, show, frame, assume, settle, suffices, rewrite, use1, use2, done, drop as forget, Ptr, block_ptr, block_of, count_of, nothing, asks, always, Lies, with_waiter, held_at, Waits, Wakes, IsWhere, Slot, code_of, slot, slot_at, Looks, Takes, GivesBack, PublishesWaker, Reclaims, IsRemembered, Names, State, Holds, other, word, reader_knows, writer_knows, slots, Inner, common, Order, numbers, latest, latest_shows, Stream, streams, reaches_same, took, raised}
 use Rattle.std.proofs.lemmas.Bool.{false≢true}
 use base.Stored.{Gv}
 use base.Fml.{fauth}
 use types.Tokens.{name_agree}
 use Rattle.std.specs.Coded.{Coded}
 use Rattle.piper_ring.specs.Places.{fact}
-use Rattle.piper_ring.specs.Slots.{Where, in_slot, with_taker, handed_back, Held, held, flag_of, back_of}
-use Rattle.piper_ring.specs.Shared.{reader_slot, writer_slot}
+use Rattle.piper_ring.specs.Slots.{Where, in_slot, with_taker, handed_back, Held, held, flag_of, back_of, Stored, as_stored, stored_code}
+use Rattle.piper_ring.specs.Shared.{slot_of, Known, by_reader, by_writer, knows, evidence, flag_word, waiter, waker, waker_place, waits_in, wakes_in}
 use Rattle.piper_ring.proofs.Evidence.{announced_twice, took_twice, raised_twice}
-use Rattle.piper_ring.proofs.Steps.{inside, Rest, OneStays, ReaderSees, WriterSees, reader_opens, writer_opens, closes}
+use Rattle.piper_ring.proofs.Steps.{flag_small, inside, Rest, OneStays, ReaderSees, WriterSees, reader_opens, writer_opens, closes}
+
+pub flag_fits : (r : Bool) → flag_word r * 8 < 2 ^ 64
+flag_fits true = lit< tt
+flag_fits false = lit< tt
+
+pub back_fits : (r : Bool) → 8 + flag_word r * 8 < 2 ^ 64
+back_fits true = lit< tt
+back_fits false = lit< tt
 
 -- a step on a word makes f of what is there, and leaves the other word
 abbrev pub OnFlag : (ℕ → ℕ) → Where → Where → Type 0
@@ -171,12 +179,12 @@ module _ {M : Type 1} {𝓤 : Ura M} (𝓛 : Logic 𝓤) (w p : Ptr) (z : Names)
       use2 𝓛 (some (λ (s : State). given (WriterSees 𝓛 w p z sent limit shut i s) (‵ K ⊛ ‵ (WK other s.sent s.limit s.shut s.writer_stage) ⊛ ‵ (RK other s.head s.seen s.reader_stage) ⊛ ‵ (Rest 𝓛 w p z s)))) (writer_opens 𝓛 w p z q sent limit shut i le) $ pick ! (λ s. learn ! (λ so. split3 ! $
       move ! (2 ∷ []) $ split ! $ let ei = so.4 in let top = so.0.stages.0 in move ! (2 ∷ 3 ∷ 0 ∷ 1 ∷ []) $ by ! (slots_lent K s so.0 (omega arith))))
 
-  readers_own : (K : Fml) → Lent K (slots w p z) → Lent K (reader_slot w p z)
-  readers_own K h = let F : Fml = reader_slot w p z in let S : Fml = slots w p z in qed 𝓛 (‵ I ∷ ‵ K ∷ []) ∵ use2 𝓛 (‵ K ⊛ ‵ S ⊛ ‵ (fwand S I)) h $ split3 ! $ frame ! $
+  readers_own : (K : Fml) → Lent K (slots w p z) → Lent K (slot_of w p z true)
+  readers_own K h = let F : Fml = slot_of w p z true in let S : Fml = slots w p z in qed 𝓛 (‵ I ∷ ‵ K ∷ []) ∵ use2 𝓛 (‵ K ⊛ ‵ S ⊛ ‵ (fwand S I)) h $ split3 ! $ frame ! $
       fsplit ! $ frame ! $ assume ! (‵ F) $ move ! (0 ∷ 1 ∷ []) $ fjoin ! $ by ! (apply∗ 𝓤 ⟦ S ⟧ ⟦ I ⟧)
 
-  writers_own : (K : Fml) → Lent K (slots w p z) → Lent K (writer_slot w p z)
-  writers_own K h = let F : Fml = writer_slot w p z in let S : Fml = slots w p z in qed 𝓛 (‵ I ∷ ‵ K ∷ []) ∵ use2 𝓛 (‵ K ⊛ ‵ S ⊛ ‵ (fwand S I)) h $ split3 ! $ frame ! $
+  writers_own : (K : Fml) → Lent K (slots w p z) → Lent K (slot_of w p z false)
+  writers_own K h = let F : Fml = slot_of w p z false in let S : Fml = slots w p z in qed 𝓛 (‵ I ∷ ‵ K ∷ []) ∵ use2 𝓛 (‵ K ⊛ ‵ S ⊛ ‵ (fwand S I)) h $ split3 ! $ frame ! $
       fsplit ! $ move ! (1 ∷ []) $ frame ! $ assume ! (‵ F) $ move ! (1 ∷ 0 ∷ []) $ fjoin ! $ by ! (apply∗ 𝓤 ⟦ S ⟧ ⟦ I ⟧)
 
   -- what is in one of two hands stays there or goes to the other
@@ -286,140 +294,89 @@ module _ {M : Type 1} {𝓤 : Ura M} (𝓛 : Logic 𝓤) (w p : Ptr) (z : Names)
         move ! (0 ∷ 4 ∷ []) $ use2 𝓛 (‵ I) (apply∗ 𝓤 ⟦ F ⟧ ⟦ I ⟧) $ suffices ! _ (upd_i 𝓤 Z) $ frame ! $
         check ! (subst (λ (r : Waits X × Wakes X). IsRemembered X r.0 r.1) (λ j. (sym ea j, sym eb j)) (remembers s.0 s.1.0 s.1.1 is_registered)) $ move ! (2 ∷ 1 ∷ 0 ∷ []) $ done !))))
 
+  -- evidence can be had twice
+  evidence_twice : (r : Bool) (x : Stored) → ⟦ evidence z r x ⟧ ⊢ ⟦ evidence z r x ⟧ ∗ ⟦ evidence z r x ⟧
+  evidence_twice true x = announced_twice 𝓛 z x.bytes x.closed
+  evidence_twice false x = let T : Fml = took z x.count in let S : Fml = raised z.closed x.closed in qed 𝓛 (‵ (evidence z false x) ∷ []) ∵ fsplit ! $ use1 𝓛 (‵ T ⊛ ‵ T) (took_twice 𝓛 z x.count) $ split ! $ move ! (2 ∷ []) $
+      use1 𝓛 (‵ S ⊛ ‵ S) (raised_twice 𝓛 z.closed x.closed) $ split ! $ move ! (2 ∷ 0 ∷ []) $ fjoin ! $ move ! (2 ∷ 1 ∷ []) $ fjoin ! $ done !
+
+  -- an end that lends its words knows that both slots are there
+  slot_lent : (q : Share) (k : Known) (r : Bool) → Lent (knows w p z k q) (slot_of w p z r)
+  slot_lent q (by_reader head seen leaving) true = readers_own (RK q head seen (flag leaving)) (reader_lent q head seen (flag leaving) (flag_small leaving))
+  slot_lent q (by_reader head seen leaving) false = writers_own (RK q head seen (flag leaving)) (reader_lent q head seen (flag leaving) (flag_small leaving))
+  slot_lent q (by_writer sent limit shut) true = readers_own (WK q sent limit shut 0) (writer_lent q sent limit shut 0 (flag_small false))
+  slot_lent q (by_writer sent limit shut) false = writers_own (WK q sent limit shut 0) (writer_lent q sent limit shut 0 (flag_small false))
+
+  module _ (q : Share) (k : Known) (r : Bool) where
+    abbrev K : Fml
+    K = knows w p z k q
+
+    abbrev far : ℕ
+    far = flag_word r * 8
+
+    abbrev place : ℕ
+    place = waker_place z r
+
+    abbrev shows : Stored → Fml
+    shows = evidence z r
+
+    -- the steps of the side that waits in the slot
+    module _ (a : Waits Stored) where
+      abbrev A' : Fml
+      A' = waits_in z r a.0 a.1.0 a.1.1
+
+      abbrev pub Waited : (ℕ → Stored → Waits Stored → Held → Type 0) → ℕ → Fml
+      Waited = WaitAfter far (waiter z r) (waker z r) place stored_code shows K
+
+      on_flag : (u : Held) (f : ℕ → ℕ) (then : ℕ → Stored → Waits Stored → Held → Type 0) → ((b : Wakes Stored) (at : Where) → IsWhere Stored at a b → WaitsTo (OnFlag f) then (flag_of at) u a b at) → ⟦ C ⟧ ∗ ⟦ K ⟧ ∗ ⟦ fsep A' (held place u) ⟧ ⊢ access far f (Waited then)
+      on_flag u f then can = waits_flag far (waiter z r) (waker z r) place stored_code shows K (slot_lent q k r) (evidence_twice r) u a f then can
+
+      empty_handed : {P : Pr} → ⟦ C ⟧ ∗ ⟦ K ⟧ ∗ ⟦ fsep A' (held place none) ⟧ ⊢ P → ⟦ C ⟧ ∗ ⟦ K ⟧ ∗ ⟦ A' ⟧ ⊢ P
+      empty_handed h = qed 𝓛 (‵ C ∷ ‵ K ∷ ‵ A' ∷ []) ∵ move ! (2 ∷ []) $ nothing ! $ move ! (1 ∷ 0 ∷ []) $ fjoin ! $ move ! (1 ∷ 2 ∷ 0 ∷ []) $ by ! h
+
+      pub is_registered : ⟦ C ⟧ ∗ ⟦ K ⟧ ∗ ⟦ A' ⟧ ⊢ access far (λ n. n) (Waited (StaysSo a))
+      is_registered = empty_handed (on_flag none (λ n. n) (StaysSo a) (stays_so a))
+
+      pub cancel : a.0 ≡ false → ⟦ C ⟧ ∗ ⟦ K ⟧ ∗ ⟦ A' ⟧ ⊢ access far (λ _. 0) (Waited (Cancels a))
+      cancel gave = empty_handed (on_flag none (λ _. 0) (Cancels a) (cancels a gave))
+
+      pub reclaim : a.0 ≡ false → ⟦ C ⟧ ∗ ⟦ K ⟧ ∗ ⟦ A' ⟧ ⊢ access (8 + far) (λ _. 0) (Waited (ReclaimsHeld a))
+      reclaim gave = empty_handed (waits_back far (waiter z r) (waker z r) place stored_code shows K (slot_lent q k r) (evidence_twice r) none a (λ _. 0) (ReclaimsHeld a) (reclaims a gave))
+
+      pub publish : a.0 ≡ true → ⟦ C ⟧ ∗ ⟦ K ⟧ ∗ ⟦ fsep A' (held place filled) ⟧ ⊢ access far (λ _. 1) (Waited (λ n x a' _. PublishesWaker Stored a x n a'))
+      publish owns = on_flag filled (λ _. 1) (λ n x a' _. PublishesWaker Stored a x n a') (publishes_waker a owns)
+
+      -- both sides of the slot, held by one thread
+      pub meet : (b : Wakes Stored) → ⟦ C ⟧ ∗ ⟦ K ⟧ ∗ ⟦ A' ⟧ ∗ ⟦ wakes_in z r b.0 b.1.0 b.1.1 ⟧ ⊢ H.⇛ (Met far (waiter z r) (waker z r) place stored_code shows K a b)
+      meet b = meets far (waiter z r) (waker z r) place stored_code shows K (slot_lent q k r) a b
+
+    -- the steps of the side that wakes whoever waits there, with evidence of what it stored
+    module _ (b : Wakes Stored) (x : Stored) where
+      abbrev B' : Fml
+      B' = wakes_in z r b.0 b.1.0 b.1.1
+
+      abbrev pub Woke : (ℕ → Wakes Stored → Held → Type 0) → ℕ → Fml
+      Woke = WakeAfter far (waiter z r) (waker z r) place stored_code shows K
+
+      wakes_on_flag : (f : ℕ → ℕ) (then : ℕ → Wakes Stored → Held → Type 0) → ((a : Waits Stored) (at : Where) → IsWhere Stored at a b → WakesTo (OnFlag f) then (flag_of at) x none a b at) → ⟦ C ⟧ ∗ ⟦ K ⟧ ∗ ⟦ B' ⟧ ∗ ⟦ shows x ⟧ ⊢ access far f (Woke then)
+      wakes_on_flag f then can = qed 𝓛 (‵ C ∷ ‵ K ∷ ‵ B' ∷ ‵ (shows x) ∷ []) ∵ move ! (2 ∷ []) $ nothing ! $ move ! (1 ∷ 0 ∷ []) $ fjoin ! $ move ! (1 ∷ 2 ∷ 0 ∷ 3 ∷ []) $
+          by ! (wakes_flag far (waiter z r) (waker z r) place stored_code shows K (slot_lent q k r) none b x f then can)
+
+      pub look_flag : b.0 ≡ false → ⟦ C ⟧ ∗ ⟦ K ⟧ ∗ ⟦ B' ⟧ ∗ ⟦ shows x ⟧ ⊢ access far (λ n. n) (Woke (λ n b' _. Looks Stored b x n b'))
+      look_flag rests = wakes_on_flag (λ n. n) (λ n b' _. Looks Stored b x n b') (looks b x rests)
+
+      pub take_waker : b.0 ≡ false → ⟦ C ⟧ ∗ ⟦ K ⟧ ∗ ⟦ B' ⟧ ∗ ⟦ shows x ⟧ ⊢ access far (λ _. 0) (Woke (TakesHeld b x))
+      take_waker rests = wakes_on_flag (λ _. 0) (TakesHeld b x) (takes b x rests)
+
+      pub give_back : b.0 ≡ true → ⟦ C ⟧ ∗ ⟦ K ⟧ ∗ ⟦ fsep B' (held place emptied) ⟧ ∗ ⟦ shows x ⟧ ⊢ access (8 + far) (λ _. 1) (Woke (λ n b' _. GivesBack Stored b x n b'))
+      give_back holds = wakes_back far (waiter z r) (waker z r) place stored_code shows K (slot_lent q k r) emptied b x (λ _. 1) (λ n b' _. GivesBack Stored b x n b') (gives_back b x holds)
+
   -- what the writer's right to the stream shows
-  wk_shows : (q : Share) (sent : List ℕ) (limit : ℕ) (shut : Bool) (i : ℕ) → ⟦ WK q sent limit shut i ⟧ ⊢ ⟦ WK q sent limit shut i ⟧ ∗ ⟦ published z (sent, shut) ⟧
-  wk_shows q sent limit shut i = let O : Order Stream = streams in let s : Stream = (sent, shut) in qed 𝓛 (‵ (WK q sent limit shut i) ∷ []) ∵ fsplit3 ! $
-      use1 𝓛 (‵ (latest O q z.sent s) ⊛ ‵ (published z s)) (latest_shows O 𝓛 q z.sent s s (reaches_same s)) $ split ! $ move ! (0 ∷ 2 ∷ 3 ∷ []) $ fjoin3 ! $ done !
-
-  -- the writer's steps on the reader's slot
-  module _ (q : Share) (sent : List ℕ) (limit : ℕ) (shut : Bool) (i : ℕ) (le : i ≤ 1) (b : Wakes Stream) where
-    abbrev KW : Fml
-    KW = WK q sent limit shut i
-
-    abbrev BW : Fml
-    BW = fobs z.writer_wakes ((code_of Stream coded_stream).code b)
-
-    abbrev lent : Lent KW (reader_slot w p z)
-    lent = readers_own KW (writer_lent q sent limit shut i le)
-
-    abbrev pub WriterWoke : (ℕ → Wakes Stream → Held → Type 0) → ℕ → Fml
-    WriterWoke = WakeAfter 144 z.reader_waits z.writer_wakes z.reader_place coded_stream (published z) KW
-
-    pub writer_looks_flag : b.0 ≡ false → ⟦ C ⟧ ∗ ⟦ KW ⟧ ∗ ⟦ BW ⟧ ⊢ access 144 (λ n. n) (WriterWoke (λ n b' _. Looks Stream b (sent, shut) n b'))
-    writer_looks_flag rests = let x : Stream = (sent, shut) in qed 𝓛 (‵ C ∷ ‵ KW ∷ ‵ BW ∷ []) ∵ move ! (2 ∷ []) $ nothing ! $ move ! (1 ∷ 0 ∷ []) $ fjoin ! $ move ! (2 ∷ []) $ use1 𝓛 (‵ KW ⊛ ‵ (published z x)) (wk_shows q sent limit shut i) $ split ! $ move ! (3 ∷ 0 ∷ 2 ∷ 1 ∷ []) $
-        by ! (wakes_flag 144 z.reader_waits z.writer_wakes z.reader_place coded_stream (published z) KW lent none b x (λ n. n) (λ n b' _. Looks Stream b x n b') (looks b x rests))
-
-    pub writer_takes : b.0 ≡ false → ⟦ C ⟧ ∗ ⟦ KW ⟧ ∗ ⟦ BW ⟧ ⊢ access 144 (λ _. 0) (WriterWoke (TakesHeld b (sent, shut)))
-    writer_takes rests = let x : Stream = (sent, shut) in qed 𝓛 (‵ C ∷ ‵ KW ∷ ‵ BW ∷ []) ∵ move ! (2 ∷ []) $ nothing ! $ move ! (1 ∷ 0 ∷ []) $ fjoin ! $ move ! (2 ∷ []) $ use1 𝓛 (‵ KW ⊛ ‵ (published z x)) (wk_shows q sent limit shut i) $ split ! $ move ! (3 ∷ 0 ∷ 2 ∷ 1 ∷ []) $
-        by ! (wakes_flag 144 z.reader_waits z.writer_wakes z.reader_place coded_stream (published z) KW lent none b x (λ _. 0) (TakesHeld b x) (takes b x rests))
-
-    pub writer_gives_back : b.0 ≡ true → ⟦ C ⟧ ∗ ⟦ KW ⟧ ∗ ⟦ fsep BW (held z.reader_place emptied) ⟧ ⊢ access 152 (λ _. 1) (WriterWoke (λ n b' _. GivesBack Stream b (sent, shut) n b'))
-    writer_gives_back holds = let x : Stream = (sent, shut) in qed 𝓛 (‵ C ∷ ‵ KW ∷ ‵ (fsep BW (held z.reader_place emptied)) ∷ []) ∵ move ! (1 ∷ []) $ use1 𝓛 (‵ KW ⊛ ‵ (published z x)) (wk_shows q sent limit shut i) $ split ! $ move ! (2 ∷ 0 ∷ 3 ∷ 1 ∷ []) $
-        by ! (wakes_back 144 z.reader_waits z.writer_wakes z.reader_place coded_stream (published z) KW lent emptied b x (λ _. 1) (λ n b' _. GivesBack Stream b x n b') (gives_back b x holds))
-
-  -- the reader's steps on its own slot
-  module _ (q : Share) (head seen i : ℕ) (le : i ≤ 1) (a : Waits Stream) where
-    abbrev KR : Fml
-    KR = RK q head seen i
-
-    abbrev AR : Fml
-    AR = fobs z.reader_waits ((code_of Stream coded_stream).code a)
-
-    abbrev lent_too : Lent KR (reader_slot w p z)
-    lent_too = readers_own KR (reader_lent q head seen i le)
-
-    abbrev pub ReaderWaited : (ℕ → Stream → Waits Stream → Held → Type 0) → ℕ → Fml
-    ReaderWaited = WaitAfter 144 z.reader_waits z.writer_wakes z.reader_place coded_stream (published z) KR
-
-    pub reader_publishes_waker : a.0 ≡ true → ⟦ C ⟧ ∗ ⟦ KR ⟧ ∗ ⟦ fsep AR (held z.reader_place filled) ⟧ ⊢ access 144 (λ _. 1) (ReaderWaited (λ n x a' _. PublishesWaker Stream a x n a'))
-    reader_publishes_waker owns = waits_flag 144 z.reader_waits z.writer_wakes z.reader_place coded_stream (published z) KR lent_too (λ s. announced_twice 𝓛 z s.0 s.1) filled a (λ _. 1) (λ n x a' _. PublishesWaker Stream a x n a') (publishes_waker a owns)
-
-    pub reader_cancels : a.0 ≡ false → ⟦ C ⟧ ∗ ⟦ KR ⟧ ∗ ⟦ AR ⟧ ⊢ access 144 (λ _. 0) (ReaderWaited (Cancels a))
-    reader_cancels gave = qed 𝓛 (‵ C ∷ ‵ KR ∷ ‵ AR ∷ []) ∵ move ! (2 ∷ []) $ nothing ! $ move ! (1 ∷ 0 ∷ []) $ fjoin ! $ move ! (1 ∷ 2 ∷ 0 ∷ []) $
-        by ! (waits_flag 144 z.reader_waits z.writer_wakes z.reader_place coded_stream (published z) KR lent_too (λ s. announced_twice 𝓛 z s.0 s.1) none a (λ _. 0) (Cancels a) (cancels a gave))
-
-    pub reader_is_registered : ⟦ C ⟧ ∗ ⟦ KR ⟧ ∗ ⟦ AR ⟧ ⊢ access 144 (λ n. n) (ReaderWaited (StaysSo a))
-    reader_is_registered = qed 𝓛 (‵ C ∷ ‵ KR ∷ ‵ AR ∷ []) ∵ move ! (2 ∷ []) $ nothing ! $ move ! (1 ∷ 0 ∷ []) $ fjoin ! $ move ! (1 ∷ 2 ∷ 0 ∷ []) $
-        by ! (waits_flag 144 z.reader_waits z.writer_wakes z.reader_place coded_stream (published z) KR lent_too (λ s. announced_twice 𝓛 z s.0 s.1) none a (λ n. n) (StaysSo a) (stays_so a))
-
-    pub reader_reclaims : a.0 ≡ false → ⟦ C ⟧ ∗ ⟦ KR ⟧ ∗ ⟦ AR ⟧ ⊢ access 152 (λ _. 0) (ReaderWaited (ReclaimsHeld a))
-    reader_reclaims gave = qed 𝓛 (‵ C ∷ ‵ KR ∷ ‵ AR ∷ []) ∵ move ! (2 ∷ []) $ nothing ! $ move ! (1 ∷ 0 ∷ []) $ fjoin ! $ move ! (1 ∷ 2 ∷ 0 ∷ []) $
-        by ! (waits_back 144 z.reader_waits z.writer_wakes z.reader_place coded_stream (published z) KR lent_too (λ s. announced_twice 𝓛 z s.0 s.1) none a (λ _. 0) (ReclaimsHeld a) (reclaims a gave))
-
-    abbrev pub BothMet : Wakes Stream → Pr
-    BothMet = Met 144 z.reader_waits z.writer_wakes z.reader_place coded_stream (published z) KR a
-
-    -- the reader and what the writer knows of its slot, held by one thread
-    pub reader_meets : (b : Wakes Stream) → ⟦ C ⟧ ∗ ⟦ KR ⟧ ∗ ⟦ AR ⟧ ∗ ⟦ fobs z.writer_wakes ((code_of Stream coded_stream).code b) ⟧ ⊢ H.⇛ (BothMet b)
-    reader_meets b = meets 144 z.reader_waits z.writer_wakes z.reader_place coded_stream (published z) KR lent_too a b
+  pub writer_stored : (q : Share) (sent : List ℕ) (limit : ℕ) (shut : Bool) → ⟦ WK q sent limit shut 0 ⟧ ⊢ ⟦ WK q sent limit shut 0 ⟧ ∗ ⟦ evidence z true (as_stored sent 0 shut) ⟧
+  writer_stored q sent limit shut = let O : Order Stream = streams in let s : Stream = (sent, shut) in qed 𝓛 (‵ (WK q sent limit shut 0) ∷ []) ∵ fsplit3 ! $
+      use1 𝓛 (‵ (latest O q z.sent s) ⊛ ‵ (evidence z true (as_stored sent 0 shut))) (latest_shows O 𝓛 q z.sent s s (reaches_same s)) $ split ! $ move ! (0 ∷ 2 ∷ 3 ∷ []) $ fjoin3 ! $ done !
 
   -- what the reader's right to the head shows
-  rk_shows : (q : Share) (head seen i : ℕ) → ⟦ RK q head seen i ⟧ ⊢ ⟦ RK q head seen i ⟧ ∗ ⟦ took z head ⟧
-  rk_shows q head seen i = qed 𝓛 (‵ (RK q head seen i) ∷ []) ∵ fsplit ! $ fsplit ! $
-      use1 𝓛 (‵ (latest numbers q z.head head) ⊛ ‵ (took z head)) (latest_shows numbers 𝓛 q z.head head head (omega arith)) $ split ! $ move ! (0 ∷ 2 ∷ []) $ fjoin ! $ move ! (0 ∷ 2 ∷ []) $ fjoin ! $ done !
-
-  consumed_twice : (x : Consumed) → ⟦ consumed z x ⟧ ⊢ ⟦ consumed z x ⟧ ∗ ⟦ consumed z x ⟧
-  consumed_twice x = let T : Fml = took z x.0 in let S : Fml = raised z.closed x.1 in qed 𝓛 (‵ (consumed z x) ∷ []) ∵ fsplit ! $ use1 𝓛 (‵ T ⊛ ‵ T) (took_twice 𝓛 z x.0) $ split ! $ move ! (2 ∷ []) $
-      use1 𝓛 (‵ S ⊛ ‵ S) (raised_twice 𝓛 z.closed x.1) $ split ! $ move ! (2 ∷ 0 ∷ []) $ fjoin ! $ move ! (2 ∷ 1 ∷ []) $ fjoin ! $ done !
-
-  -- the reader's steps on the writer's slot
-  module _ (q : Share) (head seen i : ℕ) (le : i ≤ 1) (b : Wakes Consumed) where
-    abbrev KR' : Fml
-    KR' = RK q head seen i
-
-    abbrev BR : Fml
-    BR = fobs z.reader_wakes ((code_of Consumed coded_consumed).code b)
-
-    abbrev lent_back : Lent KR' (writer_slot w p z)
-    lent_back = writers_own KR' (reader_lent q head seen i le)
-
-    abbrev pub ReaderWoke : (ℕ → Wakes Consumed → Held → Type 0) → ℕ → Fml
-    ReaderWoke = WakeAfter 72 z.writer_waits z.reader_wakes z.writer_place coded_consumed (consumed z) KR'
-
-    pub reader_looks_flag : (over : Bool) → b.0 ≡ false → ⟦ C ⟧ ∗ ⟦ KR' ⟧ ∗ ⟦ BR ⟧ ∗ ⟦ raised z.closed over ⟧ ⊢ access 72 (λ n. n) (ReaderWoke (λ n b' _. Looks Consumed b (head, over) n b'))
-    reader_looks_flag over rests = let x : Consumed = (head, over) in qed 𝓛 (‵ C ∷ ‵ KR' ∷ ‵ BR ∷ ‵ (raised z.closed over) ∷ []) ∵ move ! (2 ∷ []) $ nothing ! $ move ! (1 ∷ 0 ∷ []) $ fjoin ! $ move ! (2 ∷ []) $ use1 𝓛 (‵ KR' ⊛ ‵ (took z head)) (rk_shows q head seen i) $ split ! $ move ! (1 ∷ 4 ∷ []) $ fjoin ! $ move ! (3 ∷ 1 ∷ 2 ∷ 0 ∷ []) $
-        by ! (wakes_flag 72 z.writer_waits z.reader_wakes z.writer_place coded_consumed (consumed z) KR' lent_back none b x (λ n. n) (λ n b' _. Looks Consumed b x n b') (looks b x rests))
-
-    pub reader_takes : (over : Bool) → b.0 ≡ false → ⟦ C ⟧ ∗ ⟦ KR' ⟧ ∗ ⟦ BR ⟧ ∗ ⟦ raised z.closed over ⟧ ⊢ access 72 (λ _. 0) (ReaderWoke (TakesHeld b (head, over)))
-    reader_takes over rests = let x : Consumed = (head, over) in qed 𝓛 (‵ C ∷ ‵ KR' ∷ ‵ BR ∷ ‵ (raised z.closed over) ∷ []) ∵ move ! (2 ∷ []) $ nothing ! $ move ! (1 ∷ 0 ∷ []) $ fjoin ! $ move ! (2 ∷ []) $ use1 𝓛 (‵ KR' ⊛ ‵ (took z head)) (rk_shows q head seen i) $ split ! $ move ! (1 ∷ 4 ∷ []) $ fjoin ! $ move ! (3 ∷ 1 ∷ 2 ∷ 0 ∷ []) $
-        by ! (wakes_flag 72 z.writer_waits z.reader_wakes z.writer_place coded_consumed (consumed z) KR' lent_back none b x (λ _. 0) (TakesHeld b x) (takes b x rests))
-
-    pub reader_gives_back : b.0 ≡ true → ⟦ C ⟧ ∗ ⟦ KR' ⟧ ∗ ⟦ fsep BR (held z.writer_place emptied) ⟧ ⊢ access 80 (λ _. 1) (ReaderWoke (λ n b' _. GivesBack Consumed b (head, false) n b'))
-    reader_gives_back holds = let x : Consumed = (head, false) in qed 𝓛 (‵ C ∷ ‵ KR' ∷ ‵ (fsep BR (held z.writer_place emptied)) ∷ []) ∵ move ! (1 ∷ []) $ use1 𝓛 (‵ KR' ⊛ ‵ (took z head)) (rk_shows q head seen i) $ split ! $ move ! (1 ∷ []) $ nothing ! $ move ! (1 ∷ 0 ∷ []) $ fjoin ! $ move ! (2 ∷ 1 ∷ 3 ∷ 0 ∷ []) $
-        by ! (wakes_back 72 z.writer_waits z.reader_wakes z.writer_place coded_consumed (consumed z) KR' lent_back emptied b x (λ _. 1) (λ n b' _. GivesBack Consumed b x n b') (gives_back b x holds))
-
-  -- the writer's steps on its own slot
-  module _ (q : Share) (sent : List ℕ) (limit : ℕ) (shut : Bool) (i : ℕ) (le : i ≤ 1) (a : Waits Consumed) where
-    abbrev KW' : Fml
-    KW' = WK q sent limit shut i
-
-    abbrev AW : Fml
-    AW = fobs z.writer_waits ((code_of Consumed coded_consumed).code a)
-
-    abbrev lent_own : Lent KW' (writer_slot w p z)
-    lent_own = writers_own KW' (writer_lent q sent limit shut i le)
-
-    abbrev pub WriterWaited : (ℕ → Consumed → Waits Consumed → Held → Type 0) → ℕ → Fml
-    WriterWaited = WaitAfter 72 z.writer_waits z.reader_wakes z.writer_place coded_consumed (consumed z) KW'
-
-    pub writer_publishes_waker : a.0 ≡ true → ⟦ C ⟧ ∗ ⟦ KW' ⟧ ∗ ⟦ fsep AW (held z.writer_place filled) ⟧ ⊢ access 72 (λ _. 1) (WriterWaited (λ n x a' _. PublishesWaker Consumed a x n a'))
-    writer_publishes_waker owns = waits_flag 72 z.writer_waits z.reader_wakes z.writer_place coded_consumed (consumed z) KW' lent_own consumed_twice filled a (λ _. 1) (λ n x a' _. PublishesWaker Consumed a x n a') (publishes_waker a owns)
-
-    pub writer_cancels : a.0 ≡ false → ⟦ C ⟧ ∗ ⟦ KW' ⟧ ∗ ⟦ AW ⟧ ⊢ access 72 (λ _. 0) (WriterWaited (Cancels a))
-    writer_cancels gave = qed 𝓛 (‵ C ∷ ‵ KW' ∷ ‵ AW ∷ []) ∵ move ! (2 ∷ []) $ nothing ! $ move ! (1 ∷ 0 ∷ []) $ fjoin ! $ move ! (1 ∷ 2 ∷ 0 ∷ []) $
-        by ! (waits_flag 72 z.writer_waits z.reader_wakes z.writer_place coded_consumed (consumed z) KW' lent_own consumed_twice none a (λ _. 0) (Cancels a) (cancels a gave))
-
-    pub writer_is_registered : ⟦ C ⟧ ∗ ⟦ KW' ⟧ ∗ ⟦ AW ⟧ ⊢ access 72 (λ n. n) (WriterWaited (StaysSo a))
-    writer_is_registered = qed 𝓛 (‵ C ∷ ‵ KW' ∷ ‵ AW ∷ []) ∵ move ! (2 ∷ []) $ nothing ! $ move ! (1 ∷ 0 ∷ []) $ fjoin ! $ move ! (1 ∷ 2 ∷ 0 ∷ []) $
-        by ! (waits_flag 72 z.writer_waits z.reader_wakes z.writer_place coded_consumed (consumed z) KW' lent_own consumed_twice none a (λ n. n) (StaysSo a) (stays_so a))
-
-    pub writer_reclaims : a.0 ≡ false → ⟦ C ⟧ ∗ ⟦ KW' ⟧ ∗ ⟦ AW ⟧ ⊢ access 80 (λ _. 0) (WriterWaited (ReclaimsHeld a))
-    writer_reclaims gave = qed 𝓛 (‵ C ∷ ‵ KW' ∷ ‵ AW ∷ []) ∵ move ! (2 ∷ []) $ nothing ! $ move ! (1 ∷ 0 ∷ []) $ fjoin ! $ move ! (1 ∷ 2 ∷ 0 ∷ []) $
-        by ! (waits_back 72 z.writer_waits z.reader_wakes z.writer_place coded_consumed (consumed z) KW' lent_own consumed_twice none a (λ _. 0) (ReclaimsHeld a) (reclaims a gave))
-
-    abbrev pub BothMetBack : Wakes Consumed → Pr
-    BothMetBack = Met 72 z.writer_waits z.reader_wakes z.writer_place coded_consumed (consumed z) KW' a
-
-    -- the writer and what the reader knows of its slot, held by one thread
-    pub writer_meets : (b : Wakes Consumed) → ⟦ C ⟧ ∗ ⟦ KW' ⟧ ∗ ⟦ AW ⟧ ∗ ⟦ fobs z.reader_wakes ((code_of Consumed coded_consumed).code b) ⟧ ⊢ H.⇛ (BothMetBack b)
-    writer_meets b = meets 72 z.writer_waits z.reader_wakes z.writer_place coded_consumed (consumed z) KW' lent_own a b
+  pub reader_stored : (q : Share) (head seen : ℕ) (leaving closed : Bool) → ⟦ RK q head seen (flag leaving) ⟧ ∗ ⟦ raised z.closed closed ⟧ ⊢ ⟦ RK q head seen (flag leaving) ⟧ ∗ ⟦ evidence z false (as_stored [] head closed) ⟧
+  reader_stored q head seen leaving closed = qed 𝓛 (‵ (RK q head seen (flag leaving)) ∷ ‵ (raised z.closed closed) ∷ []) ∵ fsplit ! $ fsplit ! $
+      use1 𝓛 (‵ (latest numbers q z.head head) ⊛ ‵ (took z head)) (latest_shows numbers 𝓛 q z.head head head (omega arith)) $ split ! $ move ! (0 ∷ 2 ∷ []) $ fjoin ! $ move ! (0 ∷ 2 ∷ []) $ fjoin ! $ move ! (1 ∷ 2 ∷ []) $ fjoin ! $ move ! (1 ∷ 0 ∷ []) $ done !

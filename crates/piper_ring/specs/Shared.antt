@@ -2,17 +2,17 @@
 -- Bytes are counted from the first one sent. The reader owns the places
 -- of the bytes that it knows of, the writer those of its known room;
 -- the invariant owns the words, all other places, and the right to free the memory.
-use Rattle.std.specs.Prelude.{◌≡◌, ℕ, zero, suc, ◌+◌, ◌-◌, ◌^◌, ◌<◌, ◌≤◌, Bool, true, false, List, length, drop, refl}
+use Rattle.std.specs.Prelude.{◌≡◌, ℕ, zero, suc, ◌+◌, ◌-◌, ◌*◌, ◌^◌, ◌<◌, ◌≤◌, Bool, true, false, List, length, drop, refl}
 use base.Fraction.{full_share}
 use base.Share.{left, right}
 use base.Stored.{coded_ℕ}
 use base.Growing.{numbers, latest, at_least}
-use base.Fml.{Lft, Share, Fml, ftrue, fsep, fwand, fex, froom, finv, fobs}
+use base.Fml.{Lft, Share, Fml, ftrue, fsep, fwand, fex, froom, finv, fobs, fshr_bor}
 use denote.Builtin.{u8}
 use denote.RawPtr.{Ptr, coded_ptr, block_of, count_of, InBlock}
 use denote.Sharing.{said, beside, one}
 use Rattle.core.specs.Allocator.{array_of}
-use Rattle.std.specs.Coded.{Coded, code_by, coded×, coded_list, coded_bool}
+use Rattle.std.specs.Coded.{Coded, code_by, coded×}
 use Rattle.rtrb.specs.Fifo.{position_of}
 use Rattle.rtrb.specs.Shared.{run, span}
 use Rattle.token_cell.specs.TokenCell.{right as right_to}
@@ -22,7 +22,7 @@ use Rattle.piper_ring.specs.Places.{fact, byte, unset}
 pub use Rattle.piper_ring.specs.Streams.{Stream}
 use Rattle.piper_ring.specs.Streams.{streams}
 pub use Rattle.piper_ring.specs.Words.{flag, word, word_room, where_gone}
-use Rattle.piper_ring.specs.Slots.{slot, code_of}
+use Rattle.piper_ring.specs.Slots.{Stored, stored_code, slot, code_of}
 
 -- The capacity, and the ghost names under which the ring's history is kept.
 pub record Names : Type 0 where
@@ -134,6 +134,11 @@ pub record State : Type 0 where
   pub reader_stage : ℕ
   pub writer_stage : ℕ
 
+-- what an end knows that lends its words: the reader or the writer
+pub data Known : Type 0 where
+  by_reader : ℕ → ℕ → Bool → Known
+  by_writer : List ℕ → ℕ → Bool → Known
+
 abbrev pub gone : ℕ → Bool
 gone zero = false
 gone (suc zero) = false
@@ -189,48 +194,47 @@ abbrev pub raised : ℕ → Bool → Fml
 raised γ false = ftrue
 raised γ true = at_least numbers γ 1
 
-abbrev pub coded_stream : Coded Stream
-coded_stream = coded× (coded_list coded_ℕ) coded_bool
+-- What belongs to one of the two slots: to the reader's, where the flag is `true`, else to the
+-- writer's.
 
--- how many bytes were consumed, and whether the ring is closed
-abbrev pub Consumed : Type 0
-Consumed = ℕ × Bool
+-- evidence of what the other side stored
+abbrev pub evidence : Names → Bool → Stored → Fml
+evidence z true s = announced z s.bytes s.closed
+evidence z false s = fsep (took z s.count) (raised z.closed s.closed)
 
-abbrev pub coded_consumed : Coded Consumed
-coded_consumed = coded× coded_ℕ coded_bool
+-- the index of the slot's flag among the words: its other word, `back`, is the next
+abbrev pub flag_word : Bool → ℕ
+flag_word true = 18
+flag_word false = 9
 
-abbrev pub published : Names → Stream → Fml
-published z s = announced z s.0 s.1
+abbrev pub waiter : Names → Bool → ℕ
+waiter z true = z.reader_waits
+waiter z false = z.writer_waits
 
-abbrev pub consumed : Names → Consumed → Fml
-consumed z c = fsep (took z c.0) (raised z.closed c.1)
+abbrev pub waker : Names → Bool → ℕ
+waker z true = z.writer_wakes
+waker z false = z.reader_wakes
 
--- what the reader knows of its own slot, and the writer of the reader's
-abbrev pub waits_for : Names → Bool → ℕ → List ℕ → Bool → Fml
-waits_for z owns tickets bytes shut =
-    fobs z.reader_waits ((code_of Stream coded_stream).code (owns, (tickets, (bytes, shut))))
+abbrev pub waker_place : Names → Bool → ℕ
+waker_place z true = z.reader_place
+waker_place z false = z.writer_place
 
-abbrev pub wakes_for : Names → Bool → ℕ → List ℕ → Bool → Fml
-wakes_for z holds taken bytes shut =
-    fobs z.writer_wakes ((code_of Stream coded_stream).code (holds, (taken, (bytes, shut))))
+-- what the side knows that waits in the slot
+abbrev pub waits_in : Names → Bool → Bool → ℕ → Stored → Fml
+waits_in z r owns tickets heard =
+    fobs (waiter z r) ((code_of Stored stored_code).code (owns, (tickets, heard)))
 
--- what the writer knows of its own slot, and the reader of the writer's
-abbrev pub waits_back : Names → Bool → ℕ → ℕ → Bool → Fml
-waits_back z owns tickets count over =
-    fobs z.writer_waits ((code_of Consumed coded_consumed).code (owns, (tickets, (count, over))))
-
-abbrev pub wakes_back : Names → Bool → ℕ → ℕ → Bool → Fml
-wakes_back z holds taken count over =
-    fobs z.reader_wakes ((code_of Consumed coded_consumed).code (holds, (taken, (count, over))))
+-- what the side knows that wakes whoever waits there
+abbrev pub wakes_in : Names → Bool → Bool → ℕ → Stored → Fml
+wakes_in z r holds taken left =
+    fobs (waker z r) ((code_of Stored stored_code).code (holds, (taken, left)))
 
 module _ (w p : Ptr) (z : Names) where
-  -- in the reader's slot the reader waits for what the writer publishes
-  abbrev pub reader_slot : Fml
-  reader_slot = slot w 144 z.reader_waits z.writer_wakes z.reader_place coded_stream (published z)
-
-  -- in the writer's slot the writer waits for what the reader consumes
-  abbrev pub writer_slot : Fml
-  writer_slot = slot w 72 z.writer_waits z.reader_wakes z.writer_place coded_consumed (consumed z)
+  -- in the reader's slot the reader waits for what the writer publishes, in the writer's the writer
+  -- for what the reader consumes
+  abbrev pub slot_of : Bool → Fml
+  slot_of r =
+      slot w (flag_word r * 8) (waiter z r) (waker z r) (waker_place z r) stored_code (evidence z r)
 
   abbrev pub words : State → Fml
   words s =
@@ -270,7 +274,7 @@ module _ (w p : Ptr) (z : Names) where
   leases r t = fsep (where_gone r (lease z.life true)) (where_gone t (lease z.life false))
 
   abbrev pub slots : Fml
-  slots = fsep reader_slot writer_slot
+  slots = fsep (slot_of true) (slot_of false)
 
   abbrev pub deeds : State → Fml
   deeds s = fsep (fsep titles (leases (gone s.reader_stage) (gone s.writer_stage))) slots
@@ -345,6 +349,18 @@ module _ (w p : Ptr) (z : Names) where
 
   abbrev pub writer_lends : List ℕ → ℕ → Bool → Lft → Fml
   writer_lends sent limit shut = beside (said common) (one (λ q. writer_knows q sent limit shut 0))
+
+  -- what the end knows that lends its words
+  abbrev pub knows : Known → Share → Fml
+  knows (by_reader head seen leaving) q = reader_knows q head seen (flag leaving)
+  knows (by_writer sent limit shut) q = writer_knows q sent limit shut 0
+
+  abbrev pub lent_by : Lft → Known → Fml
+  lent_by κ k = fshr_bor κ (knows k)
+
+  -- an end lends its words: so the ring is open. With them comes evidence of what it has stored.
+  abbrev pub words_lent : Bool → Stored → Lft → Fml
+  words_lent r s κ = fsep common (fsep (fex Known (lent_by κ)) (evidence z r s))
 
   -- the flag of a slot, and where it is 1, the right to the place of the waker that lies there
   abbrev pub found_left : ℕ → ℕ → Bool → Fml

@@ -3,13 +3,35 @@
 -- back. The right to the place of the waker belongs to one side at each moment, or moves with the
 -- words: a waker lies there while it is registered in the slot, and none once the place was handed
 -- back.
-use Rattle.std.specs.Prelude.{◌≡◌, ◌≢◌, ℕ, ◌+◌, ◌<◌, ◌≤◌, Bool, true, false}
+use Rattle.std.specs.Prelude.{◌≡◌, ◌≢◌, ℕ, ◌+◌, ◌<◌, ◌≤◌, Bool, true, false, List, [], refl}
 use base.Fml.{Fml, fsep, fex, fauth}
 use denote.RawPtr.{Ptr}
-use Rattle.std.specs.Coded.{Coded, coded×, coded_ℕ, coded_bool}
+use Rattle.std.specs.Coded.{Coded, code_by, coded×, coded_list, coded_ℕ, coded_bool}
 use Rattle.piper_ring.specs.Places.{fact}
 use Rattle.token_cell.specs.TokenCell.{right}
 use Rattle.piper_ring.specs.Words.{word}
+
+-- What a side has stored for the other to find: the bytes that the writer published, or how many
+-- the reader consumed, and whether the ring was closed.
+pub record Stored : Type 0 where
+  pub bytes : List ℕ
+  pub count : ℕ
+  pub closed : Bool
+
+abbrev pub as_stored : List ℕ → ℕ → Bool → Stored
+as_stored bytes count closed = record {
+  bytes = bytes;
+  count = count;
+  closed = closed;
+}
+
+abbrev pub nothing_stored : Stored
+nothing_stored = as_stored [] 0 false
+
+abbrev pub stored_code : Coded Stored
+stored_code =
+    code_by (List ℕ × (ℕ × Bool)) (coded× (coded_list coded_ℕ) (coded× coded_ℕ coded_bool))
+    (λ s. (s.bytes, (s.count, s.closed))) (λ p. as_stored p.0 p.1.0 p.1.1) (λ _. refl)
 
 -- where the place of the waker is
 pub data Where : Type 0 where

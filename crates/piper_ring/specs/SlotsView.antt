@@ -59,14 +59,15 @@ read_slots_code =
 abbrev pub read_slots_view : ReadSlotParts → ReadSlotsView
 read_slots_view s =
     read_slots s.waits.names s.waits.owns s.maybe_registered s.waits.tickets
-    s.waits.bytes s.waits.shut
-    s.wakes.taken s.wakes.count s.wakes.over
+    s.waits.heard.bytes s.waits.heard.closed
+    s.wakes.taken s.wakes.stored.count s.wakes.stored.closed
 
 pub record IsReadSlots (s : ReadSlotParts) : Type 0 where
+  pub sides : (s.waits.for_reader ≡ true) × (s.wakes.for_reader ≡ false)
   pub there : is_some s.right ≡ s.waits.owns
   pub right : IfSome s.right (IsTokenOf s.waits.names.reader_place true false)
   pub is_registered : s.maybe_registered ≡ true → s.waits.owns ≡ false
-  pub heard : (s.heard.bytes ≡ s.waits.bytes) × (s.heard.shut ≡ s.waits.shut)
+  pub heard : (s.heard.bytes ≡ s.waits.heard.bytes) × (s.heard.shut ≡ s.waits.heard.closed)
   pub rests : s.wakes.holds ≡ false
   pub of_one_ring : (s.wakes.names ≡ s.waits.names) × (s.heard.names ≡ s.waits.names)
 
@@ -120,14 +121,15 @@ write_slots_code =
 abbrev pub write_slots_view : WriteSlotParts → WriteSlotsView
 write_slots_view s =
     write_slots s.waits.names s.waits.owns s.maybe_registered s.waits.tickets
-    s.waits.count s.waits.over
-    s.wakes.taken s.wakes.bytes s.wakes.shut
+    s.waits.heard.count s.waits.heard.closed
+    s.wakes.taken s.wakes.stored.bytes s.wakes.stored.closed
 
 pub record IsWriteSlots (s : WriteSlotParts) : Type 0 where
+  pub sides : (s.waits.for_reader ≡ false) × (s.wakes.for_reader ≡ true)
   pub there : is_some s.right ≡ s.waits.owns
   pub right : IfSome s.right (IsTokenOf s.waits.names.writer_place true false)
   pub is_registered : s.maybe_registered ≡ true → s.waits.owns ≡ false
-  pub heard : (s.heard.count ≡ s.waits.count) × (s.saw.seen ≡ s.waits.over)
+  pub heard : (s.heard.count ≡ s.waits.heard.count) × (s.saw.seen ≡ s.waits.heard.closed)
   pub rests : s.wakes.holds ≡ false
   pub of_one_ring :
       (s.wakes.names ≡ s.waits.names) × (s.heard.names ≡ s.waits.names)

@@ -7,7 +7,7 @@ mod reader;
 mod writer;
 
 use crate::ring::marks::{ReadMark, Saw, WriteMark};
-use crate::ring::slots::{ReaderWaits, ReaderWakes, WriterWaits, WriterWakes};
+use crate::ring::slots::{Waits, Wakes};
 use std::marker::Model;
 use token_cell::Token;
 
@@ -18,7 +18,7 @@ pub struct Away;
 
 /// The parts of what the reader's end has of both slots.
 pub(crate) struct ReadSlotParts {
-    pub(crate) waits: ReaderWaits,
+    pub(crate) waits: Waits,
     /// The right to the place of its waker, where it is not in the slot or with the writer: then
     /// nothing lies there.
     pub(crate) right: Option<Token>,
@@ -26,7 +26,7 @@ pub(crate) struct ReadSlotParts {
     pub(crate) maybe_registered: bool,
     /// What the writer had stored when it last checked the slot before this end registered.
     pub(crate) heard: WriteMark,
-    pub(crate) wakes: ReaderWakes,
+    pub(crate) wakes: Wakes,
 }
 
 /// What the reader's end has of both slots: it waits in its own, and wakes whoever waits in the
@@ -49,7 +49,7 @@ impl Model for ReadRegistrations {
 
 /// The parts of what the writer's end has of both slots.
 pub(crate) struct WriteSlotParts {
-    pub(crate) waits: WriterWaits,
+    pub(crate) waits: Waits,
     /// The right to the place of its waker, where it is not in the slot or with the reader: then
     /// nothing lies there.
     pub(crate) right: Option<Token>,
@@ -58,7 +58,7 @@ pub(crate) struct WriteSlotParts {
     /// What the reader had stored when it last checked the slot before this end registered.
     pub(crate) heard: ReadMark,
     pub(crate) saw: Saw,
-    pub(crate) wakes: WriterWakes,
+    pub(crate) wakes: Wakes,
 }
 
 /// What the writer's end has of both slots: it waits in its own, and wakes whoever waits in the

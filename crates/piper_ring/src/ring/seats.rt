@@ -6,7 +6,7 @@ ghost use Rattle.rtrb.specs.Fifo.{position_of};
 ghost use Rattle.piper_ring.specs.Shared.{Names, names_code, reader_owns, reader_lends, writer_owns, writer_lends, flag};
 ghost use Rattle.piper_ring.specs.Block.{space_of, space_words};
 ghost use Rattle.piper_ring.specs.Loads.{FoundClosed, FoundConsumed, FoundGone, FoundPublished};
-ghost use Rattle.piper_ring.specs.SlotViews.{IsUnused, LooksFirst, IsUnusedBack, LooksFirstBack};
+ghost use Rattle.piper_ring.specs.SlotViews.{IsUnused, LooksFirst};
 
 use crate::ring::marks::{ReadMark, Saw, WriteMark};
 use crate::ring::memory::{
@@ -15,7 +15,7 @@ use crate::ring::memory::{
 };
 use crate::ring::places::{Base, Blank, Places};
 use crate::ring::remains::Remains;
-use crate::ring::slots::{ReaderWaits, ReaderWakes, WriterWaits, WriterWakes};
+use crate::ring::slots::{Waits, Wakes};
 use lent_space::{Lease, Lender};
 use std::marker::{Brand, Model, PhantomData, Send, Sync};
 use std::sync::atomic::Ordering::SeqCst;
@@ -72,15 +72,7 @@ pub(crate) fn open(
     lender: Lender,
     reader_token: &Token,
     writer_token: &Token,
-) -> (
-    ReadSeat,
-    WriteSeat,
-    Blank,
-    ReaderWaits,
-    WriterWakes,
-    WriterWaits,
-    ReaderWakes,
-)
+) -> (ReadSeat, WriteSeat, Blank, Waits, Wakes, Waits, Wakes)
     requires { (lender.start ≡ space_of parts.start) × (lender.words ≡ space_words) }
     ensures ring { (result.0.words ≡ parts.start)
         × (result.0.names.capacity ≡ parts.capacity) × (result.0.names.life ≡ lender.life) }
@@ -94,10 +86,10 @@ pub(crate) fn open(
         × (result.1.shut ≡ false) }
     ensures room { (result.2.at ≡ result.0.at) × (result.2.capacity ≡ parts.capacity)
         × (result.2.first ≡ 0) × (result.2.count ≡ parts.capacity) }
-    ensures reader_waits { IsUnused result.0.names result.3 }
-    ensures writer_wakes { LooksFirst result.0.names result.4 }
-    ensures writer_waits { IsUnusedBack result.0.names result.5 }
-    ensures reader_wakes { LooksFirstBack result.0.names result.6 }
+    ensures reader_waits { IsUnused result.0.names true result.3 }
+    ensures writer_wakes { LooksFirst result.0.names true result.4 }
+    ensures writer_waits { IsUnused result.0.names false result.5 }
+    ensures reader_wakes { LooksFirst result.0.names false result.6 }
 {
     let Parts { start } = parts;
     let Lender { start: _ } = lender;
@@ -115,10 +107,10 @@ pub(crate) fn open(
     let reader = ReadSeat { words: start };
     let writer = WriteSeat { words: start };
     let room = Blank { mark: PhantomData };
-    let reader_waits = ReaderWaits { mark: PhantomData };
-    let writer_wakes = WriterWakes { mark: PhantomData };
-    let writer_waits = WriterWaits { mark: PhantomData };
-    let reader_wakes = ReaderWakes { mark: PhantomData };
+    let reader_waits = Waits { mark: PhantomData };
+    let writer_wakes = Wakes { mark: PhantomData };
+    let writer_waits = Waits { mark: PhantomData };
+    let reader_wakes = Wakes { mark: PhantomData };
     (
         reader,
         writer,

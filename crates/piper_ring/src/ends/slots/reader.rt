@@ -1,11 +1,13 @@
 //! How the reader's end waits in its slot, and wakes whoever waits in the writer's.
-ghost use Rattle.std.specs.Prelude.{◌≡◌, ◌<◌, ◌≤◌, ◌++◌, length, None, IsSome, IfOk, IfErr, true, false, IsTrue, IsFalse};
+ghost use Rattle.std.specs.Prelude.{◌≡◌, ◌<◌, ◌≤◌, ◌++◌, [], length, None, IsSome, IfOk, IfErr, true, false, IsTrue, IsFalse};
 
 use crate::ends::cells::{LeftWakers, WakerCells};
 use crate::ends::reader::ReadEnd;
 use crate::ends::slots::{Away, ReadRegistrations, WriteRegistrations};
 use crate::ends::writer::WriteEnd;
 use crate::ring::marks::LastReadMark;
+use crate::ring::memory::{READER_BACK, READER_FLAG, WRITER_BACK, WRITER_FLAG};
+use crate::ring::slots::SlotWords;
 use lent_space::Placed;
 
 impl ReadEnd {
@@ -13,6 +15,7 @@ impl ReadEnd {
     ghost use Rattle.piper_ring.specs.Loads.{CameBack, FoundBack, FoundFlag, FoundWaiter, IsAway, IsUnregistered};
     ghost use Rattle.piper_ring.specs.ReadView.{HasLoaded, HasTheRest, KnowsEnd, KnowsMore, SameButSaw};
     ghost use Rattle.piper_ring.specs.Shared.{flag};
+    ghost use Rattle.piper_ring.specs.Slots.{as_stored};
     ghost use Rattle.piper_ring.specs.SlotsView.{Registers, IsPending, HasNews, IsReaderAtRest, SameReaderPlace, IsWriterPending, HasRoomNews};
 
     // The places of both sides' wakers.
@@ -22,6 +25,17 @@ impl ReadEnd {
         ensures { result.now ≡ cells.now.value }
     {
         cells.get(&self.parts.lease)
+    }
+
+    // The words of both slots.
+    #[inline(always)]
+    fn slot_words(&self) -> SlotWords<'_>
+        ensures ring { result.names ≡ self.now.ring.names }
+        ensures stored { (result.for_reader ≡ false)
+            × (result.stored ≡ as_stored [] (length self.now.taken) false) }
+    {
+        let seat = &self.parts.seat;
+        seat.slot_words(&seat.unseen())
     }
 
     /// Takes its waker back, where it is still registered in this end's slot.
@@ -42,7 +56,7 @@ impl ReadEnd {
         if parts.right.is_some() {
             return None;
         }
-        let (found, mut right) = self.parts.seat.cancel(&mut parts.waits);
+        let (found, mut right) = self.slot_words().cancel(&mut parts.waits, READER_FLAG);
         parts.maybe_registered = false;
         if found == 0 {
             return None;
@@ -64,7 +78,7 @@ impl ReadEnd {
         if parts.right.is_some() {
             return true;
         }
-        let (found, right) = self.parts.seat.reclaim(&mut parts.waits);
+        let (found, right) = self.slot_words().reclaim(&mut parts.waits, READER_BACK);
         if found == 0 {
             return false;
         }
@@ -109,7 +123,8 @@ impl ReadEnd {
         ensures kept { slots.new ≡ record slots.old { maybe_registered = result } }
     {
         let parts = &mut slots.parts;
-        if parts.right.is_some() || self.parts.seat.is_registered(&mut parts.waits) == 0 {
+        let waits = &mut parts.waits;
+        if parts.right.is_some() || self.slot_words().is_registered(waits, READER_FLAG) == 0 {
             parts.maybe_registered = false;
             return false;
         }
@@ -180,8 +195,8 @@ impl ReadEnd {
         ensures none { slots.new.taken ≡ slots.old.taken }
         ensures own { SameReaderPlace slots.old slots.new }
     {
-        let seat = &self.parts.seat;
-        seat.look_flag(&mut slots.parts.wakes, &seat.unseen()) == 0
+        let wakes = &mut slots.parts.wakes;
+        self.slot_words().look_flag(wakes, WRITER_FLAG) == 0
     }
 
     /// After all that this end consumed, takes the writer's ticket where it is registered in its
@@ -195,14 +210,13 @@ impl ReadEnd {
         ensures found { result ≡ None → FoundWaiter slots.old.names 0 }
         ensures own { SameReaderPlace slots.old slots.new }
     {
-        let seat = &self.parts.seat;
         let wakes = &mut slots.parts.wakes;
-        let (found, mut right) = seat.take_waker(wakes, &seat.unseen());
+        let (found, mut right) = self.slot_words().take_waker(wakes, WRITER_FLAG);
         if found == 0 {
             return None;
         }
         let waker = self.cells(cells).writer.take(&mut right);
-        seat.give_back(wakes, right);
+        self.slot_words().give_back(wakes, right, WRITER_BACK);
         Some(waker)
     }
 
@@ -227,13 +241,15 @@ impl ReadEnd {
         let consumed = self.mark();
         let (leaving, closed) = self.close();
         let wakes = &mut slots.parts.wakes;
-        let (found, mut right) = leaving.seat.take_waker(wakes, &closed);
+        let words = leaving.seat.slot_words(&closed);
+        let (found, mut right) = words.take_waker(wakes, WRITER_FLAG);
         let last = LastReadMark { consumed, closed };
         if found == 0 {
             return (last, None, leaving.leave(Some(cells)));
         }
         let waker = cells.get(&leaving.lease).writer.take(&mut right);
-        leaving.seat.give_back(wakes, right);
+        let words = leaving.seat.slot_words(&last.closed);
+        words.give_back(wakes, right, WRITER_BACK);
         (last, Some(waker), leaving.leave(Some(cells)))
     }
 
@@ -270,6 +286,7 @@ impl ReadEnd {
         ensures kept { (slots.new ≡ slots.old) × (left.new ≡ left.old) }
     {
         let seat = &self.parts.seat;
-        seat.meet_slot(&mut slots.parts.waits, &mut left.parts.wakes);
+        let words = seat.slot_words(&seat.unseen());
+        words.meet_slot(&mut slots.parts.waits, &mut left.parts.wakes);
     }
 }

@@ -5,12 +5,15 @@ use crate::ends::cells::{LeftWakers, WakerCells};
 use crate::ends::slots::{Away, ReadRegistrations, WriteRegistrations};
 use crate::ends::writer::WriteEnd;
 use crate::ring::marks::WriteMark;
+use crate::ring::memory::{READER_BACK, READER_FLAG, WRITER_BACK, WRITER_FLAG};
+use crate::ring::slots::SlotWords;
 use lent_space::Placed;
 
 impl WriteEnd {
     ghost use Rattle.piper_ring.specs.Cells.{AreCellsOf, GetsLeft};
     ghost use Rattle.piper_ring.specs.Loads.{CameBack, FoundBack, FoundFlag, FoundWaiter, IsAway, IsUnregistered};
     ghost use Rattle.piper_ring.specs.Shared.{flag};
+    ghost use Rattle.piper_ring.specs.Slots.{as_stored};
     ghost use Rattle.piper_ring.specs.WriteView.{HasLoadedHead, HasMoreRoom, SameButSaw};
     ghost use Rattle.piper_ring.specs.SlotsView.{WriterRegisters, IsWriterPending, IsAtRest, SameWriterPlace, HasRoomNews};
 
@@ -21,6 +24,16 @@ impl WriteEnd {
         ensures { result.now ≡ cells.now.value }
     {
         cells.get(&self.parts.lease)
+    }
+
+    // The words of both slots.
+    #[inline(always)]
+    fn slot_words(&self) -> SlotWords<'_>
+        ensures ring { result.names ≡ self.now.ring.names }
+        ensures stored { (result.for_reader ≡ true)
+            × (result.stored ≡ as_stored self.now.sent 0 self.now.shut) }
+    {
+        self.parts.seat.slot_words()
     }
 
     /// Takes its waker back, where it is still registered in this end's slot.
@@ -41,7 +54,7 @@ impl WriteEnd {
         if parts.right.is_some() {
             return None;
         }
-        let (found, mut right) = self.parts.seat.cancel(&mut parts.waits);
+        let (found, mut right) = self.slot_words().cancel(&mut parts.waits, WRITER_FLAG);
         parts.maybe_registered = false;
         if found == 0 {
             return None;
@@ -63,7 +76,7 @@ impl WriteEnd {
         if parts.right.is_some() {
             return true;
         }
-        let (found, right) = self.parts.seat.reclaim(&mut parts.waits);
+        let (found, right) = self.slot_words().reclaim(&mut parts.waits, WRITER_BACK);
         if found == 0 {
             return false;
         }
@@ -108,7 +121,8 @@ impl WriteEnd {
         ensures kept { slots.new ≡ record slots.old { maybe_registered = result } }
     {
         let parts = &mut slots.parts;
-        if parts.right.is_some() || self.parts.seat.is_registered(&mut parts.waits) == 0 {
+        let waits = &mut parts.waits;
+        if parts.right.is_some() || self.slot_words().is_registered(waits, WRITER_FLAG) == 0 {
             parts.maybe_registered = false;
             return false;
         }
@@ -180,7 +194,8 @@ impl WriteEnd {
         ensures none { slots.new.taken ≡ slots.old.taken }
         ensures own { SameWriterPlace slots.old slots.new }
     {
-        self.parts.seat.look_flag(&mut slots.parts.wakes) == 0
+        let wakes = &mut slots.parts.wakes;
+        self.slot_words().look_flag(wakes, READER_FLAG) == 0
     }
 
     /// After all that this end stored, takes the reader's ticket where it is registered in its
@@ -198,14 +213,13 @@ impl WriteEnd {
         ensures found { result ≡ None → FoundWaiter slots.old.names 0 }
         ensures own { SameWriterPlace slots.old slots.new }
     {
-        let seat = &self.parts.seat;
         let wakes = &mut slots.parts.wakes;
-        let (found, mut right) = seat.take_waker(wakes);
+        let (found, mut right) = self.slot_words().take_waker(wakes, READER_FLAG);
         if found == 0 {
             return None;
         }
         let waker = self.cells(cells).reader.take(&mut right);
-        seat.give_back(wakes, right);
+        self.slot_words().give_back(wakes, right, READER_BACK);
         Some(waker)
     }
 
@@ -230,12 +244,13 @@ impl WriteEnd {
         let leaving = self.close();
         let last = leaving.seat.mark();
         let wakes = &mut slots.parts.wakes;
-        let (found, mut right) = leaving.seat.take_waker(wakes);
+        let (found, mut right) = leaving.seat.slot_words().take_waker(wakes, READER_FLAG);
         if found == 0 {
             return (last, None, leaving.leave(Some(cells)));
         }
         let waker = cells.get(&leaving.lease).reader.take(&mut right);
-        leaving.seat.give_back(wakes, right);
+        let words = leaving.seat.slot_words();
+        words.give_back(wakes, right, READER_BACK);
         (last, Some(waker), leaving.leave(Some(cells)))
     }
 
@@ -250,7 +265,7 @@ impl WriteEnd {
         ensures capacity { self.now.capacity ≡ self.now.ring.names.capacity }
         ensures kept { (slots.new ≡ slots.old) × (left.new ≡ left.old) }
     {
-        let seat = &self.parts.seat;
-        seat.meet_slot(&mut slots.parts.waits, &mut left.parts.wakes);
+        let words = self.parts.seat.slot_words();
+        words.meet_slot(&mut slots.parts.waits, &mut left.parts.wakes);
     }
 }

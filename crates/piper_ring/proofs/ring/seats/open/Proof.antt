@@ -1,13 +1,11 @@
 -- `open` writes the four words, and puts them under the ring's invariant. Assumes `Logic`.
-use Rattle.piper_ring.proofs.Kit.{block_of, count_of, at_block, arith, ◌<◌, ◌^◌, ◌≡◌, ℕ, true, false, [], ◌∷◌, refl, ap, sym, lit<, named, Val, vptr, SProp, emp, ftrue, ‵, raw, ◌⊛◌, some, given, later, await, pick, at_ret, ◌$◌, ◌∵◌, !, qed, by, move, keep, drop, split, split3, join, fsplit, fsplit3, fjoin, fjoin3, fpick, fpack, learn, use0, use1, use2, use3, rewrite, stop, fld, init, lit, of_opd, bin, no_more, and_then, first, blocks, exec, assigns_last, returns, enter, alloc_all, pass_all, free_all, look_at, get, get_in, through, sets, is, env, agg, sub, whole, fact, fact_i, tables, yes, RattleType, owns, types_at, plain, Ptr, block_ptr, ptr_val, RefOf, nothing, alive, Stays, stay_dropped, walk_of, Goes-dropped, after as from_on, word-Good, span, proved, leaves, unset, Names, reader_owns, writer_owns, shr_vals, shr_Tells}
+use Rattle.piper_ring.proofs.Kit.{Bool, nothing_stored, block_of, count_of, at_block, arith, ◌<◌, ◌^◌, ◌≡◌, ℕ, true, false, [], ◌∷◌, refl, ap, sym, lit<, named, Val, vptr, SProp, emp, ftrue, ‵, raw, ◌⊛◌, some, given, later, await, pick, at_ret, ◌$◌, ◌∵◌, !, qed, by, move, keep, drop, split, split3, join, fsplit, fsplit3, fjoin, fjoin3, fpick, fpack, learn, use0, use1, use2, use3, rewrite, stop, fld, init, lit, of_opd, bin, no_more, and_then, first, blocks, exec, assigns_last, returns, enter, alloc_all, pass_all, free_all, look_at, get, get_in, through, sets, is, env, agg, sub, whole, fact, fact_i, tables, yes, RattleType, owns, types_at, plain, Ptr, block_ptr, ptr_val, RefOf, nothing, alive, Stays, stay_dropped, walk_of, Goes-dropped, after as from_on, word-Good, span, proved, leaves, unset, Names, reader_owns, writer_owns, shr_vals, shr_Tells}
 use types.Run.{assigns}
 use Rattle.piper_ring.specs.Places as P
-use Rattle.piper_ring.proofs.Fields.{seat_val, ghost_val, ReaderWaitsData, reader_waits_made, WriterWakesData, writer_wakes_made, WriterWaitsData, writer_waits_made, ReaderWakesData, reader_wakes_made, seven_val, seven_of, parts_told, lender_told, ReadData, read_made, WriteData, write_made, BlankData, blank_made}
-use Rattle.piper_ring.specs.SlotViews.{IsUnused, LooksFirst, IsUnusedBack, LooksFirstBack}
-use Rattle.piper_ring.specs.contracts.ring.slots.ReaderWaits as ReaderWaits
-use Rattle.piper_ring.specs.contracts.ring.slots.WriterWakes as WriterWakes
-use Rattle.piper_ring.specs.contracts.ring.slots.WriterWaits as WriterWaits
-use Rattle.piper_ring.specs.contracts.ring.slots.ReaderWakes as ReaderWakes
+use Rattle.piper_ring.proofs.Fields.{seat_val, ghost_val, WaitsData, waits_made, WakesData, wakes_made, seven_val, seven_of, parts_told, lender_told, ReadData, read_made, WriteData, write_made, BlankData, blank_made}
+use Rattle.piper_ring.specs.SlotViews.{IsUnused, LooksFirst}
+use Rattle.piper_ring.specs.contracts.ring.slots.Waits as Waits
+use Rattle.piper_ring.specs.contracts.ring.slots.Wakes as Wakes
 use Rattle.piper_ring.proofs.Opening.{as_places, begins, Slotted, IsNamed}
 use Rattle.lent_space.specs.Space.{lender}
 use Rattle.lent_space.specs.contracts.Lender as Lender
@@ -53,16 +51,15 @@ open_spec 𝓤 𝓛 𝓜 𝓡 wired =
     use3 𝓛 (later (some (λ (z : Names). given (IsNamed 𝓛 w p cap name₁ name₂ life z) (‵ (reader_owns w p z 0 0 [] false) ⊛ ‵ (writer_owns w p z [] cap false) ⊛ ‵ (Slotted 𝓛 w p cap z))))) (begins 𝓛 w p cap name₁ name₂ life (tt, refl, small)) $ await ! tt $ pick ! (λ z. learn ! (λ ez. split3 ! $
     let one : ReadSeat.the_row.Denot = record { words = w; at = p; names = z; head = 0; seen = 0; have = []; leaving = false } in let two : WriteSeat.the_row.Denot = record { words = w; at = p; names = z; sent = []; limit = cap; shut = false } in
     let three : Blank.the_row.Denot = record { mark = record {}; at = p; capacity = cap; first = 0; count = cap } in let v : Val = seat_val w in let small_cap : cap < 2 ^ 63 = omega arith in
-    let four : ReaderWaits.the_row.Denot = record { mark = record {}; names = z; owns = true; tickets = 0; bytes = []; shut = false } in let five : WriterWakes.the_row.Denot = record { mark = record {}; names = z; holds = false; taken = 0; bytes = []; shut = false } in
-    let six : WriterWaits.the_row.Denot = record { mark = record {}; names = z; owns = true; tickets = 0; count = 0; over = false } in let seven : ReaderWakes.the_row.Denot = record { mark = record {}; names = z; holds = false; taken = 0; count = 0; over = false } in let g : Val = ghost_val in
+    let waits : Bool → Waits.the_row.Denot = λ r. record { mark = record {}; names = z; for_reader = r; owns = true; tickets = 0; heard = nothing_stored } in let wakes : Bool → Wakes.the_row.Denot = λ r. record { mark = record {}; names = z; for_reader = r; holds = false; taken = 0; stored = nothing_stored } in let g : Val = ghost_val in
     use0 𝓛 (‵ (ReadData.own_val (w, tt) (v ∷ []))) (read_made 𝓛 w) $ fjoin ! $ move ! (1 ∷ []) $ use0 𝓛 (‵ (WriteData.own_val (w, tt) (v ∷ []))) (write_made 𝓛 w) $ fjoin ! $ move ! (3 ∷ []) $
     use1 𝓛 (‵ (span (unset p cap) 0 cap)) (as_places 𝓛 w p cap) $ nothing ! $ fpack ! (P.Placed p cap) (λ _. ftrue) (tt, small_cap) $ fjoin ! $ use0 𝓛 (‵ (BlankData.own_val (record {}, tt) (ghost_val ∷ []))) (blank_made 𝓛) $ fjoin ! $
     move ! (3 ∷ []) $ fsplit ! $ fsplit ! $ move ! (2 ∷ []) $ fsplit ! $
-    use0 𝓛 (‵ (WriterWaitsData.own_val (record {}, tt) (g ∷ []))) (writer_waits_made 𝓛) $ fjoin ! $ move ! (1 ∷ []) $ use0 𝓛 (‵ (ReaderWakesData.own_val (record {}, tt) (g ∷ []))) (reader_wakes_made 𝓛) $ fjoin ! $ move ! (1 ∷ 0 ∷ []) $ join ! $ move ! (2 ∷ []) $
-    use0 𝓛 (‵ (WriterWakesData.own_val (record {}, tt) (g ∷ []))) (writer_wakes_made 𝓛) $ fjoin ! $ join ! $ move ! (1 ∷ []) $ use0 𝓛 (‵ (ReaderWaitsData.own_val (record {}, tt) (g ∷ []))) (reader_waits_made 𝓛) $ fjoin ! $ join ! $
+    use0 𝓛 (‵ (WaitsData.own_val (record {}, tt) (g ∷ []))) (waits_made 𝓛) $ fjoin ! $ move ! (1 ∷ []) $ use0 𝓛 (‵ (WakesData.own_val (record {}, tt) (g ∷ []))) (wakes_made 𝓛) $ fjoin ! $ move ! (1 ∷ 0 ∷ []) $ join ! $ move ! (2 ∷ []) $
+    use0 𝓛 (‵ (WakesData.own_val (record {}, tt) (g ∷ []))) (wakes_made 𝓛) $ fjoin ! $ join ! $ move ! (1 ∷ []) $ use0 𝓛 (‵ (WaitsData.own_val (record {}, tt) (g ∷ []))) (waits_made 𝓛) $ fjoin ! $ join ! $
     move ! (1 ∷ 0 ∷ []) $ join ! $ move ! (1 ∷ 0 ∷ []) $ join ! $ move ! (1 ∷ 0 ∷ []) $
-    use2 𝓛 (‵ ((denote.Struct.Tuple.Tuple (ReadSeat.the_row ∷ WriteSeat.the_row ∷ Blank.the_row ∷ ReaderWaits.the_row ∷ WriterWakes.the_row ∷ WriterWaits.the_row ∷ ReaderWakes.the_row ∷ [])).own_val (one, two, three, four, five, six, seven) (seven_val v v g g g g g ∷ [])))
-    (seven_of 𝓛 ReadSeat.the_row WriteSeat.the_row Blank.the_row ReaderWaits.the_row WriterWakes.the_row WriterWaits.the_row ReaderWakes.the_row one two three four five six seven v v g g g g g) $
+    use2 𝓛 (‵ ((denote.Struct.Tuple.Tuple (ReadSeat.the_row ∷ WriteSeat.the_row ∷ Blank.the_row ∷ Waits.the_row ∷ Wakes.the_row ∷ Waits.the_row ∷ Wakes.the_row ∷ [])).own_val (one, two, three, waits true, wakes true, waits false, wakes false) (seven_val v v g g g g g ∷ [])))
+    (seven_of 𝓛 ReadSeat.the_row WriteSeat.the_row Blank.the_row Waits.the_row Wakes.the_row Waits.the_row Wakes.the_row one two three (waits true) (wakes true) (waits false) (wakes false) v v g g g g g) $
     sets ! (agg ! (and_then ! (get ! refl) (no_more !))) refl (tt, (tt, tt)) $ sets ! (agg ! (and_then ! (get ! refl) (no_more !))) refl (tt, (tt, tt)) $
     sets ! (agg ! (no_more !)) refl (tt, tt) $ sets ! (agg ! (and_then ! (get ! refl) (no_more !))) refl (tt, (tt, tt)) $
     sets ! (agg ! (no_more !)) refl (tt, tt) $ sets ! (agg ! (and_then ! (get ! refl) (no_more !))) refl (tt, (tt, tt)) $
@@ -72,10 +69,10 @@ open_spec 𝓤 𝓛 𝓜 𝓡 wired =
     sets ! (of_opd ! (get ! refl)) refl (tt, (tt, tt)) $ sets ! (of_opd ! (get ! refl)) refl (tt, (tt, tt)) $ sets ! (of_opd ! (get ! refl)) refl (tt, (tt, tt)) $ sets ! (of_opd ! (get ! refl)) refl (tt, (tt, tt)) $
     sets ! (of_opd ! (get ! refl)) refl (tt, (tt, tt)) $ sets ! (of_opd ! (get ! refl)) refl (tt, (tt, tt)) $ sets ! (of_opd ! (get ! refl)) refl (tt, (tt, tt)) $
     sets ! (agg ! (and_then ! (get ! refl) (and_then ! (get ! refl) (and_then ! (get ! refl) (and_then ! (get ! refl) (and_then ! (get ! refl) (and_then ! (get ! refl) (and_then ! (get ! refl) (no_more !))))))))) refl (tt, ((tt, tt), ((tt, tt), ((tt, tt), ((tt, tt), ((tt, tt), ((tt, tt), ((tt, tt), tt)))))))) $
-    use0 𝓛 (raw (fact 𝓤 (LooksFirstBack z seven))) (fact_i 𝓤 (LooksFirstBack z seven) (emp 𝓤) (refl, refl, refl, refl, refl)) $
-    use0 𝓛 (raw (fact 𝓤 (IsUnusedBack z six))) (fact_i 𝓤 (IsUnusedBack z six) (emp 𝓤) (refl, refl, refl, refl, refl)) $ join ! $
-    use0 𝓛 (raw (fact 𝓤 (LooksFirst z five))) (fact_i 𝓤 (LooksFirst z five) (emp 𝓤) (refl, refl, refl, refl, refl)) $ join ! $
-    use0 𝓛 (raw (fact 𝓤 (IsUnused z four))) (fact_i 𝓤 (IsUnused z four) (emp 𝓤) (refl, refl, refl, refl, refl)) $ join ! $
+    use0 𝓛 (raw (fact 𝓤 (LooksFirst z false (wakes false)))) (fact_i 𝓤 (LooksFirst z false (wakes false)) (emp 𝓤) (refl, refl, refl, refl, refl)) $
+    use0 𝓛 (raw (fact 𝓤 (IsUnused z false (waits false)))) (fact_i 𝓤 (IsUnused z false (waits false)) (emp 𝓤) (refl, refl, refl, refl, refl)) $ join ! $
+    use0 𝓛 (raw (fact 𝓤 (LooksFirst z true (wakes true)))) (fact_i 𝓤 (LooksFirst z true (wakes true)) (emp 𝓤) (refl, refl, refl, refl, refl)) $ join ! $
+    use0 𝓛 (raw (fact 𝓤 (IsUnused z true (waits true)))) (fact_i 𝓤 (IsUnused z true (waits true)) (emp 𝓤) (refl, refl, refl, refl, refl)) $ join ! $
     use0 𝓛 (raw (fact 𝓤 ((p ≡ p) × (cap ≡ cap) × (0 ≡ 0) × (cap ≡ cap)))) (fact_i 𝓤 ((p ≡ p) × (cap ≡ cap) × (0 ≡ 0) × (cap ≡ cap)) (emp 𝓤) (refl, refl, refl, refl)) $ join ! $
     use0 𝓛 (raw (fact 𝓤 ((two.sent ≡ two.sent) × (cap ≡ cap) × (false ≡ false)))) (fact_i 𝓤 ((two.sent ≡ two.sent) × (cap ≡ cap) × (false ≡ false)) (emp 𝓤) (refl, refl, refl)) $ join ! $
     use0 𝓛 (raw (fact 𝓤 ((w ≡ w) × (p ≡ p) × (z ≡ z)))) (fact_i 𝓤 ((w ≡ w) × (p ≡ p) × (z ≡ z)) (emp 𝓤) (refl, refl, refl)) $ join ! $
@@ -83,4 +80,4 @@ open_spec 𝓤 𝓛 𝓜 𝓡 wired =
     use0 𝓛 (raw (fact 𝓤 ((z.reader_place ≡ name₁) × (z.writer_place ≡ name₂)))) (fact_i 𝓤 ((z.reader_place ≡ name₁) × (z.writer_place ≡ name₂)) (emp 𝓤) (ez.1, ez.2)) $ join ! $
     use0 𝓛 (raw (fact 𝓤 ((w ≡ w₀) × (z.capacity ≡ cap) × (z.life ≡ life)))) (fact_i 𝓤 ((w ≡ w₀) × (z.capacity ≡ cap) × (z.life ≡ life)) (emp 𝓤) (sym at_w, ez.0, ez.3)) $ join ! $
     nothing ! $ nothing ! $ fjoin ! $ nothing ! $ fjoin ! $ nothing ! $ fjoin ! $ nothing ! $ fjoin ! $
-    returns ! (look_at ! 0 refl) $ free_all ! refl $ keep ! (3 ∷ 0 ∷ 2 ∷ 1 ∷ []) $ by ! (leaves 𝓛 En hs c y (seven_val v v g g g g g) (one, two, three, four, five, six, seven) (tt, (tt, (tt, (tt, tt)))) (tt, (tt, (tt, (tt, tt)))))))))))
+    returns ! (look_at ! 0 refl) $ free_all ! refl $ keep ! (3 ∷ 0 ∷ 2 ∷ 1 ∷ []) $ by ! (leaves 𝓛 En hs c y (seven_val v v g g g g g) (one, two, three, waits true, wakes true, waits false, wakes false) (tt, (tt, (tt, (tt, tt)))) (tt, (tt, (tt, (tt, tt)))))))))))

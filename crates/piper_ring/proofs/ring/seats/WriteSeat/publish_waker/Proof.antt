@@ -1,11 +1,10 @@
 -- `publish_waker` is one store, beside a share of what the writer knows. Assumes `Logic`.
-use Rattle.piper_ring.proofs.Kit.{true, false, lit<, ◌≡◌, ℕ, ◌+◌, List, [], ◌∷◌, sym, refl, w64, Bool, named, Val, vint, vptr, SProp, emp, via, Share, Fml, ftrue, flft, fhide, ‵, raw, ◌⊛◌, given, mean, at_ret, ◌$◌, ◌∵◌, !, qed, by, move, keep, drop, split, split3, join, fsplit, fsplit3, fjoin, fjoin3, fpick, fpack, learn, use0, use1, use3, rewrite, feq_i, stop, fld, load, look, lit, of_opd, bin, no_more, and_then, first, blocks, exec, Calls-last, returns, enter, alloc_all, pass_all, free_all, look_at, get, through, sets, lands_last, env, agg, shr_bor-open, obor_close, fact, fact_i, tables, yes, RattleType, owns, types_at, plain, Ptr, block_ptr, block_of, count_of, at_block, RefOf, shr_vals, shr_Tells, mut_vals, mut_Tells, hidden_shr, hide, unhide, nothing, opens, closes, Struct, shape, lent_out, Stays, stay_dropped, stay_ref, walk_of, Goes-dropped, Goes-ref, tail, pointer_in, pointer_out, proved, leaves, seq_cst, fm, stored, has_stored, stores, Waits, PublishesWaker, of_writer_waits, Names, Consumed, Placed, common, writer_knows, writer_lends, waits_back, right, right_val, right_told, use2, pair_val, pair_of}
+use Rattle.piper_ring.proofs.Kit.{true, false, lit<, ◌≡◌, ℕ, ◌+◌, List, [], ◌∷◌, sym, refl, w64, Bool, named, Val, vint, vptr, SProp, emp, via, Share, Fml, ftrue, flft, fhide, ‵, raw, ◌⊛◌, given, mean, at_ret, ◌$◌, ◌∵◌, !, qed, by, move, keep, drop, split, split3, join, fsplit, fsplit3, fjoin, fjoin3, fpick, fpack, learn, use0, use1, use3, rewrite, feq_i, stop, fld, load, look, lit, of_opd, bin, no_more, and_then, first, blocks, exec, Calls-last, returns, enter, alloc_all, pass_all, free_all, look_at, get, through, sets, lands_last, env, agg, shr_bor-open, obor_close, fact, fact_i, tables, yes, RattleType, owns, types_at, plain, Ptr, block_ptr, block_of, count_of, at_block, RefOf, shr_vals, shr_Tells, mut_vals, mut_Tells, hidden_shr, hide, unhide, nothing, opens, closes, Struct, shape, lent_out, Stays, stay_dropped, stay_ref, walk_of, Goes-dropped, Goes-ref, tail, pointer_in, pointer_out, proved, leaves, seq_cst, fm, stored, has_stored, stores, Waits, PublishesWaker, Names, Placed, common, writer_knows, writer_lends, right, right_val, right_told, use2, pair_val, pair_of, Stored, waits_in, of_waits, SameWaiter, ap, ◌∙◌, by_writer}
 use Rattle.piper_ring.proofs.Rights.{writer_halves}
-use Rattle.piper_ring.proofs.Steps.{flag_small}
 use Rattle.token_cell.specs.contracts.Token as Token
-use Rattle.piper_ring.proofs.Slots.{WriterWaited, writer_publishes_waker}
+use Rattle.piper_ring.proofs.Slots.{Waited, publish}
 use Rattle.piper_ring.proofs.Fields.{ghost_val, TookData, took_made, SawData, saw_made}
-use Rattle.piper_ring.specs.contracts.ring.slots.WriterWaits as Slot
+use Rattle.piper_ring.specs.contracts.ring.slots.Waits as Slot
 use Rattle.piper_ring.specs.contracts.ring.marks.ReadMark as Mark
 use Rattle.piper_ring.specs.contracts.ring.marks.Saw as Saw
 use Rattle.piper_ring.specs.contracts.ring.seats.WriteSeat as Seat
@@ -25,10 +24,10 @@ publish_waker_spec 𝓤 𝓛 𝓜 𝓡 wired =
     proved 𝓛 En hs c 𝓜 𝓡 (Goes-dropped 𝓛 2 self yes (λ κs x f. refl), (Goes-ref 𝓛 2 1 tt slot_ref, (Goes-dropped 𝓛 2 token yes (λ κs x f. refl), tt))) #self fn (code.unfolded 𝓤 H 𝓜 𝓡 wired)
     (λ κs. (shr_vals, (mut_vals, ((λ x. right_val ∷ []), tt)))) (λ κs. (shr_Tells (named 0) κs.0 Seat.the_row, (mut_Tells (named 1) κs.1.0 SRow, ((λ x vs is. right_told vs is.0), tt)))) (λ κs qs bounds a gh are.
     let b : ℕ = a.0.ref_ptr.0 in let o : ℕ = a.0.ref_ptr.1 in let h = a.0.now in let w : Ptr = h.words in let p : Ptr = h.at in let z : Names = h.names in let κ = κs.0 in let q : Share = qs.0 in
-    let b' : ℕ = a.1.0.ref_ptr.0 in let o' : ℕ = a.1.0.ref_ptr.1 in let k = a.1.0.now in let t : Token.the_row.Denot = a.1.1.0 in let view : Waits Consumed = of_writer_waits k in
+    let b' : ℕ = a.1.0.ref_ptr.0 in let o' : ℕ = a.1.0.ref_ptr.1 in let k = a.1.0.now in let t : Token.the_row.Denot = a.1.1.0 in let view : Waits Stored = of_waits k in
     let C : Fml = common w p z in let Φ : Share → Fml = λ s. writer_knows w p z s h.sent h.limit h.shut 0 in
     let y : (walk_of 𝓛 En hs c).Ghost = ((κs, qs, bounds, a, (vptr b o ∷ [], (vptr b' o' ∷ [], (right_val ∷ [], tt)))), gh) in let Post : Val → SProp 𝓤 = (walk_of 𝓛 En hs c).post y in
-    qed 𝓛 (((‵ (flft κ q) ⊛ ‵ (flft κs.1.0 qs.1.0) ⊛ ‵ ftrue) ⊛ ‵ (owns (types_at En.signature.params κs) a y.0.4)) ∷ given ((k.names ≡ z) × (k.owns ≡ true) × ((t.name ≡ z.writer_place) × (t.there ≡ true) × (t.filled ≡ true))) (‵ ftrue) ∷ []) ∵
+    qed 𝓛 (((‵ (flft κ q) ⊛ ‵ (flft κs.1.0 qs.1.0) ⊛ ‵ ftrue) ⊛ ‵ (owns (types_at En.signature.params κs) a y.0.4)) ∷ given ((k.names ≡ z) × (k.for_reader ≡ false) × (k.owns ≡ true) × ((t.name ≡ z.writer_place) × (t.there ≡ true) × (t.filled ≡ true))) (‵ ftrue) ∷ []) ∵
     keep ! (1 ∷ 0 ∷ []) $ learn ! (λ asked. drop ! $ split ! $ split3 ! $ move ! (3 ∷ []) $ fsplit3 ! $ move ! (1 ∷ []) $ fsplit3 ! $ keep ! (3 ∷ 5 ∷ 1 ∷ 2 ∷ 6 ∷ 4 ∷ []) $ fsplit ! $ drop ! $
     use1 𝓛 (‵ (hidden_shr Data κ (w, tt) b o) ⊛ ‵ (fhide (writer_lends w p z h.sent h.limit h.shut κ))) (lent_out 𝓛 Seat.struct Seat.the_codes Seat.the_heap Seat.the_lent κ h b o) $
     split ! $ unhide ! $ fsplit ! $ fsplit ! $ keep ! (0 ∷ 3 ∷ 4 ∷ 5 ∷ 6 ∷ 7 ∷ 8 ∷ []) $ hide ! $ move ! (1 ∷ []) $ unhide ! $ fsplit ! $ fsplit ! $ fpick ! (λ at. drop ! $ nothing ! $ fpack ! (Placed w p z) (λ _. ftrue) at $ fjoin ! $
@@ -38,21 +37,22 @@ publish_waker_spec 𝓤 𝓛 𝓜 𝓡 wired =
     pointer_in ! tt w bw ow isw b (o + 0) (λ r.
     sets ! (of_opd ! (load ! (through ! refl (fld ! refl (stop !))) (look ! 0 refl))) refl (tt, tt) $ pointer_out ! tt w bw ow isw b (o + 0) $
     sets ! (bin ! (get ! refl) (lit ! tt) tt) refl (tt, tt) $ move ! (2 ∷ 0 ∷ []) $ shr_bor-open ! tt (writer_halves 𝓛 w p z h.sent h.limit h.shut 0) (λ s. move ! (2 ∷ 1 ∷ 4 ∷ []) $
-    rewrite ! 2 (λ (m : Names). ‵ (waits_back m view.0 view.1.0 view.1.1.0 view.1.1.1)) {x = z} {y = k.names} asked.0 refl $
-    move ! (9 ∷ []) $ fsplit ! $ fsplit ! $ drop ! $ rewrite ! 0 (λ (u : Bool × ℕ × Bool). ‵ (right u.0 u.1 u.2)) {x = (true, z.writer_place, true)} {y = (t.there, t.name, t.filled)} (λ i. (asked.2.1 i, asked.2.0 i, asked.2.2 i)) refl $
+    rewrite ! 2 (λ (m : Names × Bool). ‵ (waits_in m.0 m.1 view.0 view.1.0 view.1.1)) {x = (z, false)} {y = (k.names, k.for_reader)} (λ i. (asked.0 i, asked.1 i)) refl $
+    move ! (9 ∷ []) $ fsplit ! $ fsplit ! $ drop ! $ rewrite ! 0 (λ (u : Bool × ℕ × Bool). ‵ (right u.0 u.1 u.2)) {x = (true, z.writer_place, true)} {y = (t.there, t.name, t.filled)} (λ i. (asked.3.1 i, asked.3.0 i, asked.3.2 i)) refl $
     move ! (4 ∷ 0 ∷ []) $ fjoin ! $ move ! (1 ∷ []) $ drop ! $ move ! (1 ∷ 2 ∷ 0 ∷ []) $
-    let out : ℕ → Fml = WriterWaited 𝓛 w p z s h.sent h.limit h.shut 0 (flag_small false) view (λ m x u _. PublishesWaker Consumed view x m u) in
+    let out : ℕ → Fml = Waited 𝓛 w p z s (by_writer h.sent h.limit h.shut) false view (λ m x u _. PublishesWaker Stored view x m u) in
     use3 𝓛 (raw (𝓣.C _ (vptr bw e ∷ vint w64 1 ∷ seq_cst ∷ []) (λ u. mean 𝓛 (stored (out 0) u))))
-    (via 𝓤 _ (writer_publishes_waker 𝓛 w p z s h.sent h.limit h.shut 0 (flag_small false) view asked.1) (stores 𝓛 𝓜 𝓡 (code.calls-core::raw_atomic::store 𝓡.env wired) (block_ptr bw e) 1 (lit< tt) (out 0))) $
+    (via 𝓤 _ (publish 𝓛 w p z s (by_writer h.sent h.limit h.shut) false view asked.2) (stores 𝓛 𝓜 𝓡 (code.calls-core::raw_atomic::store 𝓡.env wired) (block_ptr bw e) 1 (lit< tt) (out 0))) $
     sets ! (agg ! (and_then ! (lit ! tt) (no_more !))) refl (tt, (record { fits = lit< tt }, tt)) $
     Calls-last ! (fm 𝓛 𝓜 𝓡) (stored (out 0)) (and_then ! (get ! refl) (and_then ! (lit ! tt) (and_then ! (get ! refl) (no_more !)))) (λ u. has_stored ! (out 0) (
     lands_last ! refl (tt, tt) $ exec ! 𝓣.C 𝓣.Λ Ev (tail fn.body) (at_ret Ev Post) $ sets ! (agg ! (no_more !)) refl (tt, tt) $ sets ! (agg ! (and_then ! (get ! refl) (no_more !))) refl (tt, (tt, tt)) $ sets ! (agg ! (no_more !)) refl (tt, tt) $ sets ! (agg ! (and_then ! (get ! refl) (no_more !))) refl (tt, (tt, tt)) $ sets ! (agg ! (and_then ! (get ! refl) (and_then ! (get ! refl) (no_more !)))) refl (tt, ((tt, tt), ((tt, tt), tt))) $
-    fpick ! (λ r. let v : Waits Consumed = r.1.0 in let mark : Mark.the_row.Denot = record { mark = record {}; names = z; count = r.0.0 } in let saw : Saw.the_row.Denot = record { mark = record {}; names = z; seen = r.0.1 } in let g : Val = ghost_val in
+    fpick ! (λ r. let v : Waits Stored = r.1.0 in let mark : Mark.the_row.Denot = record { mark = record {}; names = z; count = r.0.count } in let saw : Saw.the_row.Denot = record { mark = record {}; names = z; seen = r.0.closed } in let g : Val = ghost_val in
     fsplit3 ! $ fpick ! (λ told. drop ! $ fsplit ! $ use0 𝓛 (‵ (TookData.own_val (record {}, tt) (g ∷ []))) (took_made 𝓛) $ fjoin ! $ move ! (1 ∷ []) $ use0 𝓛 (‵ (SawData.own_val (record {}, tt) (g ∷ []))) (saw_made 𝓛) $ fjoin ! $ move ! (1 ∷ 0 ∷ []) $
     use2 𝓛 (‵ ((denote.Struct.Tuple.Tuple (Mark.the_row ∷ Saw.the_row ∷ [])).own_val (mark, saw) (pair_val g g ∷ []))) (pair_of 𝓛 Mark.the_row Saw.the_row mark saw g g) $
     move ! (1 ∷ []) $ fsplit ! $ move ! (3 ∷ 1 ∷ []) $ obor_close ! tt $ drop ! $ move ! (1 ∷ []) $ fsplit ! $ move ! (1 ∷ []) $ drop ! $ move ! (1 ∷ 0 ∷ []) $
-    let k' : SRow.Denot = record k { owns = v.0; tickets = v.1.0; count = v.1.1.0; over = v.1.1.1 } in
-    rewrite ! 1 (λ (m : Names). ‵ (waits_back m v.0 v.1.0 v.1.1.0 v.1.1.1)) {x = k.names} {y = z} (sym asked.0) refl $ move ! (3 ∷ 1 ∷ []) $ fjoin ! $ move ! (3 ∷ 0 ∷ 4 ∷ 5 ∷ 6 ∷ []) $ closes ! tt SRow k' vs' b' o' $
+    let k' : SRow.Denot = record k { owns = v.0; tickets = v.1.0; heard = v.1.1 } in
+    rewrite ! 1 (λ (m : Names × Bool). ‵ (waits_in m.0 m.1 v.0 v.1.0 v.1.1)) {x = (k.names, k.for_reader)} {y = (z, false)} (λ i. (sym asked.0 i, sym asked.1 i)) refl $ move ! (3 ∷ 1 ∷ []) $ fjoin ! $ move ! (3 ∷ 0 ∷ 4 ∷ 5 ∷ 6 ∷ []) $ closes ! tt SRow k' vs' b' o' $
     feq_i ! (List Val) (vptr b' o' ∷ []) (vptr b' o' ∷ []) refl $ fjoin3 ! $ nothing ! $ nothing ! $ fjoin ! $ move ! (1 ∷ 0 ∷ []) $ fjoin ! $ nothing ! $ fjoin ! $ nothing ! $ move ! (2 ∷ 0 ∷ []) $ join ! $ move ! (2 ∷ 0 ∷ []) $ join ! $
-    use0 𝓛 (raw (fact 𝓤 (PublishesWaker Consumed view (r.0.0, r.0.1) 0 v))) (fact_i 𝓤 (PublishesWaker Consumed view (r.0.0, r.0.1) 0 v) (emp 𝓤) told) $ use0 𝓛 (raw (fact 𝓤 ((z ≡ z) × (z ≡ z)))) (fact_i 𝓤 ((z ≡ z) × (z ≡ z)) (emp 𝓤) (refl, refl)) $ join ! $ use0 𝓛 (raw (fact 𝓤 (k.names ≡ k.names))) (fact_i 𝓤 (k.names ≡ k.names) (emp 𝓤) refl) $ join ! $ move ! (3 ∷ []) $
+    use0 𝓛 (raw (fact 𝓤 (PublishesWaker Stored view v.1.1 0 v))) (fact_i 𝓤 (PublishesWaker Stored view v.1.1 0 v) (emp 𝓤) (told ∙ ap (λ (u : Stored). (false, (view.1.0 + 1, u))) (sym (ap (λ (u : Waits Stored). u.1.1) told)))) $
+    let Heard : Type 0 = (v.1.1.count ≡ r.0.count) × (v.1.1.closed ≡ r.0.closed) in use0 𝓛 (raw (fact 𝓤 Heard)) (fact_i 𝓤 Heard (emp 𝓤) (ap (λ (u : Waits Stored). u.1.1.count) told, ap (λ (u : Waits Stored). u.1.1.closed) told)) $ join ! $ use0 𝓛 (raw (fact 𝓤 ((z ≡ z) × (z ≡ z)))) (fact_i 𝓤 ((z ≡ z) × (z ≡ z)) (emp 𝓤) (refl, refl)) $ join ! $ use0 𝓛 (raw (fact 𝓤 (SameWaiter k k'))) (fact_i 𝓤 (SameWaiter k k') (emp 𝓤) (refl, refl)) $ join ! $ move ! (3 ∷ []) $
     returns ! (look_at ! 0 refl) $ free_all ! refl $ keep ! (2 ∷ 3 ∷ 0 ∷ 1 ∷ []) $ by ! (leaves 𝓛 En hs c y (pair_val g g) (mark, saw) (tt, (k', (tt, tt))) (tt, (tt, (tt, tt)))))))))))))))

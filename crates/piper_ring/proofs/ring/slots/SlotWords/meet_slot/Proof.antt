@@ -1,0 +1,40 @@
+-- `meet_slot` is no step of the program. Assumes `Logic`.
+use Rattle.piper_ring.proofs.Kit.{◌≡◌, ℕ, List, [], ◌∷◌, sym, refl, named, Val, vptr, vunit, SProp, emp, Share, Fml, ftrue, flft, ‵, raw, ◌⊛◌, given, ◌$◌, ◌∵◌, !, qed, by, move, keep, drop, split, split3, join, fsplit, fsplit3, fjoin, fjoin3, fpick, fpack, learn, use0, use2, rewrite, feq_i, unit_lit, of_opd, returns, enter, alloc_all, pass_all, free_all, look_at, sets, env, shr_bor-open, obor_close, fact, fact_i, tables, no, RattleType, owns, types_at, plain, named_lft, Ptr, mut_vals, mut_Tells, nothing, opens, closes, Stays, stay_dropped, stay_ref, walk_of, Goes-dropped, Goes-ref, guard_good, proved, leaves, later, await, Bool, Names, Placed, Stored, Waits, Wakes, IsRemembered, of_waits, of_wakes, waits_in, wakes_in, knows}
+use Rattle.piper_ring.proofs.Fields.{lent_val, lent_told}
+use Rattle.piper_ring.proofs.Rights.{known_halves}
+use Rattle.piper_ring.proofs.Slots.{meet}
+use Rattle.piper_ring.specs.contracts.ring.slots.Waits as One
+use Rattle.piper_ring.specs.contracts.ring.slots.Wakes as Two
+use Rattle.piper_ring.specs.contracts.ring.slots.SlotWords as SlotWords
+use Rattle.piper_ring.specs.contracts.ring.slots.SlotWords.meet_slot.{ended, clauses}
+use Rattle.piper_ring.specs.contracts.ring.slots.SlotWords.meet_slot.Key.{name as #self}
+use Rattle.piper_ring.proofs.ring.slots.SlotWords.meet_slot.Statement.{statement}
+use Rattle.piper_ring.proofs.ring.slots.SlotWords.meet_slot.Code as code
+
+pub meet_slot_spec : {M : Type 1} → statement M
+meet_slot_spec 𝓤 𝓛 𝓜 𝓡 wired =
+    let H = 𝓛.H in let 𝓣 = tables 𝓤 H 𝓜 𝓡 𝓡.env in let En = ended in let fn = code.function in let c = clauses 𝓛 𝓜.mem 𝓡.returns in
+    let self = plain (λ κs. SlotWords.the_row (named_lft 3 0 tt κs)) in let ORow : RattleType = One.the_row in let one_ref = plain (λ _. ORow) in let TRow : RattleType = Two.the_row in let two_ref = plain (λ _. TRow) in
+    let hs : Stays En.signature.params En.kept = (stay_dropped self no, (stay_ref (1 ∷ []) tt one_ref, (stay_ref (2 ∷ []) tt two_ref, tt))) in
+    proved 𝓛 En hs c 𝓜 𝓡 (Goes-dropped 𝓛 3 self no (λ κs x f. refl), (Goes-ref 𝓛 3 1 tt one_ref, (Goes-ref 𝓛 3 2 tt two_ref, tt))) #self fn (code.unfolded 𝓤 H 𝓜 𝓡 wired)
+    (λ κs. ((λ x. lent_val x.words ∷ []), (mut_vals, (mut_vals, tt)))) (λ κs. ((λ x vs so. lent_told (named_lft 3 0 tt κs) x.words vs so.0), (mut_Tells (named 1) κs.1.0 ORow, (mut_Tells (named 2) κs.1.1.0 TRow, tt)))) (λ κs qs bounds a gh are.
+    let h = a.0 in let w : Ptr = h.words in let p : Ptr = h.at in let z : Names = h.names in let κ = κs.0 in let q : Share = qs.0 in
+    let b : ℕ = a.1.0.ref_ptr.0 in let o : ℕ = a.1.0.ref_ptr.1 in let k = a.1.0.now in let b2 : ℕ = a.1.1.0.ref_ptr.0 in let o2 : ℕ = a.1.1.0.ref_ptr.1 in let m = a.1.1.0.now in let r : Bool = k.for_reader in let view : Waits Stored = of_waits k in let other : Wakes Stored = of_wakes m in
+    let V : Names → Fml = λ u. waits_in u r view.0 view.1.0 view.1.1 in let U : Names × Bool → Fml = λ u. wakes_in u.0 u.1 other.0 other.1.0 other.1.1 in
+    let y : (walk_of 𝓛 En hs c).Ghost = ((κs, qs, bounds, a, (lent_val w ∷ [], (vptr b o ∷ [], (vptr b2 o2 ∷ [], tt)))), gh) in let Post : Val → SProp 𝓤 = (walk_of 𝓛 En hs c).post y in
+    qed 𝓛 (((‵ (flft κ q) ⊛ ‵ (flft κs.1.0 qs.1.0) ⊛ ‵ (flft κs.1.1.0 qs.1.1.0) ⊛ ‵ ftrue) ⊛ ‵ (owns (types_at En.signature.params κs) a y.0.4)) ∷ given ((k.names ≡ z) × (m.names ≡ z) × (m.for_reader ≡ r)) (‵ ftrue) ∷ []) ∵
+    keep ! (1 ∷ 0 ∷ []) $ learn ! (λ asked. drop ! $ split ! $ split3 ! $ move ! (2 ∷ []) $ split ! $ move ! (4 ∷ []) $ fsplit3 ! $ fsplit ! $ drop ! $ fsplit3 ! $ fsplit ! $ fpick ! (λ at. drop ! $ nothing ! $ fpack ! (Placed w p z) (λ _. ftrue) at $ fjoin ! $ move ! (1 ∷ []) $ fpick ! (λ who.
+    move ! (3 ∷ []) $ fsplit3 ! $ move ! (6 ∷ []) $ fsplit ! $ fsplit3 ! $ keep ! (5 ∷ 6 ∷ 13 ∷ 1 ∷ 2 ∷ 10 ∷ 7 ∷ 8 ∷ 12 ∷ []) $
+    enter ! 𝓣.C 𝓣.Λ fn (lent_val w ∷ vptr b o ∷ vptr b2 o2 ∷ []) Post $ alloc_all ! (λ l. pass_all ! refl (guard_good [] [] w, ((tt, tt), ((tt, tt), tt))) $ let Ev = env fn.locals l in
+    opens ! tt ORow b o (λ vs. move ! (5 ∷ 6 ∷ 7 ∷ []) $ opens ! tt TRow b2 o2 (λ vs2. move ! (1 ∷ []) $ fsplit ! $ move ! (7 ∷ []) $ fsplit ! $
+    move ! (12 ∷ 14 ∷ []) $ shr_bor-open ! tt (known_halves 𝓛 w p z who) (λ s. move ! (14 ∷ 1 ∷ 3 ∷ 5 ∷ []) $
+    rewrite ! 2 (λ (u : Names). ‵ (V u)) {x = z} {y = k.names} asked.0 refl $ rewrite ! 3 (λ (u : Names × Bool). ‵ (U u)) {x = (z, r)} {y = (m.names, m.for_reader)} (λ i. (asked.1 i, asked.2 i)) refl $
+    move ! (2 ∷ 3 ∷ []) $ join ! $ move ! (2 ∷ 0 ∷ []) $ join ! $ move ! (1 ∷ 0 ∷ []) $
+    use2 𝓛 (later (given (IsRemembered Stored view other) (‵ (knows w p z who s) ⊛ ‵ (V z) ⊛ ‵ (U (z, r))))) (meet 𝓛 w p z s who r view other) $ await ! tt $ learn ! (λ told. split3 ! $ move ! (3 ∷ 0 ∷ []) $ obor_close ! tt $ drop ! $
+    rewrite ! 1 (λ (u : Names). ‵ (V u)) {x = k.names} {y = z} (sym asked.0) refl $ rewrite ! 2 (λ (u : Names × Bool). ‵ (U u)) {x = (m.names, m.for_reader)} {y = (z, r)} (λ i. (sym asked.1 i, sym asked.2 i)) refl $
+    move ! (4 ∷ 2 ∷ []) $ fjoin ! $ move ! (4 ∷ 0 ∷ 5 ∷ 6 ∷ 7 ∷ []) $ closes ! tt TRow m vs2 b2 o2 $ feq_i ! (List Val) (vptr b2 o2 ∷ []) (vptr b2 o2 ∷ []) refl $ fjoin3 ! $
+    move ! (4 ∷ 3 ∷ []) $ fjoin ! $ move ! (4 ∷ 0 ∷ 5 ∷ 6 ∷ 7 ∷ []) $ closes ! tt ORow k vs b o $ feq_i ! (List Val) (vptr b o ∷ []) (vptr b o ∷ []) refl $ fjoin3 ! $
+    sets ! (of_opd ! (unit_lit !)) refl (tt, tt) $
+    nothing ! $ move ! (3 ∷ 0 ∷ []) $ fjoin ! $ move ! (1 ∷ 0 ∷ []) $ fjoin ! $ nothing ! $ fjoin ! $ nothing ! $ move ! (3 ∷ 0 ∷ []) $ join ! $ move ! (2 ∷ 0 ∷ []) $ join ! $ move ! (2 ∷ 0 ∷ []) $ join ! $
+    use0 𝓛 (raw (fact 𝓤 ((k ≡ k) × (m ≡ m)))) (fact_i 𝓤 ((k ≡ k) × (m ≡ m)) (emp 𝓤) (refl, refl)) $ use0 𝓛 (raw (fact 𝓤 (IsRemembered Stored view other))) (fact_i 𝓤 (IsRemembered Stored view other) (emp 𝓤) told) $ join ! $
+    feq_i ! (List Val) (vunit ∷ []) (vunit ∷ []) refl $ returns ! (look_at ! 0 refl) $ free_all ! refl $ keep ! (2 ∷ 3 ∷ 0 ∷ 1 ∷ []) $ by ! (leaves 𝓛 En hs c y vunit tt (tt, (k, (m, tt))) (tt, (tt, (tt, tt)))))))))))))
