@@ -103,13 +103,13 @@ SEALS = {
         ["pump_engine/proofs/ends/Outlet/open", "pump_engine/proofs/ends/OutletDestination/write"],
     ),
     "as_returned": ("pump_engine/specs/Outcome", ["pump_engine/proofs/running/run"]),
-    "as_opened": ("pump_engine/specs/Handle", ["pump_engine/proofs/handle/Handle/open"]),
-    "as_answer_of": ("pump_engine/specs/Handle", ["pump_engine/proofs/handle/Handle/metadata"]),
-    "as_answer_for": ("pump_engine/specs/Handle", ["pump_engine/proofs/handle/ask"]),
-    "as_resized": ("pump_engine/specs/Handle", ["pump_engine/proofs/handle/Handle/resize"]),
-    "as_empty": ("pump_engine/specs/Handle", ["pump_engine/proofs/handle/Handle/metadata"]),
-    "as_all_open": ("pump_engine/specs/AllOpen", ["pump_engine/proofs/outputs/all_open"]),
-    "as_said": ("pump_engine/specs/Saying", ["pump_engine/proofs/saying/say"]),
+    "as_opened": ("pump_files/specs/Handle", ["pump_files/proofs/handle/Handle/open"]),
+    "as_answer_of": ("pump_files/specs/Handle", ["pump_files/proofs/handle/Handle/metadata"]),
+    "as_answer_for": ("pump_files/specs/Handle", ["pump_files/proofs/handle/ask"]),
+    "as_resized": ("pump_files/specs/Handle", ["pump_files/proofs/handle/Handle/resize"]),
+    "as_empty": ("pump_files/specs/Handle", ["pump_files/proofs/handle/Handle/metadata"]),
+    "as_all_open": ("pump_files/specs/AllOpen", ["pump_files/proofs/all_open/all_open"]),
+    "as_said": ("pump_files/specs/Saying", ["pump_files/proofs/saying/say"]),
     "as_lost": ("piper_duplex/specs/Failures", ["piper_duplex/proofs/engine/lost/lost"]),
     "as_had_seen": ("piper_futures/specs/Threads", ["piper_futures/proofs/threads/closed_by_writer"]),
 }
@@ -118,7 +118,7 @@ SEALS = {
 # These look into sealed definitions, and say only that two pieces of such evidence are the same.
 GIVES_NONE = {
     ("piper_transfer/specs/Threads", "shows_prop"),
-    ("pump_engine/specs/AllOpen", "are_all_open_prop"),
+    ("pump_files/specs/AllOpen", "are_all_open_prop"),
     ("pump_engine/specs/CommandLine", "are_words_prop"),
 }
 

@@ -4,10 +4,10 @@
 
 use piper_transfer::Plain;
 use pump_engine::command_line::CommandLine;
-use pump_engine::files::SystemFile;
 use pump_engine::outcome::Outcome;
 use pump_engine::program::{Nothing, STACK, run_and_report};
 use pump_engine::streams::{Streams, is_open};
+use pump_files::files::SystemFile;
 use std::io::IsTerminal;
 use std::process::ExitCode;
 use std::thread::Builder;

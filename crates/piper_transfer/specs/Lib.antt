@@ -1,4 +1,3 @@
-pub mod Size
 pub mod Taken
 pub mod Threads
 pub mod Transfer

@@ -11,7 +11,7 @@ use Rattle.pump_engine.specs.Ends.{AreAllFlushed, HaveTaken, IsAnswered, IsAwait
 use Rattle.pump_engine.specs.declared.ends.Drain.{Drain}
 use Rattle.pump_engine.specs.declared.ends.Opening.{Opening}
 use Rattle.pump_engine.specs.declared.ends.Opening.TheVariants as opening
-use Rattle.pump_engine.specs.declared.sinks.Sink.{Sink}
+use Rattle.pump_files.specs.declared.sinks.Sink.{Sink}
 
 -- once all are open
 pub taken_done : (o : Opening) (have : Type 0) (passed : List ℕ) → IsDone o → HaveTaken o have passed → have

@@ -11,8 +11,8 @@ use Rattle.pump_engine.specs.declared.ends.Drain.{Drain}
 use Rattle.pump_engine.specs.declared.ends.Drain.TheVariants as drain
 use Rattle.pump_engine.specs.declared.ends.Inlet.{Inlet}
 use Rattle.pump_engine.specs.declared.ends.Inlet.TheVariants as inlet
-use Rattle.pump_engine.specs.declared.found.Found.{Found}
-use Rattle.pump_engine.specs.declared.sinks.Sink.{Sink}
+use Rattle.pump_files.specs.declared.found.Found.{Found}
+use Rattle.pump_files.specs.declared.sinks.Sink.{Sink}
 
 pub reads_named : {S F : Type 0} (name : F → Option (List ℕ)) (word : Option (List ℕ)) (opened : Option F) (old new : Inlet S F) → OpensNamed name word opened
     → (opened ≡ None → new ≡ old) → IfSome opened (λ f. new ≡ inlet.File f) → ReadsNamed name word old new

@@ -1,22 +1,13 @@
--- A loop that changes each element of a list.
+-- A loop that adds a file at each round.
 use Rattle.std.proofs.Common.{◌≡◌, ◌≢◌, ℕ, ◌+◌, ◌<◌, ◌≤◌, List, [], ◌∷◌, ◌++◌, length, get_or, map, set, take, string_bytes, Bor, ap, subst, sym, ◌∙◌, arith}
 use Rattle.std.specs.List.{AllWithin}
 use Rattle.std.proofs.lemmas.List.{get_or-set_other, length-set, map-append, take_more}
 use Rattle.std.proofs.lemmas.List.Elements.{filter_map-append}
-use Rattle.pump_engine.specs.Copies.{names_of}
+use Rattle.pump_files.specs.Copies.{names_of}
 use Rattle.pump_engine.specs.Opening.{founds_of, ids_of}
-use Rattle.pump_engine.specs.declared.found.FileId.{FileId}
-use Rattle.pump_engine.specs.declared.found.Found.{Found}
-use Rattle.pump_engine.specs.declared.sinks.Sink.{Sink}
-
--- what was true of those that come after the one that is written
-pub AllWithin-rest_set : {X : Type 0} (P : X → Type 0) (ys : List X) (i : ℕ) (v : X)
-    → AllWithin P ys i (length ys) → AllWithin P (set ys i v) (i + 1) (length (set ys i v))
-AllWithin-rest_set P ys i v all = λ k d low high.
-    let other : k ≢ i = omega (arith, low) in
-    let in_range : k < length ys = subst (λ n. k < n) (length-set ys i v) high in
-    let after : i ≤ k = omega (arith, low) in
-    subst P (sym (get_or-set_other ys i k v d other)) (all k d after in_range)
+use Rattle.pump_files.specs.declared.found.FileId.{FileId}
+use Rattle.pump_files.specs.declared.found.Found.{Found}
+use Rattle.pump_files.specs.declared.sinks.Sink.{Sink}
 
 -- one more file, which has the next name
 pub named_more : {F : Type 0} (before after : List (Sink F)) (sink : Sink F) (names : List (Bor (List ℕ))) (i : ℕ) (d : Bor (List ℕ)) → i < length names

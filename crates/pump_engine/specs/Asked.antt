@@ -1,13 +1,11 @@
 -- What gets the bytes that pass, by what is asked for.
-use Rattle.std.specs.Prelude.{◌≡◌, ℕ, Bool, true, false, List, [], ◌∷◌, Some, codes, map}
+use Rattle.std.specs.Prelude.{◌≡◌, ℕ, List, [], ◌∷◌, Option, Some, codes, map}
+use Rattle.std.specs.declared.io.Error.{Error}
 use Rattle.clap.specs.Words.{Text, one_of}
-use Rattle.pump_engine.specs.Arguments.{said_by, tees_of}
-use Rattle.pump_engine.specs.declared.arguments.Arguments.{Arguments}
-
--- what the sum is called, if it is asked for
-abbrev pub sum_asked : Bool → List ℕ
-sum_asked true = codes "SHA-256"
-sum_asked false = []
+use Rattle.pump_files.specs.Copies.{HavePassed, sum_asked}
+use Rattle.pump_files.specs.declared.copies.Copies.{Copies}
+use Rattle.pump_words.specs.Arguments.{said_by, tees_of}
+use Rattle.pump_words.specs.declared.arguments.Arguments.{Arguments}
 
 -- the sum, and the files of the copies
 abbrev pub parts_wanted : Arguments → List (List ℕ)
@@ -19,3 +17,14 @@ pub record AreAskedBy (words parts : List Text) : Type 0 where
   pub are : parts ≡ sum ∷ tees_of words
   pub asked : one_of (codes "sha256") (said_by words) ≡ Some (codes "true") → sum ≡ codes "SHA-256"
   pub unasked : one_of (codes "sha256") (said_by words) ≡ Some (codes "false") → sum ≡ []
+
+-- all that these words ask for got just these bytes, unless it failed
+pub record HaveGot {R F : Type 0}
+    (name written : F → Option (List ℕ))
+    (fails : F → Error → Type 0)
+    (words : List (List ℕ))
+    (copies : Copies R F)
+    (passed : List ℕ) : Type 0 where
+  pub parts : List (List ℕ)
+  pub asked : AreAskedBy words parts
+  pub have : HavePassed name written fails copies parts passed

@@ -8,8 +8,8 @@ use Rattle.pump_engine.specs.declared.ends.Drain.TheVariants as drain
 use Rattle.pump_engine.specs.declared.ends.Opening.{Opening}
 use Rattle.pump_engine.specs.declared.ends.Opening.TheVariants as opening
 use Rattle.pump_engine.specs.declared.ends.Outlet.{Outlet}
-use Rattle.pump_engine.specs.declared.sinks.Sink.{Sink}
-use Rattle.pump_engine.specs.Copies.{AreFlushed, HavePassed}
+use Rattle.pump_files.specs.declared.sinks.Sink.{Sink}
+use Rattle.pump_files.specs.Copies.{AreFlushed, HavePassed}
 use Rattle.pump_engine.specs.Ended.{IsUnopened}
 
 -- the bytes that reads will give, where they are known

@@ -4,18 +4,18 @@ use Rattle.std.specs.Fs.{IsFile, file_type, metadata_len}
 use Rattle.std.specs.List.{All, AllPairs, filter_map}
 use Rattle.std.specs.declared.fs.Metadata.{Metadata}
 use Rattle.std.specs.declared.io.Error.{Error}
-use Rattle.pump_engine.specs.Files.{IsJust}
-use Rattle.pump_engine.specs.Found.{IsFound}
-use Rattle.pump_engine.specs.Handle.{IsAnswerFor}
-use Rattle.pump_engine.specs.Plan.{IsOfStream}
+use Rattle.pump_files.specs.Files.{IsJust}
+use Rattle.pump_files.specs.Found.{IsFound}
+use Rattle.pump_files.specs.Handle.{IsAnswerFor}
+use Rattle.pump_words.specs.Plan.{IsOfStream}
 use Rattle.pump_engine.specs.declared.ends.Drain.{Drain}
 use Rattle.pump_engine.specs.declared.ends.Drain.TheVariants as drain
 use Rattle.pump_engine.specs.declared.ends.Inlet.{Inlet}
 use Rattle.pump_engine.specs.declared.ends.Inlet.TheVariants as inlet
-use Rattle.pump_engine.specs.declared.found.FileId.{FileId}
-use Rattle.pump_engine.specs.declared.found.Found.{Found}
+use Rattle.pump_files.specs.declared.found.FileId.{FileId}
+use Rattle.pump_files.specs.declared.found.Found.{Found}
 use Rattle.pump_engine.specs.declared.opening.Places.{Places}
-use Rattle.pump_engine.specs.declared.sinks.Sink.{Sink}
+use Rattle.pump_files.specs.declared.sinks.Sink.{Sink}
 
 -- the file that this word names was opened, which has that name, where its name is known; none was
 -- where the word is left out or is `-`

@@ -2,13 +2,14 @@
 use Rattle.std.specs.Prelude.{◌≡◌, [], ℕ, true, false, List, Option, Some, None, Result, IfSome, codes}
 use Rattle.std.specs.declared.fs.Metadata.{Metadata}
 use Rattle.std.specs.declared.io.Error.{Error}
+use Rattle.piper_transfer.specs.declared.both_sides.Sizes.{Sizes}
 use Rattle.clap.specs.Words.{Text, fault_of, first_of, one_of}
-use Rattle.pump_engine.specs.Arguments.{AreSizedBy, IsSizeOf, ShowsAsAsked, pump_command, said_by}
-use Rattle.pump_engine.specs.Copies.{HaveGot}
+use Rattle.pump_words.specs.Arguments.{IsSizeOf, ShowsAsAsked, capacity_text, chunk_text, pump_command, said_by}
+use Rattle.pump_engine.specs.Asked.{HaveGot}
 use Rattle.pump_engine.specs.Ends.{Awaits, IsAwaited}
 use Rattle.pump_engine.specs.Opening.{AreFoundApart, HoldNothing, ReadsNamed, WritesNamed}
-use Rattle.pump_engine.specs.Pace.{HasRate}
-use Rattle.pump_engine.specs.Plan.{IsOfStream, IsRead}
+use Rattle.pump_files.specs.Pace.{HasRate}
+use Rattle.pump_words.specs.Plan.{IsOfStream, IsRead}
 use Rattle.pump_engine.specs.declared.ends.Inlet.{Inlet}
 use Rattle.pump_engine.specs.declared.ends.Outlet.{Outlet}
 use Rattle.pump_engine.specs.declared.running.Plan.{Plan}
@@ -21,6 +22,11 @@ after option words = first_of option (said_by words)
 -- these words say that files which hold bytes are not to be overwritten
 abbrev pub SparesBytes : List Text → Type 0
 SparesBytes words = one_of (codes "force") (said_by words) ≡ Some (codes "false")
+
+-- the pipe holds so many bytes, and moves so many at a time, as these words ask for
+pub record AreSizedBy (words : List Text) (sizes : Sizes) : Type 0 where
+  pub capacity : IsSizeOf (capacity_text words) sizes.capacity
+  pub chunk : IsSizeOf (chunk_text words) sizes.chunk
 
 -- the numbers of the plan are those that these words ask for
 pub record HasNumbers (words : List Text) (streams : Streams) (plan : Plan) : Type 0 where

@@ -2,10 +2,10 @@
 use Rattle.std.specs.Prelude.{◌≡◌, [], ℕ, List, Option, Result, IfErr, OnOk}
 use Rattle.std.specs.List.{All}
 use Rattle.std.specs.declared.io.Error.{Error}
-use Rattle.pump_engine.specs.Copies.{IsCopy, names_of}
+use Rattle.pump_files.specs.Copies.{IsCopy, names_of}
 use Rattle.pump_engine.specs.Ended.{IsUnopened}
 use Rattle.pump_engine.specs.declared.ended.Ended.{Ended}
-use Rattle.pump_engine.specs.declared.sinks.Sink.{Sink}
+use Rattle.pump_files.specs.declared.sinks.Sink.{Sink}
 
 -- copies that got no byte have got none, and each has its name
 pub record StayCopies {F : Type 0}

@@ -1,6 +1,6 @@
 -- What the program says when it ends.
 use Rattle.std.specs.Prelude.{◌≡◌, ℕ, List, ◌∷◌, ◌++◌, Option, Some, None, codes, string_bytes, ⊤}
-use Rattle.pump_engine.specs.Saying.{IsSaid}
+use Rattle.pump_files.specs.Saying.{IsSaid}
 use Rattle.pump_engine.specs.declared.ended.Ended.{Ended}
 use Rattle.pump_engine.specs.declared.ended.Ended.TheVariants as ended
 use Rattle.pump_engine.specs.declared.ended.Why.{Why}

@@ -5,9 +5,10 @@ ghost use Rattle.piper_protocol.specs.Reported.{HasFailed};
 ghost use Rattle.pump_engine.specs.Ended.{EndsAs, HasStatus, IsOfOption, IsOfRange, IsShown, IsUnopened};
 ghost use Rattle.pump_engine.specs.Why.{IsWhySaid, SaysWhy, why_text};
 
-use crate::saying::say;
 use piper_protocol::reported::reported;
 use piper_transfer::TransferError;
+use pump_files::saying::say;
+use pump_words::plan::Untaken;
 use std::alloc::{AllocGlobal, Global};
 use std::fmt::{Display, Formatter};
 use std::io::ErrorKind;
@@ -49,11 +50,16 @@ pub struct NotTaken {
     pub range: &'static str,
 }
 
-/// That this word follows the option, which takes such numbers.
-pub fn not_taken(alloc: Global, option: &'static str, text: &str, range: &'static str) -> Ended
-    ensures named { IsOfOption option.now text.now result }
-    ensures range { IsOfRange range.now result }
+/// That the option does not take this word.
+pub fn not_taken(alloc: Global, word: Untaken<'_>) -> Ended
+    ensures named { IsOfOption word.entry.option.now word.entry.text.now result }
+    ensures range { IsOfRange word.entry.range.now result }
 {
+    let Untaken {
+        option,
+        text,
+        range,
+    } = word;
     match reported(String::from_str(alloc, text).map_err(|_| Ended::Memory)) {
         Ok(text) => Ended::Value(NotTaken {
             option,

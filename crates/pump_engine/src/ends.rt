@@ -3,22 +3,22 @@ ghost use Rattle.std.specs.Prelude.{◌≡◌, ◌⊎◌, ◌↔◌, [], ℕ, Li
 ghost use Rattle.std.specs.Io.KnownBytes.{Keeps};
 ghost use Rattle.piper_transfer.specs.Taken.{StaysTaken};
 ghost use Rattle.piper_transfer.specs.Transfer.{IsLasting, IsOfDestination};
-ghost use Rattle.pump_engine.specs.Copies.{HavePassed, has_failed};
+ghost use Rattle.pump_files.specs.Copies.{HavePassed, has_failed};
 ghost use Rattle.pump_engine.specs.Ended.{EndsAs, IsUnopened};
 ghost use Rattle.pump_engine.specs.Ends.{drain_bytes, inlet_bytes, AreAllFlushed, DrainFails};
 ghost use Rattle.pump_engine.specs.Ends.{HaveTaken, InletFails, IsAnswered, IsAwaited, IsDone, IsFlushed, IsFull};
 ghost use Rattle.pump_engine.specs.Ends.{IsRefused, IsStreamFlushed, OutletFails, OutletTook};
 
-use crate::copies::Copies;
 use crate::ended::Ended;
-use crate::files::{NamedFile, Opens};
 use crate::outcome::{Failure, Outcome};
 use crate::outputs::open_outputs;
 use crate::progress::{Progress, Watched};
-use crate::sinks::Sink;
 use piper_transfer::{
     Destination, Meter, Source, TransferError, flush_patiently, grants_thread, is_lasting,
 };
+use pump_files::copies::Copies;
+use pump_files::files::{NamedFile, Opens};
+use pump_files::sinks::Sink;
 use std::alloc::AllocGlobal;
 use std::io;
 use std::sync::Wait;

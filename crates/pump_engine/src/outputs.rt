@@ -1,20 +1,22 @@
 //! The files that are written are opened, once the input has given its first bytes or has ended:
 //! first those that are there, which keep what they hold, then the others are made, and then all are
 //! cut off.
-ghost use Rattle.std.specs.Prelude.{◌≡◌, OnOk, IfErr};
+ghost use Rattle.std.specs.Prelude.{◌≡◌, [], OnOk, IfErr, string_bytes};
 ghost use Rattle.std.specs.List.{All};
-ghost use Rattle.pump_engine.specs.Ended.{IsUnopened};
+ghost use Rattle.pump_engine.specs.Ended.{IsToldOf, IsUnopened};
 ghost use Rattle.pump_engine.specs.Ends.{drain_bytes};
-ghost use Rattle.pump_engine.specs.AllOpen.{HasDrain, HaveAll, IsOpenedUnlessFailed};
+ghost use Rattle.pump_engine.specs.Written.{HasDrain, HaveAll};
+ghost use Rattle.pump_files.specs.AllOpen.{IsOpenedUnlessFailed};
+ghost use Rattle.pump_files.specs.Copies.{IsCopy};
 ghost use Rattle.pump_engine.specs.Prepared.{StayCopies, StayUnwritten};
-ghost use Rattle.pump_engine.specs.Steps.{GetsBy, IsCutUnlessFailed, NeedsFor};
+ghost use Rattle.pump_files.specs.Steps.{GetsBy, IsCutUnlessFailed, NeedsFor};
 
-use crate::all_open::AllOpen;
-use crate::ended::Ended;
+use crate::ended::{Ended, Unopened};
 use crate::ends::Drain;
-use crate::files::{NamedFile, Opens};
-use crate::sinks::{Sink, Step};
 use piper_transfer::Destination;
+use pump_files::all_open::{self, AllOpen};
+use pump_files::files::{NamedFile, Opens};
+use pump_files::sinks::{Sink, Step};
 use std::alloc::AllocGlobal;
 
 /// Opens the files that are written. Where one can't be opened, those that were made are taken away
@@ -63,14 +65,16 @@ where
 }
 
 // That all files are open.
-fn all_open<D, F>(_drain: &Drain<D, F>, _tees: &[Sink<F>]) -> AllOpen
+fn all_open<D, F>(drain: &Drain<D, F>, tees: &[Sink<F>]) -> AllOpen
 where
     D: Destination + Drop,
     F: NamedFile,
-    requires { HaveAll (IsOpenedUnlessFailed F.is_kept F.is_made) _drain.now _tees.now }
+    requires { HaveAll (IsOpenedUnlessFailed F.is_kept F.is_made) drain.now tees.now }
 {
-    let all_open = AllOpen { made: () };
-    all_open
+    match drain {
+        Drain::Standard(_) => all_open::all_open(None, tees),
+        Drain::File(sink) => all_open::all_open(Some(sink), tees),
+    }
 }
 
 // Takes a step for each file.
@@ -108,7 +112,7 @@ where
 {
     match drain {
         Drain::Standard(_) => Ok(()),
-        Drain::File(sink) => sink.take(rt, rt.alloc(), step),
+        Drain::File(sink) => take(rt, sink, step),
     }
 }
 
@@ -122,9 +126,31 @@ where
     ensures stay { OnOk result (StayCopies F.name F.written F.fails tees.old tees.new) }
 {
     for tee in tees.iter_mut() {
-        tee.take(rt, rt.alloc(), step)?;
+        take(rt, tee, step)?;
     }
     Ok(())
+}
+
+// Takes the step for this file, and reports by its name where that fails.
+fn take<R, F>(rt: &R, sink: &mut Sink<F>, step: Step) -> Result<(), Ended>
+where
+    R: Opens<F> + AllocGlobal,
+    F: NamedFile,
+    requires needs { NeedsFor step F.is_kept F.is_made sink.old }
+    ensures copy { IsCopy F.name F.written F.fails [] sink.old
+        → IsCopy F.name F.written F.fails [] sink.new }
+    ensures name { sink.new.name ≡ sink.old.name }
+    ensures bytes { F.written sink.new.file ≡ F.written sink.old.file }
+    ensures gets { OnOk result (GetsBy step F.is_kept F.is_made F.is_cut sink.new) }
+    ensures early { IfErr result IsUnopened }
+    ensures named { IfErr result (IsToldOf (string_bytes sink.old.name)) }
+{
+    match sink.take(rt, step) {
+        Ok(()) => Ok(()),
+        Err(error) => {
+            Err(Ended::NoOutput(Unopened::new(rt.alloc(), sink.name.as_str(), error)?))
+        }
+    }
 }
 
 // Takes those away again that were made.

@@ -2,13 +2,13 @@
 ghost use Rattle.std.specs.Prelude.{⊤};
 
 use crate::command_line::CommandLine;
-use crate::copies::Copies;
 use crate::ends::{Drain, Inlet, Opening, Outlet};
-use crate::files::{NamedFile, Opens};
 use crate::outcome::Outcome;
 use crate::running::run;
 use crate::streams::Streams;
 use piper_transfer::{Destination, Meter, Source};
+use pump_files::copies::Copies;
+use pump_files::files::{NamedFile, Opens};
 use std::alloc::{AllocGlobal, Global};
 use std::fs::Files;
 use std::marker::Send;

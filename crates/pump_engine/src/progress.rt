@@ -4,11 +4,11 @@ ghost use Rattle.std.specs.Duration.{as_nanos};
 ghost use Rattle.std.specs.declared.io.Error.{Error};
 ghost use Rattle.piper_protocol.specs.Reported.{IsOfStd};
 ghost use Rattle.piper_transfer.specs.Transfer.{IsLasting};
-ghost use Rattle.pump_engine.specs.Pace.{IsOfClock};
+ghost use Rattle.pump_files.specs.Pace.{IsOfClock};
 
-use crate::lines::{Done, Line};
 use piper_protocol::reported::reported;
 use piper_transfer::{Meter, is_lasting};
+use pump_words::lines::{Done, Line};
 use std::io;
 use std::sync::{Condvar, Mutex, Wait};
 use std::time::{Clock, Duration, Instant};

@@ -2,28 +2,29 @@
 ghost use Rattle.std.specs.Prelude.{◌≡◌, ◌≢◌, [], None, OnErr, OnOk, IfOk, IfErr, IfSome, codes, false, map, string_bytes, true};
 ghost use Rattle.clap.specs.Words.{fault_of};
 ghost use Rattle.piper_transfer.specs.Transfer.{IsOfSide, Transfers, WritesAll};
-ghost use Rattle.pump_engine.specs.Arguments.{AreSizedBy, IsSizeOf, ShowsAsAsked, pump_command};
-ghost use Rattle.pump_engine.specs.Copies.{HaveGot, has_failed};
+ghost use Rattle.pump_words.specs.Arguments.{IsSizeOf, ShowsAsAsked, pump_command};
+ghost use Rattle.pump_engine.specs.Asked.{HaveGot};
+ghost use Rattle.pump_files.specs.Copies.{has_failed};
 ghost use Rattle.pump_engine.specs.Ended.{IsEarly};
 ghost use Rattle.pump_engine.specs.Ends.{drain_bytes, inlet_bytes, AreAllFlushed, Awaits, HaveTaken};
 ghost use Rattle.pump_engine.specs.Ends.{InletFails, IsAwaited, IsDone, IsFull, IsRefused};
 ghost use Rattle.pump_engine.specs.Ends.{OutletFails, OutletTook};
 ghost use Rattle.pump_engine.specs.Opening.{AreFoundApart, HoldNothing, ReadsNamed, WritesNamed};
 ghost use Rattle.pump_engine.specs.Outcome.{RunReturned};
-ghost use Rattle.pump_engine.specs.Pace.{HasRate};
-ghost use Rattle.pump_engine.specs.Plan.{IsOfStream, IsRead};
-ghost use Rattle.pump_engine.specs.Planned.{IsPlanned, SparesBytes, after};
+ghost use Rattle.pump_files.specs.Pace.{HasRate};
+ghost use Rattle.pump_words.specs.Plan.{IsOfStream, IsRead};
+ghost use Rattle.pump_engine.specs.Planned.{AreSizedBy, IsPlanned, SparesBytes, after};
 ghost use Rattle.pump_engine.specs.Running.{EndsWithTransfer, Runs};
 
-use crate::arguments::read_words;
+use crate::accepting::accept;
 use crate::ended::Ended;
 use crate::ends::{Inlet, Outlet};
-use crate::files::{NamedFile, Opens};
 use crate::opening::{Places, open_files, size_of};
-use crate::plan::{numbers_of, refuse_closed, refuse_dashes};
 use crate::progress::{Over, Watched, watch};
 use crate::streams::Streams;
 use piper_transfer::{Destination, Meter, Sizes, Source, TransferError, transfer};
+use pump_files::files::{NamedFile, Opens};
+use pump_words::arguments::read_words;
 use std::alloc::AllocGlobal;
 use std::fs::Files;
 use std::marker::Send;
@@ -178,9 +179,7 @@ where
         Ok(arguments) => arguments,
         Err(error) => return Err(Ended::Words(error)),
     };
-    let numbers = numbers_of(rt.alloc(), arguments.sizes, arguments.texts)?;
-    refuse_dashes(rt.alloc(), arguments.tees.as_slice())?;
-    refuse_closed(rt.alloc(), arguments.texts, streams)?;
+    let numbers = accept(rt.alloc(), &arguments, streams)?;
     let places = open_files(rt, &arguments, numbers.rate, input, output)?;
     let watched = Watched {
         capacity: numbers.sizes.capacity,

@@ -1,6 +1,6 @@
 //! Sizes as they are written.
 use crate::compare::same;
-use piper_transfer::parse_size;
+use pump_words::size::parse_size;
 
 #[test]
 fn a_size_is_digits_and_perhaps_a_unit(rt: HostRuntime) {

@@ -1,9 +1,9 @@
 use Rattle.std.proofs.Common.{rules, [], sym, subst}
 use Rattle.std.specs.List.{All}
 use Rattle.std.proofs.lemmas.List.Elements.{All-push}
-use Rattle.pump_engine.specs.Copies.{IsCopy}
-use Rattle.pump_engine.specs.Found.{IsFound}
-use Rattle.pump_engine.specs.Handle.{IsAnswerFor}
+use Rattle.pump_files.specs.Copies.{IsCopy}
+use Rattle.pump_files.specs.Found.{IsFound}
+use Rattle.pump_files.specs.Handle.{IsAnswerFor}
 use Rattle.pump_engine.specs.Opening.{IsFoundByName}
 use Rattle.pump_engine.proofs.Tees.{named_more}
 use Rattle.pump_engine.proofs.opening.look_at_tees.Goals as goal

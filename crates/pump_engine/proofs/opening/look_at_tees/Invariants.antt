@@ -1,7 +1,7 @@
 -- Each name up to the index has its file, and none of these was given a byte.
 use Rattle.std.proofs.Common.{◌≡◌, [], map, take}
 use Rattle.std.specs.List.{All}
-use Rattle.pump_engine.specs.Copies.{IsCopy, names_of}
+use Rattle.pump_files.specs.Copies.{IsCopy, names_of}
 use Rattle.pump_engine.specs.Opening.{IsFoundByName}
 use Rattle.pump_engine.proofs.opening.look_at_tees.Given as goal
 

@@ -1,6 +1,6 @@
 use Rattle.std.proofs.Common.{◌≡◌, sym, subst}
 use Rattle.std.specs.List.{All}
-use Rattle.pump_engine.specs.Arguments.{text_in}
+use Rattle.pump_words.specs.Arguments.{text_in}
 use Rattle.pump_engine.specs.Opening.{AreFoundApart}
 use Rattle.pump_engine.proofs.Named.{input_found, none_held, reads_named, writes_named}
 use Rattle.pump_engine.proofs.opening.open_files.Goals as goal

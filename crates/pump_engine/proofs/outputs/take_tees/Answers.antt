@@ -1,9 +1,9 @@
 use Rattle.std.proofs.Common.{[], ◌<◌, length, rules, string_bytes, ap, arith, ◌∙◌}
 use Rattle.std.proofs.Math.Seq.{map-set_same}
 use Rattle.std.proofs.lemmas.List.Elements.{AllWithin-more_set}
-use Rattle.pump_engine.specs.Copies.{IsCopy}
-use Rattle.pump_engine.specs.Steps.{GetsBy, NeedsFor}
-use Rattle.pump_engine.proofs.Tees.{AllWithin-rest_set}
+use Rattle.pump_files.specs.Copies.{IsCopy}
+use Rattle.pump_files.specs.Steps.{GetsBy, NeedsFor}
+use Rattle.pump_files.proofs.Elements.{AllWithin-rest_set}
 use Rattle.pump_engine.proofs.outputs.take_tees.Goals as goal
 
 pub loop-tee-preserved : goal.loop-tee-preserved
@@ -14,12 +14,12 @@ loop-tee-preserved g c =
     let before = c.loop-tee.invariant in
     let inside : i < length tees = search rules in
     record {
-      given = λ all. AllWithin-more_set tees i c.take.new.self inside Copy (before.given all)
+      given = λ all. AllWithin-more_set tees i c.take.new.sink inside Copy (before.given all)
           (c.take.ensures.copy (before.rest all i c.tee-item.result (omega arith) inside));
-      rest = λ all. AllWithin-rest_set Copy tees i c.take.new.self (before.rest all);
-      needs = AllWithin-rest_set (NeedsFor c.args.step g.F.NamedFile.is_kept g.F.NamedFile.is_made) tees i c.take.new.self before.needs;
-      gets = AllWithin-more_set tees i c.take.new.self inside (GetsBy c.args.step g.F.NamedFile.is_kept g.F.NamedFile.is_made g.F.NamedFile.is_cut) before.gets c.in_ok-take.ensures.gets;
-      names = map-set_same _ tees i c.take.new.self c.tee-item.result (ap string_bytes c.take.ensures.name) ∙ before.names;
+      rest = λ all. AllWithin-rest_set Copy tees i c.take.new.sink (before.rest all);
+      needs = AllWithin-rest_set (NeedsFor c.args.step g.F.NamedFile.is_kept g.F.NamedFile.is_made) tees i c.take.new.sink before.needs;
+      gets = AllWithin-more_set tees i c.take.new.sink inside (GetsBy c.args.step g.F.NamedFile.is_kept g.F.NamedFile.is_made g.F.NamedFile.is_cut) before.gets c.in_ok-take.ensures.gets;
+      names = map-set_same _ tees i c.take.new.sink c.tee-item.result (ap string_bytes c.take.ensures.name) ∙ before.names;
     }
 
 pub returns-clause-stay : goal.returns-clause-stay

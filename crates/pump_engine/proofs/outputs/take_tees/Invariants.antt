@@ -1,8 +1,8 @@
 -- Those before the index were taken, and the others are as they were.
 use Rattle.std.proofs.Common.{◌≡◌, [], length}
 use Rattle.std.specs.List.{All, AllWithin}
-use Rattle.pump_engine.specs.Copies.{IsCopy, names_of}
-use Rattle.pump_engine.specs.Steps.{GetsBy, NeedsFor}
+use Rattle.pump_files.specs.Copies.{IsCopy, names_of}
+use Rattle.pump_files.specs.Steps.{GetsBy, NeedsFor}
 use Rattle.pump_engine.proofs.outputs.take_tees.Given as goal
 
 abbrev pub invariant-loop-tee : goal.invariant-loop-tee

@@ -2,7 +2,8 @@ use Rattle.std.proofs.Common.{List, ℕ, [], inr, ap, map, string_bytes, sym, su
 use Rattle.std.specs.Prelude.{IfErr, OnOk}
 use Rattle.std.specs.Io.KnownBytes.{Appends}
 use Rattle.piper_transfer.specs.Transfer.{IsOfSide}
-use Rattle.pump_engine.specs.Copies.{HaveGot, HavePassed}
+use Rattle.pump_files.specs.Copies.{HavePassed}
+use Rattle.pump_engine.specs.Asked.{HaveGot}
 use Rattle.pump_engine.specs.Ends.{drain_bytes, inlet_bytes, HaveTaken, InletFails, IsDone, IsFull, OutletFails}
 use Rattle.pump_engine.specs.Outcome.{as_returned}
 use Rattle.pump_engine.proofs.Concluded.{all_flushed_same, awaiting_taken, map_taken, taken_answered}

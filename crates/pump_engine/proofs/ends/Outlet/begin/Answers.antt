@@ -1,5 +1,5 @@
 use Rattle.std.proofs.Common.{rules, subst, sym}
-use Rattle.pump_engine.specs.Copies.{HavePassed}
+use Rattle.pump_files.specs.Copies.{HavePassed}
 use Rattle.pump_engine.specs.Ends.{HaveTaken}
 use Rattle.pump_engine.proofs.Concluded.{awaited_taken}
 use Rattle.pump_engine.proofs.ends.Outlet.begin.Goals as goal

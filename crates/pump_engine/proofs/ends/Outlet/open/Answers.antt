@@ -1,7 +1,7 @@
 use Rattle.std.proofs.Common.{rules, [], ◌≡◌, ◌∷◌, length, ap, subst, sym, ◌∙◌}
 use Rattle.std.proofs.lemmas.List.{with_items_is}
 use Rattle.std.specs.List.{All}
-use Rattle.pump_engine.specs.Copies.{HavePassed, IsCopy, name_of_sum, names_of}
+use Rattle.pump_files.specs.Copies.{HavePassed, IsCopy, name_of_sum, names_of}
 use Rattle.pump_engine.specs.Ends.{HaveTaken}
 use Rattle.pump_engine.specs.Outcome.{as_failed_so}
 use Rattle.pump_engine.proofs.ends.Outlet.open.Goals as goal

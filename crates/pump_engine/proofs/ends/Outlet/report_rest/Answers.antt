@@ -1,5 +1,5 @@
 use Rattle.std.proofs.Common.{sym, subst}
-use Rattle.pump_engine.specs.Copies.{HavePassed}
+use Rattle.pump_files.specs.Copies.{HavePassed}
 use Rattle.pump_engine.proofs.ends.Outlet.report_rest.Goals as goal
 
 pub returns-then-matches-clause-copies : goal.returns-then-matches-clause-copies

@@ -2,7 +2,7 @@ use Rattle.std.proofs.Common.{rules}
 use Rattle.pump_engine.specs.Ends.{DrainFails, IsFull}
 use Rattle.pump_engine.specs.Outcome.{as_failed_so}
 use Rattle.pump_engine.proofs.Concluded.{done_taken, taken_done}
-use Rattle.pump_engine.proofs.Passed.{passed_same}
+use Rattle.pump_files.proofs.Passed.{passed_same}
 use Rattle.pump_engine.proofs.ends.OutletDestination.write.Goals as goal
 
 pub returns-in-Ok-clause-taken : goal.returns-in-Ok-clause-taken

@@ -1,6 +1,0 @@
--- That this was printed is what a call of this function says.
-use Rattle.pump_engine.specs.Saying.{as_said}
-use Rattle.pump_engine.proofs.saying.say.Goals as goal
-
-pub returns : goal.returns
-returns g c = as_said c.args.what _ c.reported.ensures.reported

@@ -1,0 +1,3 @@
+mod Copied
+pub mod Elements
+pub mod Passed

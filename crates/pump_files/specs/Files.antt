@@ -1,0 +1,44 @@
+-- What is known of a file.
+use Rattle.std.specs.Prelude.{◌≡◌, ◌⊎◌, ℕ, true, List, Option, IfSome, IsErr, Result, MatchResult, take}
+use Rattle.std.specs.Fs.{new_options, with_create_new, with_read, with_write}
+use Rattle.std.specs.declared.fs.Metadata.{Metadata}
+use Rattle.std.specs.declared.fs.options.OpenOptions.{OpenOptions}
+use Rattle.std.specs.declared.io.Error.{Error}
+use Rattle.std.specs.Io.KnownBytes.{append_known}
+use Rattle.pump_files.specs.Handle.{HasLength, IsAnswerOf, IsOpenedBy}
+use Rattle.pump_files.specs.declared.files.SystemFile.{SystemFile}
+use Rattle.pump_files.specs.declared.files.SystemFile.TheVariants as system
+
+-- these bytes, where it is known which
+abbrev pub IsJust : Option (List ℕ) → List ℕ → Type 0
+IsJust known bs = IfSome known (λ xs. xs ≡ bs)
+
+-- `write(buf)` wrote n bytes at `Ok(n)`, and none at `Err`
+abbrev pub Writes : {E : Type 0} → Option (List ℕ) → Option (List ℕ) → Result ℕ E → List ℕ → Type 0
+Writes old new r buf = MatchResult r (λ n. new ≡ append_known old (take n buf)) (λ _. new ≡ old)
+
+-- ways to open a file: to be read; to be written, as it is; to be written, where there is none
+abbrev pub reads : OpenOptions
+reads = with_read new_options true
+
+abbrev pub keeps : OpenOptions
+keeps = with_write new_options true
+
+abbrev pub makes : OpenOptions
+makes = with_create_new (with_write new_options true) true
+
+-- the system opened it in this way
+abbrev pub IsFileOf : OpenOptions → SystemFile → Type 0
+IsFileOf how system.Named = ⊥
+IsFileOf how (system.Open handle) = (name : List ℕ) × IsOpenedBy how name handle
+
+-- the system cut off what it held, or said that it holds nothing, or made it
+abbrev pub IsCutFile : SystemFile → Type 0
+IsCutFile system.Named = ⊥
+IsCutFile (system.Open handle) =
+    HasLength 0 handle ⊎ ((name : List ℕ) × IsOpenedBy makes name handle)
+
+-- the system was asked of it, and answered so; where it is not open, that is reported
+abbrev pub IsAnswerOfFile : SystemFile → Result Metadata Error → Type 0
+IsAnswerOfFile system.Named answer = IsErr answer
+IsAnswerOfFile (system.Open handle) answer = IsAnswerOf handle answer

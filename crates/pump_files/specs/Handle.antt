@@ -1,0 +1,54 @@
+-- What the system did to a file, and what it said of one. All but the first are sealed: no proof looks
+-- into them, and only those of the calls that are named use the lemmas.
+use Rattle.std.specs.Prelude.{◌≡◌, ◌⊎◌, ℕ, List, IfOk, OnOk, Result, Ok, Err, ⊤}
+use Rattle.std.specs.Fs.{IsFile, file_type, metadata_len}
+use Rattle.std.specs.declared.fs.File.{File}
+use Rattle.std.specs.declared.fs.Metadata.{Metadata}
+use Rattle.std.specs.declared.fs.options.OpenOptions.{OpenOptions}
+use Rattle.std.specs.declared.io.Error.{Error}
+use Rattle.piper_protocol.specs.Reported.{IsOfStd}
+use Rattle.pump_files.specs.declared.handle.Handle.{Handle}
+
+-- it is no regular file, or one that holds no byte
+abbrev pub HoldsNothing : Metadata → Type 0
+HoldsNothing m = (¬ IsFile (file_type m)) ⊎ (metadata_len m ≡ 0)
+
+-- the system opened this file by its name, in this way (`Handle::open`)
+pub IsOpenedBy : OpenOptions → List ℕ → Handle → Type 0
+IsOpenedBy how name handle = ⊤
+
+pub as_opened : (how : OpenOptions) (name : List ℕ) (returned : Result File Error) (handle : Handle)
+    → IsOfStd returned → IsOpenedBy how name handle
+unfolding IsOpenedBy
+as_opened how name returned handle asked = tt
+
+-- the system was asked of this open file, and answered so (`Handle::metadata`)
+pub IsAnswerOf : Handle → Result Metadata Error → Type 0
+IsAnswerOf handle answer = ⊤
+
+pub as_answer_of : (handle : Handle) (answer : Result Metadata Error) → IsOfStd answer → IsAnswerOf handle answer
+unfolding IsAnswerOf
+as_answer_of handle answer asked = tt
+
+-- the system was asked of the file of this name, and answered so (`ask`)
+pub IsAnswerFor : List ℕ → Result Metadata Error → Type 0
+IsAnswerFor name answer = ⊤
+
+pub as_answer_for : (name : List ℕ) (answer : Result Metadata Error) → IsOfStd answer → IsAnswerFor name answer
+unfolding IsAnswerFor
+as_answer_for name answer asked = tt
+
+-- the system made this file so long, or said that it holds so much (`Handle::resize`, `metadata`)
+pub HasLength : ℕ → Handle → Type 0
+HasLength size handle = ⊤
+
+pub as_resized : (size : ℕ) (handle : Handle) (answer : Result Unit Error) → IsOfStd answer → OnOk answer (HasLength size handle)
+unfolding HasLength
+as_resized size handle (Ok u) asked = tt
+as_resized size handle (Err e) asked = tt
+
+pub as_empty : (handle : Handle) (answer : Result Metadata Error) → IsAnswerOf handle answer
+    → IfOk answer (λ m. HoldsNothing m → HasLength 0 handle)
+unfolding HasLength
+as_empty handle (Ok m) asked = λ none. tt
+as_empty handle (Err e) asked = tt

@@ -1,0 +1,9 @@
+pub mod AllOpen
+pub mod Copies
+pub mod Files
+pub mod Found
+pub mod Handle
+pub mod Lines
+pub mod Pace
+pub mod Saying
+pub mod Steps

@@ -1,0 +1,25 @@
+-- What is done for each file that is written, before it gets a byte.
+use Rattle.std.specs.Prelude.{◌≡◌, true, false, ⊤}
+use Rattle.pump_files.specs.AllOpen.{IsOpenedUnlessFailed}
+use Rattle.pump_files.specs.declared.sinks.Sink.{Sink}
+use Rattle.pump_files.specs.declared.sinks.Step.{Step}
+use Rattle.pump_files.specs.declared.sinks.Step.TheVariants as step
+
+-- what it held is cut off, unless it was given up
+abbrev pub IsCutUnlessFailed : {F : Type 0} → (F → Type 0) → Sink F → Type 0
+IsCutUnlessFailed is_cut sink = sink.has_failed ≡ false → is_cut sink.file
+
+-- what a step asks of a file: those that are there are open before one is made, and all are before
+-- one is cut off. A file that was given up is left out
+abbrev pub NeedsFor : {F : Type 0} → Step → (F → Type 0) → (F → Type 0) → Sink F → Type 0
+NeedsFor (step.Open overwrites) is_kept is_made sink = ⊤
+NeedsFor step.Make is_kept is_made sink =
+    sink.has_failed ≡ false → sink.is_there ≡ true → is_kept sink.file
+NeedsFor (step.Cut all_open) is_kept is_made sink = IsOpenedUnlessFailed is_kept is_made sink
+
+-- what holds of it after the step
+abbrev pub GetsBy : {F : Type 0} → Step → (F → Type 0) → (F → Type 0) → (F → Type 0) → Sink F → Type 0
+GetsBy (step.Open overwrites) is_kept is_made is_cut sink =
+    sink.has_failed ≡ false → sink.is_there ≡ true → is_kept sink.file
+GetsBy step.Make is_kept is_made is_cut sink = IsOpenedUnlessFailed is_kept is_made sink
+GetsBy (step.Cut all_open) is_kept is_made is_cut sink = IsCutUnlessFailed is_cut sink

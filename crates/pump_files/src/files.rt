@@ -1,0 +1,237 @@
+//! Files that are opened by their names: those that are written later than they are named.
+ghost use Rattle.std.specs.Prelude.{◌≡◌, ◌<◌, ℕ, List, [], length, Option, None, Ok, OnOk, IfOk, IfErr, ⊤};
+ghost use Rattle.std.specs.Io.{ReadsAtMost, WritesAtMost};
+ghost use Rattle.std.specs.Io.KnownBytes.{append_known, ReadConsumes};
+ghost use Rattle.piper_protocol.specs.Reported.{HasFailed, IsOfStd};
+ghost use Rattle.pump_files.specs.Files.{IsAnswerOfFile, IsCutFile, IsFileOf, IsJust, Writes, keeps, makes, reads};
+ghost use Rattle.pump_files.specs.Handle.{HoldsNothing, IsAnswerFor};
+
+use crate::all_open::AllOpen;
+use crate::handle::{Handle, ask};
+use piper_protocol::reported::reported;
+use std::fs::{File, Files, Metadata, OpenOptions};
+use std::{fs, io};
+
+/// A file that has a name.
+///
+/// It can say which one, whether it is open, what was written to it since then, whether that is
+/// flushed, and how its calls fail. Of the system's files nothing of that is said, but each answer is one of theirs.
+pub trait NamedFile: Drop {
+    ghost use Rattle.std.specs.Prelude.{Result};
+    ghost use Rattle.std.specs.declared.fs.Metadata.{Metadata};
+    ghost use Rattle.std.specs.declared.io.Error.{Error};
+
+    // the name that it is opened by, where that is known
+    ghost name: { Self → Option (List ℕ) } = { λ _. None };
+
+    // it was opened to be read alone
+    ghost is_read: { Self → Type 0 } = { λ _. ⊤ };
+
+    // it was there and was opened to be written, which left what it holds
+    ghost is_kept: { Self → Type 0 } = { λ _. ⊤ };
+
+    // it was not there, and was made
+    ghost is_made: { Self → Type 0 } = { λ _. ⊤ };
+
+    // the system was asked of it, and answered so
+    ghost answers: { Self → Result Metadata Error → Type 0 } = { λ _ _. ⊤ };
+
+    // it holds no byte but those that were written to it
+    ghost is_cut: { Self → Type 0 } = { λ _. ⊤ };
+
+    // the bytes that reads will give from here on, where they are known
+    ghost remaining: { Self → Option (List ℕ) } = { λ _. None };
+
+    // what was written to it since it was opened, where that is known
+    ghost written: { Self → Option (List ℕ) } = { λ _. None };
+
+    // a flush has succeeded, and left it so
+    ghost flushed: { Self → Type 0 } = { λ _. ⊤ };
+
+    // a write of some bytes has taken none, and left it so
+    ghost full: { Self → Type 0 } = { λ _. ⊤ };
+
+    // a call has failed with this error, and left it so
+    ghost fails: { Self → Error → Type 0 } = { λ _ _. ⊤ };
+
+    /// What the system reports of it.
+    fn attributes(&self) -> io::Result<Metadata>
+        ensures asked { answers self.now result }
+        ensures empty { IfOk result (λ m. HoldsNothing m → is_cut self.now) }
+        ensures reported { IsOfStd result }
+        ensures failed { IfErr result HasFailed };
+
+    /// Reads bytes to the front of `buf`, and returns how many; 0 where `buf` has room is the end.
+    fn read(&mut self, buf: &mut [u8]) -> io::Result<usize>
+        ensures bound { ReadsAtMost result buf.new }
+        ensures bytes { ReadConsumes (remaining self.old) (remaining self.new) result buf.new }
+        ensures error { IfErr result (fails self.new) }
+        ensures reported { IsOfStd result };
+
+    /// Cuts off what it held where it was opened, which waits until all files are open.
+    fn cut(&mut self, all_open: AllOpen) -> io::Result<()>
+        ensures cut { OnOk result (is_cut self.new) }
+        ensures opened { (is_kept self.old → is_kept self.new)
+            × (is_made self.old → is_made self.new) }
+        ensures name { name self.new ≡ name self.old }
+        ensures bytes { written self.new ≡ written self.old }
+        ensures error { IfErr result (fails self.new) }
+        ensures reported { IsOfStd result };
+
+    /// Writes bytes from the front of `buf`, and returns how many.
+    fn write(&mut self, buf: &[u8]) -> io::Result<usize>
+        ensures name { name self.new ≡ name self.old }
+        ensures bound { WritesAtMost result buf.now }
+        ensures bytes { Writes (written self.old) (written self.new) result buf.now }
+        ensures full { result ≡ Ok 0 → 0 < length buf.now → full self.new }
+        ensures error { IfErr result (fails self.new) }
+        ensures reported { IsOfStd result };
+
+    /// Writes all of `buf`.
+    fn write_all(&mut self, buf: &[u8]) -> io::Result<()>
+        ensures name { name self.new ≡ name self.old }
+        ensures bytes { OnOk result (written self.new ≡ append_known (written self.old) buf.now) }
+        ensures error { IfErr result (fails self.new) }
+        ensures reported { IsOfStd result };
+
+    /// Sends what was written on its way.
+    fn flush(&mut self) -> io::Result<()>
+        ensures name { name self.new ≡ name self.old }
+        ensures bytes { written self.new ≡ written self.old }
+        ensures done { OnOk result (flushed self.new) }
+        ensures error { IfErr result (fails self.new) }
+        ensures reported { IsOfStd result };
+}
+
+/// Opens files by their names.
+pub trait Opens<F: NamedFile> {
+    /// Opens it to be read.
+    fn open(&self, name: &str) -> io::Result<F>
+        ensures read { IfOk result F.is_read }
+        ensures name { IfOk result (λ file. IsJust (F.name file) name.now) }
+        ensures failed { IfErr result HasFailed };
+
+    /// What the system reports of it, whether it can be opened or not.
+    fn look(&self, name: &str) -> io::Result<Metadata>
+        ensures asked { IsAnswerFor name.now result }
+        ensures reported { IsOfStd result }
+        ensures failed { IfErr result HasFailed };
+
+    /// It is to be written, and is not open yet.
+    fn to_write(&self, name: &str) -> F
+        ensures name { IsJust (F.name result) name.now }
+        ensures bytes { IsJust (F.written result) [] };
+
+    /// Opens it, where there is one. It keeps what it holds.
+    fn open_to_write(&self, name: &str, file: &mut F) -> io::Result<()>
+        ensures name { F.name file.new ≡ F.name file.old }
+        ensures bytes { F.written file.new ≡ F.written file.old }
+        ensures opened { OnOk result (F.is_kept file.new) }
+        ensures failed { IfErr result HasFailed };
+
+    /// Makes it, where there is none, and opens it.
+    fn make(&self, name: &str, file: &mut F) -> io::Result<()>
+        ensures name { F.name file.new ≡ F.name file.old }
+        ensures bytes { F.written file.new ≡ F.written file.old }
+        ensures opened { OnOk result (F.is_made file.new × F.is_cut file.new) }
+        ensures failed { IfErr result HasFailed };
+
+    /// Takes it away.
+    fn remove(&self, name: &str) -> io::Result<()>
+        ensures reported { IsOfStd result };
+}
+
+/// A file of the system. One that is to be written is named first, and opened later.
+#[derive(Drop)]
+pub enum SystemFile {
+    Named,
+    Open(Handle),
+}
+
+impl NamedFile for SystemFile {
+    ghost is_read = { IsFileOf reads };
+
+    ghost is_kept = { IsFileOf keeps };
+
+    ghost is_made = { IsFileOf makes };
+
+    ghost answers = { IsAnswerOfFile };
+
+    ghost is_cut = { IsCutFile };
+
+    fn attributes(&self) -> io::Result<Metadata> {
+        match self {
+            SystemFile::Open(file) => file.metadata(),
+            SystemFile::Named => reported(Err(not_open())),
+        }
+    }
+
+    fn read(&mut self, buf: &mut [u8]) -> io::Result<usize> {
+        match self {
+            SystemFile::Open(file) => file.read(buf),
+            SystemFile::Named => reported(Err(not_open())),
+        }
+    }
+
+    fn cut(&mut self, all_open: AllOpen) -> io::Result<()> {
+        match self {
+            SystemFile::Open(file) => file.cut(all_open),
+            SystemFile::Named => reported(Err(not_open())),
+        }
+    }
+
+    fn write(&mut self, buf: &[u8]) -> io::Result<usize> {
+        match self {
+            SystemFile::Open(file) => file.write(buf),
+            SystemFile::Named => reported(Err(not_open())),
+        }
+    }
+
+    fn write_all(&mut self, buf: &[u8]) -> io::Result<()> {
+        match self {
+            SystemFile::Open(file) => file.write_all(buf),
+            SystemFile::Named => reported(Err(not_open())),
+        }
+    }
+
+    fn flush(&mut self) -> io::Result<()> {
+        match self {
+            SystemFile::Open(file) => file.flush(),
+            SystemFile::Named => reported(Err(not_open())),
+        }
+    }
+}
+
+fn not_open() -> io::Error {
+    io::Error::other("it is not open")
+}
+
+impl<R: Files<File = File>> Opens<SystemFile> for R {
+    fn open(&self, name: &str) -> io::Result<SystemFile> {
+        Ok(SystemFile::Open(Handle::open(self, OpenOptions::new().read(true), name)?))
+    }
+
+    fn look(&self, name: &str) -> io::Result<Metadata> {
+        ask(self, name)
+    }
+
+    fn to_write(&self, _name: &str) -> SystemFile {
+        SystemFile::Named
+    }
+
+    fn open_to_write(&self, name: &str, file: &mut SystemFile) -> io::Result<()> {
+        *file = SystemFile::Open(Handle::open(self, OpenOptions::new().write(true), name)?);
+        Ok(())
+    }
+
+    fn make(&self, name: &str, file: &mut SystemFile) -> io::Result<()> {
+        let mut how = OpenOptions::new();
+        let opened = Handle::open(self, how.write(true).create_new(true), name)?;
+        *file = SystemFile::Open(opened);
+        Ok(())
+    }
+
+    fn remove(&self, name: &str) -> io::Result<()> {
+        reported(fs::remove_file(self, name))
+    }
+}

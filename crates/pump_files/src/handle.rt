@@ -1,0 +1,95 @@
+//! A file of the system that is open, and what the system says of a name. The calls of this file alone
+//! ask it for that: so each answer is one of the file, or of the name, that was asked about.
+ghost use Rattle.std.specs.Prelude.{OnOk, IfOk, IfErr};
+ghost use Rattle.std.specs.Io.{ReadsAtMost, WritesAtMost};
+ghost use Rattle.piper_protocol.specs.Reported.{HasFailed, IsOfStd};
+ghost use Rattle.pump_files.specs.Handle.{HasLength, HoldsNothing, IsAnswerFor, IsAnswerOf, IsOpenedBy};
+
+use crate::all_open::AllOpen;
+use piper_protocol::reported::reported;
+use std::fs::{File, Files, Metadata, OpenOptions};
+use std::io::{Read, Write};
+use std::{fs, io};
+
+/// A file of the system that is open.
+#[derive(Drop)]
+pub struct Handle {
+    file: File,
+}
+
+impl Handle {
+    /// Opens a file in this way.
+    pub(crate) fn open<R>(files: &R, how: &OpenOptions, name: &str) -> io::Result<Handle>
+    where
+        R: Files<File = File>,
+        ensures opened { IfOk result (IsOpenedBy how.now name.now) }
+        ensures failed { IfErr result HasFailed }
+    {
+        let file = reported(how.open(files, name))?;
+        Ok(Handle { file })
+    }
+
+    /// What the system reports of it.
+    pub(crate) fn metadata(&self) -> io::Result<Metadata>
+        ensures asked { IsAnswerOf self.now result }
+        ensures empty { IfOk result (λ m. HoldsNothing m → HasLength 0 self.now) }
+        ensures reported { IsOfStd result }
+        ensures failed { IfErr result HasFailed }
+    {
+        reported(self.file.metadata())
+    }
+
+    /// Cuts off what it holds, once all files are open.
+    pub(crate) fn cut(&self, _all_open: AllOpen) -> io::Result<()>
+        ensures cut { OnOk result (HasLength 0 self.now) }
+        ensures reported { IsOfStd result }
+    {
+        self.resize(0)
+    }
+
+    fn resize(&self, size: u64) -> io::Result<()>
+        ensures sized { OnOk result (HasLength size self.now) }
+        ensures reported { IsOfStd result }
+    {
+        reported(self.file.set_len(size))
+    }
+
+    /// Reads bytes to the front of `buf`, and returns how many.
+    pub(crate) fn read(&mut self, buf: &mut [u8]) -> io::Result<usize>
+        ensures bound { ReadsAtMost result buf.new }
+        ensures reported { IsOfStd result }
+    {
+        reported(Read::read(&mut self.file, buf))
+    }
+
+    /// Writes bytes from the front of `buf`, and returns how many.
+    pub(crate) fn write(&mut self, buf: &[u8]) -> io::Result<usize>
+        ensures bound { WritesAtMost result buf.now }
+        ensures reported { IsOfStd result }
+    {
+        reported(Write::write(&mut self.file, buf))
+    }
+
+    /// Writes all of `buf`.
+    pub(crate) fn write_all(&mut self, buf: &[u8]) -> io::Result<()>
+        ensures { IsOfStd result }
+    {
+        reported(Write::write_all(&mut self.file, buf))
+    }
+
+    /// Sends what was written on its way.
+    pub(crate) fn flush(&mut self) -> io::Result<()>
+        ensures { IsOfStd result }
+    {
+        reported(Write::flush(&mut self.file))
+    }
+}
+
+/// What the system reports of the file of this name.
+pub fn ask(files: &impl Files, name: &str) -> io::Result<Metadata>
+    ensures asked { IsAnswerFor name.now result }
+    ensures reported { IsOfStd result }
+    ensures failed { IfErr result HasFailed }
+{
+    reported(fs::metadata(files, name))
+}

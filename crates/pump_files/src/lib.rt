@@ -1,0 +1,13 @@
+//! The files that the program `piper_pump` reads and writes: by their names and open, what the system
+//! reports of each, the copies of what passes, and the rate that is kept.
+#![tactic(auto)]
+
+pub mod all_open;
+pub mod copies;
+pub mod files;
+pub mod found;
+pub mod handle;
+pub mod pace;
+pub mod saying;
+pub mod sinks;
+mod sums;

@@ -1,0 +1,283 @@
+//! Files that are written. One is looked at by its name first, and opened and cut off once the input
+//! has given its first bytes.
+ghost use Rattle.std.specs.Prelude.{◌≡◌, ◌<◌, ◌++◌, ℕ, List, [], length, false, true, Ok, OnOk, IfOk, IfErr, string_bytes};
+ghost use Rattle.std.specs.Io.{WritesAtMost};
+ghost use Rattle.std.specs.Io.KnownBytes.{append_known};
+ghost use Rattle.piper_protocol.specs.Reported.{HasFailed, IsOfStd};
+ghost use Rattle.pump_files.specs.Copies.{IsCopy, IsFlushedOrFailed, SameSink};
+ghost use Rattle.pump_files.specs.Files.{Writes};
+ghost use Rattle.pump_files.specs.Found.{IsFound};
+ghost use Rattle.pump_files.specs.AllOpen.{IsOpened};
+ghost use Rattle.pump_files.specs.Handle.{IsAnswerFor};
+ghost use Rattle.pump_files.specs.Lines.{IsLossSaid};
+ghost use Rattle.pump_files.specs.Steps.{GetsBy, NeedsFor};
+
+use crate::all_open::AllOpen;
+use crate::files::{NamedFile, Opens};
+use crate::found::Found;
+use crate::saying::say;
+use piper_protocol::reported::reported;
+use std::alloc::Global;
+use std::fmt::{Display, Formatter};
+use std::fs::Metadata;
+use std::io::ErrorKind;
+use std::{fmt, io};
+
+/// What is said of a file that holds bytes, where those are not to be overwritten.
+pub const HOLDS_BYTES: &str = "it holds bytes, which --force overwrites";
+
+/// What is done for each file that is written, for one after another.
+#[derive(Clone, Copy)]
+pub enum Step {
+    /// It is opened if it is there; bytes that it holds are to be overwritten, or it is refused.
+    Open { overwrites: bool },
+    /// It is made if it is not there.
+    Make,
+    /// What it holds is cut off, once all are open.
+    Cut { all_open: AllOpen },
+}
+
+/// That a copy can't be written, and gets no more.
+#[derive(Clone, Copy)]
+pub struct Loss<'a> {
+    name: &'a str,
+    error: io::Error,
+}
+
+impl Display for Loss<'_> {
+    fn fmt<W: fmt::Write>(&self, f: &mut Formatter<W>) -> fmt::Result {
+        write!(
+            f,
+            "piper_pump: {}: {}; it gets no more",
+            self.name, self.error
+        )
+    }
+}
+
+/// A file that is written.
+#[derive(Drop)]
+pub struct Sink<F: NamedFile> {
+    pub name: String,
+    /// Which file it is, and how many bytes it held, where it was looked at.
+    pub found: Found,
+    /// Whether there was one of this name.
+    pub is_there: bool,
+    /// Whether this run made it.
+    pub is_made: bool,
+    /// Whether a write or a flush failed by which it was given a copy.
+    pub has_failed: bool,
+    pub file: F,
+}
+
+impl<F: NamedFile> Sink<F> {
+    /// Looks at the file of this name, and neither opens nor makes it. Where there is none, there
+    /// has to be the folder that it is made in.
+    pub fn look<R>(rt: &R, alloc: Global, name: &str) -> io::Result<Sink<F>>
+    where
+        R: Opens<F>,
+        ensures named { IfOk result (λ sink. string_bytes sink.name ≡ name.now) }
+        ensures copy { IfOk result (IsCopy F.name F.written F.fails []) }
+        ensures found { IfOk result (λ sink. IsFound (IsAnswerFor name.now) sink.found) }
+        ensures failed { IfErr result HasFailed }
+    {
+        let looked = rt.look(name);
+        let is_there = can_be_written(&looked)?;
+        if !is_there {
+            look_at_folder(rt, name)?;
+        }
+        Ok(Sink {
+            name: reported(String::from_str(alloc, name).map_err(io::Error::from))?,
+            found: Found::of_name(&looked),
+            is_there,
+            is_made: false,
+            has_failed: false,
+            file: rt.to_write(name),
+        })
+    }
+
+    /// Does this for the file, unless it was given up.
+    pub fn take(&mut self, rt: &impl Opens<F>, step: Step) -> io::Result<()>
+        requires needs { NeedsFor step F.is_kept F.is_made self.old }
+        ensures copy { IsCopy F.name F.written F.fails [] self.old
+            → IsCopy F.name F.written F.fails [] self.new }
+        ensures name { self.new.name ≡ self.old.name }
+        ensures bytes { F.written self.new.file ≡ F.written self.old.file }
+        ensures gets { OnOk result (GetsBy step F.is_kept F.is_made F.is_cut self.new) }
+    {
+        if self.has_failed {
+            return Ok(());
+        }
+        match step {
+            Step::Open { overwrites } => self.open(rt, overwrites),
+            Step::Make => self.make(rt),
+            Step::Cut { all_open } => self.cut(all_open),
+        }
+    }
+
+    // Opens the file, if there is one. It is to be the one that was looked at, and to hold no bytes
+    // unless those are to be overwritten.
+    fn open(&mut self, rt: &impl Opens<F>, overwrites: bool) -> io::Result<()>
+        ensures same { SameSink F.name self.old self.new }
+        ensures bytes { F.written self.new.file ≡ F.written self.old.file }
+        ensures opened { OnOk result (self.new.is_there ≡ true → F.is_kept self.new.file) }
+    {
+        if !self.is_there {
+            return Ok(());
+        }
+        rt.open_to_write(self.name.as_str(), &mut self.file)?;
+        let found = Found::of_output(&self.file)?;
+        if found.id != self.found.id {
+            return Err(io::Error::other("it has become another file"));
+        }
+        if 0 < found.held && !overwrites {
+            return Err(io::Error::other(HOLDS_BYTES));
+        }
+        Ok(())
+    }
+
+    // Makes the file, if there is none.
+    fn make(&mut self, rt: &impl Opens<F>) -> io::Result<()>
+        requires kept { self.old.is_there ≡ true → F.is_kept self.old.file }
+        ensures same { SameSink F.name self.old self.new }
+        ensures bytes { F.written self.new.file ≡ F.written self.old.file }
+        ensures opened { OnOk result (IsOpened F.is_kept F.is_made self.new) }
+    {
+        if self.is_there {
+            return Ok(());
+        }
+        rt.make(self.name.as_str(), &mut self.file)?;
+        self.is_made = true;
+        Ok(())
+    }
+
+    /// Takes the file away, if this run made it and its name is still its own.
+    pub fn unmake(&self, rt: &impl Opens<F>) {
+        if !self.is_made {
+            return;
+        }
+        let named = Found::of_name(&rt.look(self.name.as_str()));
+        if let Ok(made) = Found::of_output(&self.file)
+            && made.id == named.id
+        {
+            // It is empty, and there is nothing to be said of one that stays.
+            let _ = rt.remove(self.name.as_str());
+        }
+    }
+
+    /// Writes all these bytes. Where that fails, it reports so, once, by the file's name, and the
+    /// file gets no more.
+    pub(crate) fn give(&mut self, rt: &impl Eprint, bytes: &[u8])
+        ensures copy { (passed : List ℕ) → IsCopy F.name F.written F.fails passed self.old
+            → IsCopy F.name F.written F.fails (passed ++ bytes.now) self.new }
+        ensures name { self.new.name ≡ self.old.name }
+    {
+        if self.has_failed {
+            return;
+        }
+        match self.write_all(bytes) {
+            Ok(()) => {}
+            Err(error) => self.give_up(rt, error),
+        }
+    }
+
+    /// Flushes the file, likewise.
+    pub(crate) fn finish(&mut self, rt: &impl Eprint)
+        ensures copy { (passed : List ℕ) → IsCopy F.name F.written F.fails passed self.old
+            → IsCopy F.name F.written F.fails passed self.new }
+        ensures name { self.new.name ≡ self.old.name }
+        ensures flushed { IsFlushedOrFailed F.flushed self.new }
+    {
+        if self.has_failed {
+            return;
+        }
+        match self.flush() {
+            Ok(()) => {}
+            Err(error) => self.give_up(rt, error),
+        }
+    }
+
+    fn give_up(&mut self, rt: &impl Eprint, error: io::Error)
+        ensures same { self.new ≡ record self.old { has_failed = true } }
+        ensures said { IsLossSaid (string_bytes self.old.name) error }
+    {
+        self.has_failed = true;
+        let name = self.name.as_str();
+        say(rt, Loss { name, error });
+    }
+
+    // Cuts off what it holds.
+    fn cut(&mut self, all_open: AllOpen) -> io::Result<()>
+        ensures same { SameSink F.name self.old self.new }
+        ensures bytes { F.written self.new.file ≡ F.written self.old.file }
+        ensures opened { IsOpened F.is_kept F.is_made self.old
+            → IsOpened F.is_kept F.is_made self.new }
+        ensures cut { OnOk result (F.is_cut self.new.file) }
+    {
+        let attributes = self.file.attributes()?;
+        if attributes.is_file() && 0 < attributes.len() {
+            self.file.cut(all_open)?;
+        }
+        Ok(())
+    }
+
+    /// Writes bytes from the front of `buf`, and returns how many.
+    pub fn write(&mut self, buf: &[u8]) -> io::Result<usize>
+        ensures same { SameSink F.name self.old self.new }
+        ensures bound { WritesAtMost result buf.now }
+        ensures bytes { Writes (F.written self.old.file) (F.written self.new.file) result buf.now }
+        ensures full { result ≡ Ok 0 → 0 < length buf.now → F.full self.new.file }
+        ensures error { IfErr result (F.fails self.new.file) }
+    {
+        self.file.write(buf)
+    }
+
+    fn write_all(&mut self, buf: &[u8]) -> io::Result<()>
+        ensures same { SameSink F.name self.old self.new }
+        ensures bytes { OnOk result
+            (F.written self.new.file ≡ append_known (F.written self.old.file) buf.now) }
+        ensures error { IfErr result (F.fails self.new.file) }
+    {
+        self.file.write_all(buf)
+    }
+
+    /// Sends what was written on its way.
+    pub fn flush(&mut self) -> io::Result<()>
+        ensures same { SameSink F.name self.old self.new }
+        ensures bytes { F.written self.new.file ≡ F.written self.old.file }
+        ensures done { OnOk result (F.flushed self.new.file) }
+        ensures error { IfErr result (F.fails self.new.file) }
+    {
+        self.file.flush()
+    }
+}
+
+// Whether there is a file, by what the system reported of its name.
+fn can_be_written(looked: &io::Result<Metadata>) -> io::Result<bool>
+    requires asked { IsOfStd looked.now }
+    ensures failed { IfErr result HasFailed }
+{
+    match looked {
+        Ok(attributes) if attributes.is_dir() => {
+            reported(Err(io::Error::from(ErrorKind::IsADirectory)))
+        }
+        Ok(_) => Ok(true),
+        Err(error) if error.kind() == ErrorKind::NotFound => Ok(false),
+        Err(error) => reported(Err(*error)),
+    }
+}
+
+// Looks at the folder that a file of this name is made in.
+fn look_at_folder<R, F>(rt: &R, name: &str) -> io::Result<()>
+where
+    R: Opens<F>,
+    F: NamedFile,
+    ensures failed { IfErr result HasFailed }
+{
+    match name.rsplit_once('/') {
+        Some((folder, _)) if !folder.is_empty() => {
+            rt.look(folder)?;
+            Ok(())
+        }
+        _ => Ok(()),
+    }
+}

@@ -1,0 +1,4 @@
+pub mod Arguments
+pub mod Plan
+pub mod Progress
+pub mod Size

@@ -1,0 +1,222 @@
+//! What the words on the command line ask for.
+ghost use Rattle.std.specs.Prelude.{◌≡◌, [], IfOk, IfErr, codes, map, option_map, string_bytes, unwrap_or};
+ghost use Rattle.clap.specs.Words.{app_of, first_value, found_of, kind_of, matched_of, raw_values};
+ghost use Rattle.pump_words.specs.Arguments.{AddsRule, file_rule, flag_rule, pump_command, size_rule, tee_rule};
+ghost use Rattle.pump_words.specs.Arguments.{AskFor, AreTaken, IsSize, IsSizeOf, text_or};
+
+use crate::amounts::Amounts;
+use crate::size::parse_size;
+use clap::error::ErrorKind;
+use clap::{Arg, ArgAction, ArgMatches, Command, Error};
+use std::alloc::Global;
+
+/// What the exit statuses mean, for the help.
+const STATUSES: &str = "Exit status:
+  0  all bytes were moved, or the help or the version was printed
+  2  the words on the command line are refused
+  3  the input failed, is closed or can't be opened; what came before was written
+  4  the output failed, is closed or full; or a file can't be written or is refused
+  5  the program that reads the output has ended
+  6  memory was refused
+  7  all bytes were moved, but a file by --tee did not get them
+
+What it holds is lost where a signal ends it: at most its capacity";
+
+/// What the program is asked to do.
+#[derive(Drop)]
+pub struct Arguments<'a> {
+    pub amounts: Amounts,
+    pub shows_progress: bool,
+    pub is_quiet: bool,
+    pub shows_sum: bool,
+    /// Whether files that hold bytes are written, too.
+    pub overwrites: bool,
+    pub texts: Texts<'a>,
+    /// The files that get what passes, too.
+    pub tees: Vec<&'a str>,
+}
+
+/// What follows the options that may be left out, as it is written.
+#[derive(Clone, Copy)]
+pub struct Texts<'a> {
+    pub rate: Option<&'a str>,
+    pub size: Option<&'a str>,
+    pub start_at: Option<&'a str>,
+    pub input: Option<&'a str>,
+    pub output: Option<&'a str>,
+}
+
+/// What the words ask for. Those that ask for something are refused only for want of memory.
+pub fn read_words<'a>(alloc: Global, words: &'a [String]) -> Result<Arguments<'a>, Error>
+    ensures asked { IfOk result (AskFor (map string_bytes words.now)) }
+    ensures taken { AreTaken (map string_bytes words.now)
+        → IfErr result (λ error. kind_of error ≡ ErrorKind.OutOfMemory) }
+{
+    let mut command = command(alloc)?;
+    let matches = command.try_get_matches_from_mut(words)?;
+    let capacity = size(alloc, &mut command, &matches, "capacity", "1M")?;
+    let chunk = size(alloc, &mut command, &matches, "chunk", "64K")?;
+    let tees = tees(alloc, &matches)?;
+    Ok(Arguments {
+        amounts: Amounts { capacity, chunk },
+        shows_progress: matches.get_flag("progress"),
+        is_quiet: matches.get_flag("quiet"),
+        shows_sum: matches.get_flag("sha256"),
+        overwrites: matches.get_flag("force"),
+        texts: texts_of(&matches),
+        tees,
+    })
+}
+
+fn texts_of<'a>(matches: &ArgMatches<'a>) -> Texts<'a>
+    ensures rate { option_map (λ s. s.now) result.rate
+        ≡ first_value (found_of matches.now) (codes "rate") }
+    ensures size { option_map (λ s. s.now) result.size
+        ≡ first_value (found_of matches.now) (codes "size") }
+    ensures start_at { option_map (λ s. s.now) result.start_at
+        ≡ first_value (found_of matches.now) (codes "start-at") }
+    ensures input { option_map (λ s. s.now) result.input
+        ≡ first_value (found_of matches.now) (codes "input") }
+    ensures output { option_map (λ s. s.now) result.output
+        ≡ first_value (found_of matches.now) (codes "output") }
+{
+    Texts {
+        rate: matches.get_str("rate"),
+        size: matches.get_str("size"),
+        start_at: matches.get_str("start-at"),
+        input: matches.get_str("input"),
+        output: matches.get_str("output"),
+    }
+}
+
+fn tees<'a>(alloc: Global, matches: &ArgMatches<'a>) -> Result<Vec<&'a str>, Error>
+    ensures refused { IfErr result (λ error. kind_of error ≡ ErrorKind.OutOfMemory) }
+    ensures texts { IfOk result (λ tees. map (λ text. text.now) tees.items
+        ≡ unwrap_or (option_map raw_values (matched_of (found_of matches.now) (codes "tee"))) []) }
+{
+    let mut tees = Vec::new(alloc);
+    if let Some(texts) = matches.get_strs("tee") {
+        tees.extend_from_slice(texts)?;
+    }
+    Ok(tees)
+}
+
+// What the program takes.
+fn command<'a>(alloc: Global) -> Result<Command<'a>, Error>
+    ensures taken { IfOk result (λ command. app_of command ≡ pump_command) }
+    ensures refused { IfErr result (λ error. kind_of error ≡ ErrorKind.OutOfMemory) }
+{
+    let about = "A buffer between two programs: copies standard input to standard output. A size \
+        is a number of bytes, as 4096, 64K, 16m or 2GiB";
+    let command = Command::new(alloc, "piper_pump")
+        .version("0.2.5")
+        .about(about)
+        .after_help(STATUSES)
+        .arg(flag(
+            alloc,
+            "progress",
+            "Tells on standard error how far it is, four times a second",
+        ))?
+        .arg(flag(
+            alloc,
+            "quiet",
+            "Tells nothing but errors and the sum, also where progress is asked for",
+        ))?
+        .arg(flag(
+            alloc,
+            "sha256",
+            "Tells the SHA-256 of what passed, on standard error at the end, as sha256sum does",
+        ))?
+        .arg(option(alloc, "capacity", "How many bytes it holds; 1M if left out"))?
+        .arg(option(
+            alloc,
+            "chunk",
+            "How many bytes it moves at a time at most; 64K if left out",
+        ))?
+        .arg(option(
+            alloc,
+            "rate",
+            "How many bytes it writes in a second at most",
+        ))?
+        .arg(option(
+            alloc,
+            "size",
+            "How many bytes come, for the progress; of a file that is known",
+        ))?
+        .arg(option(
+            alloc,
+            "start-at",
+            "How full it is, in percent, before it writes, also once it ran dry",
+        ))?
+        .arg(file_option(alloc, "input", 'i', "Reads this file; - is standard input"))?
+        .arg(file_option(
+            alloc,
+            "output",
+            'o',
+            "Writes this file; - is standard output",
+        ))?
+        .arg(tee_option(alloc))?
+        .arg(flag(alloc, "force", "Overwrites files that hold bytes"))?;
+    Ok(command)
+}
+
+fn flag<'a>(alloc: Global, name: &'a str, help: &'a str) -> Arg<'a>
+    ensures { AddsRule (flag_rule name.entry.now) result }
+{
+    Arg::new(alloc, name)
+        .long(name)
+        .help(help)
+        .action(ArgAction::SetTrue)
+}
+
+fn option<'a>(alloc: Global, name: &'a str, help: &'a str) -> Arg<'a>
+    ensures { AddsRule (size_rule name.entry.now) result }
+{
+    Arg::new(alloc, name)
+        .long(name)
+        .value_name("N")
+        .help(help)
+        .action(ArgAction::Set)
+}
+
+fn file_option<'a>(alloc: Global, name: &'a str, letter: char, help: &'a str) -> Arg<'a>
+    ensures { AddsRule (file_rule name.entry.now letter) result }
+{
+    Arg::new(alloc, name)
+        .long(name)
+        .short(letter)
+        .value_name("FILE")
+        .help(help)
+        .action(ArgAction::Set)
+}
+
+fn tee_option<'a>(alloc: Global) -> Arg<'a>
+    ensures { AddsRule tee_rule result }
+{
+    Arg::new(alloc, "tee")
+        .long("tee")
+        .value_name("FILE")
+        .help("Writes what passes to this file, too; it may be given more than once")
+        .action(ArgAction::Append)
+}
+
+// The size that this argument has, or else the one that represents it.
+fn size<'a>(
+    alloc: Global,
+    command: &mut Command<'a>,
+    matches: &ArgMatches<'a>,
+    name: &'a str,
+    left_out: &'a str,
+) -> Result<usize, Error>
+    ensures size { IfOk result (IsSizeOf (text_or matches.now name.now left_out.now)) }
+    ensures refused { IfErr result (λ _. ¬ IsSize (text_or matches.now name.now left_out.now)) }
+{
+    let text = matches.get_str(name).unwrap_or(left_out);
+    match parse_size(text) {
+        Ok(size) => Ok(size),
+        Err(error) => {
+            let message = format!(in alloc; "invalid value '{text}' for '--{name} <N>': {error}")?;
+            Err(command.error(ErrorKind::ValueValidation, message.as_str())?)
+        }
+    }
+}

@@ -1,0 +1,150 @@
+//! What is done, from what the words ask for: the rate, the size and the level in numbers, and
+//! whether there is an input and an output.
+ghost use Rattle.std.specs.Prelude.{◌≡◌, ◌≢◌, ◌≤◌, Some, None, IfErr, IfOk, OnOk, IfNone, IfSome, codes};
+ghost use Rattle.std.specs.List.{All};
+ghost use Rattle.pump_words.specs.Arguments.{IsSizeOf, text_in};
+ghost use Rattle.pump_words.specs.Plan.{IsAfter, IsRead, IsTotalOf};
+
+use crate::arguments::Texts;
+use crate::size::parse_size;
+
+/// What follows each option that is read here.
+const SIZES: &str =
+    "a size is a number of bytes from 1 to 9223372036854775807, as 4096, 64K, 16m or 2GiB";
+
+const TOTALS: &str =
+    "a size is a number of bytes from 0 to 9223372036854775807, as 4096, 64K, 16m or 2GiB";
+
+const PERCENTS: &str = "a level is a number of percent from 0 to 100";
+
+const COPIES: &str = "a copy goes to a file, which - is not";
+
+/// A word after an option that is none which the option takes.
+#[derive(Clone, Copy)]
+pub struct Untaken<'a> {
+    pub option: &'static str,
+    pub text: &'a str,
+    /// Which words it takes.
+    pub range: &'static str,
+}
+
+/// The numbers that are asked for.
+#[derive(Clone, Copy)]
+pub struct Numbers {
+    /// How many bytes are to be in the pipe before the first is written, and again once it ran dry.
+    pub level: usize,
+    pub rate: Option<usize>,
+    /// How many bytes come, if that was reported.
+    pub total: Option<u64>,
+}
+
+/// Reads the numbers after the options, of a pipe that can hold so many bytes.
+pub fn numbers_of<'a>(capacity: usize, texts: Texts<'a>) -> Result<Numbers, Untaken<'a>>
+    ensures most { IfOk result (λ n. n.level ≤ capacity) }
+    ensures level { IfOk result (λ n. texts.entry.start_at ≡ None → n.level ≡ 0) }
+    ensures rate { IfOk result (λ n. IsRead IsSizeOf (text_in texts.entry.rate) n.rate) }
+    ensures total { IfOk result (λ n. IsRead IsTotalOf (text_in texts.entry.size) n.total) }
+{
+    let rate = match texts.rate {
+        Some(text) => Some(size(text)?),
+        None => None,
+    };
+    let total = match texts.size {
+        Some(text) => Some(total(text)?),
+        None => None,
+    };
+    let percent = match texts.start_at {
+        Some(text) => percent(text)?,
+        None => 0,
+    };
+    Ok(Numbers {
+        level: level(capacity, percent),
+        rate,
+        total,
+    })
+}
+
+// So many percent of the capacity.
+fn level(capacity: usize, percent: u8) -> usize
+    ensures most { result ≤ capacity }
+    ensures none { percent ≡ 0 → result ≡ 0 }
+{
+    (capacity as u128 * percent as u128 / 100).min(capacity as u128) as usize
+}
+
+// How many bytes may pass in a second.
+fn size<'a>(text: &'a str) -> Result<usize, Untaken<'a>>
+    ensures named { IfErr result (IsAfter (codes "--rate <N>") text.now) }
+    ensures read { IfOk result (IsSizeOf text.now) }
+{
+    match parse_size(text) {
+        Ok(size) => Ok(size),
+        Err(_) => Err(Untaken {
+            option: "--rate <N>",
+            text,
+            range: SIZES,
+        }),
+    }
+}
+
+// How many bytes come: a size, or none.
+fn total<'a>(text: &'a str) -> Result<u64, Untaken<'a>>
+    ensures named { IfErr result (IsAfter (codes "--size <N>") text.now) }
+    ensures read { IfOk result (IsTotalOf text.now) }
+{
+    if text == "0" {
+        return Ok(0);
+    }
+    match parse_size(text) {
+        Ok(size) => Ok(size as u64),
+        Err(_) => Err(Untaken {
+            option: "--size <N>",
+            text,
+            range: TOTALS,
+        }),
+    }
+}
+
+// From 0 to 100.
+fn percent<'a>(text: &'a str) -> Result<u8, Untaken<'a>>
+    ensures named { IfErr result (IsAfter (codes "--start-at <N>") text.now) }
+    ensures most { IfOk result (λ percent. percent ≤ 100) }
+{
+    match text.parse::<u8>() {
+        Ok(percent) if percent <= 100 => Ok(percent),
+        _ => Err(Untaken {
+            option: "--start-at <N>",
+            text,
+            range: PERCENTS,
+        }),
+    }
+}
+
+/// The file that is named; `-` represents the standard stream.
+pub fn named<'a>(text: Option<&'a str>) -> Option<&'a str>
+    ensures file { IfSome result (λ name. (text_in text.entry ≡ Some name.now)
+        × (name.now ≢ codes "-")) }
+    ensures stream { IfNone result ((t : _) → text_in text.entry ≡ Some t → t ≡ codes "-") }
+{
+    match text {
+        Some("-") => None,
+        text => text,
+    }
+}
+
+/// Refuses a copy to `-`: of the standard streams only the output is written, without a copy.
+pub fn refuse_dashes(tees: &[&str]) -> Result<(), Untaken<'static>>
+    ensures named { IfErr result (IsAfter (codes "--tee <FILE>") (codes "-")) }
+    ensures files { OnOk result (All (λ name. name.now ≢ codes "-") tees.now) }
+{
+    for name in tees {
+        if *name == "-" {
+            return Err(Untaken {
+                option: "--tee <FILE>",
+                text: "-",
+                range: COPIES,
+            });
+        }
+    }
+    Ok(())
+}
