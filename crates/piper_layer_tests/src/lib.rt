@@ -1,5 +1,5 @@
-//! Tests of the futures, streams and sinks over the pipe, and of the machine. They are a crate of
-//! their own, so that these crates are proved once; what needs `piper` alone is in `piper_tests`.
+//! Tests of the futures, streams and sinks over the pipe. They are a crate of their own, so that
+//! these crates are proved once; what needs `piper` alone is in `piper_tests`.
 #![tactic(auto)]
 
 #[cfg(test)]
@@ -10,8 +10,6 @@ mod compare;
 mod crossing;
 #[cfg(test)]
 mod joined;
-#[cfg(test)]
-mod machine;
 #[cfg(test)]
 mod methods;
 #[cfg(test)]

@@ -1,5 +1,5 @@
-//! Tests of the pipe, and of the ring below it. They are a crate of their own, so that `piper` is
-//! proved once; and they need nothing above it, so that they are proved beside what is there.
+//! Tests of the pipe. They are a crate of their own, so that `piper` is proved once; and they need
+//! nothing above it, so that they are proved beside what is there.
 #![tactic(auto)]
 
 #[cfg(test)]
@@ -16,10 +16,6 @@ mod meeting;
 mod owners;
 #[cfg(test)]
 mod pair;
-#[cfg(test)]
-mod place;
-#[cfg(test)]
-mod ring;
 #[cfg(test)]
 mod upstream;
 #[cfg(test)]

@@ -1,6 +1,6 @@
 //! Transfers between ends of which one call goes wrong.
 use crate::compare::same;
-use crate::transfers::faulty::{Fault, Input, Output};
+use crate::faulty::{Fault, Input, Output};
 use piper_transfer::{Meter, Plain, Sizes, TransferError, transfer};
 use std::alloc::AllocGlobal;
 use std::io::ErrorKind;

@@ -3,8 +3,8 @@
 ghost use Rattle.std.specs.Prelude.{◌≡◌, ◌<◌, ◌^◌, ◌*◌};
 ghost use Rattle.piper_ring.specs.Cells.{AreCellsOf};
 
-use crate::pair::same;
-use crate::ring::acts::{receive_due, send, send_due};
+use crate::acts::{receive_due, send, send_due};
+use crate::compare::same;
 use piper_ring::{
     Placed, ReadEnd, ReadRegistrations, Slotted, WakerCells, WriteEnd, WriteRegistrations,
     open_with_slots,

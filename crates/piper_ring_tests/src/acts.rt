@@ -1,11 +1,14 @@
 //! What tests do with the ends of a ring.
 ghost use Rattle.std.specs.Prelude.{◌≡◌, ◌<◌, ◌≤◌, ◌*◌, ◌^◌, length};
 
-use crate::ends::byte_at;
-use crate::pair::same;
-use piper::{ReadEnd, WriteEnd, open_ring};
+use piper_ring::{ReadEnd, WriteEnd, open_ring};
 use std::alloc::AllocGlobal;
 use std::process::Abort;
+
+/// The byte that is sent as the `index`th.
+fn byte_at(index: usize) -> u8 {
+    (index % 251) as u8
+}
 
 /// The ends of a new ring. Ends the test where memory is refused.
 pub(crate) fn ring_of(rt: &(impl Abort + AllocGlobal), capacity: usize) -> (ReadEnd, WriteEnd)

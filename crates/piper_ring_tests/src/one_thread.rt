@@ -1,8 +1,8 @@
 //! With both ends on one thread: that bytes come through, and that the second end frees the memory.
 ghost use Rattle.std.specs.Prelude.{◌<◌, ◌≤◌};
 
-use crate::pair::same;
-use crate::ring::acts::{receive_due, ring_of, send, send_due};
+use crate::acts::{receive_due, ring_of, send, send_due};
+use crate::compare::same;
 use std::alloc::AllocGlobal;
 use std::process::Abort;
 

@@ -1,9 +1,9 @@
 //! With each end on a thread of its own.
 ghost use Rattle.std.specs.Prelude.{◌<◌, ◌^◌};
 
-use crate::pair::same;
-use crate::ring::acts::{receive_due, ring_of, send, send_due};
-use piper::{ReadEnd, WriteEnd};
+use crate::acts::{receive_due, ring_of, send, send_due};
+use crate::compare::same;
+use piper_ring::{ReadEnd, WriteEnd};
 use std::sync::Wait;
 use std::thread;
 

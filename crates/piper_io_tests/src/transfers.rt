@@ -1,5 +1,0 @@
-//! Transfers, and sizes as they are written.
-mod faults;
-mod faulty;
-mod sizes;
-mod waits;

@@ -1,0 +1,14 @@
+//! What a test saw, compared with what it wants. A call of these costs the prover less than the
+//! branches of a macro at each place would.
+use std::fmt::Debug;
+use std::process::Abort;
+
+/// Holds what was seen against what is wanted.
+pub(crate) fn same<T: Debug + Drop + PartialEq>(
+    rt: &impl Abort,
+    what: &impl Debug,
+    seen: T,
+    wanted: T,
+) {
+    assert!(rt; seen == wanted, "{what:?}: {seen:?} in place of {wanted:?}");
+}
