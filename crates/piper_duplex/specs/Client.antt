@@ -1,6 +1,12 @@
 -- The client of an echo: what it sends of its input, and what it prints of what comes back.
 use Rattle.std.specs.Prelude.{◌≡◌, ◌⊎◌, ◌+◌, ℕ, Bool, true, false, List, [], ◌++◌, length, Option, Result, IfOk}
 use Rattle.std.specs.Io.KnownBytes.{Appends, Consumes, IsAtEnd}
+use Rattle.std.specs.IoError.{error_kind}
+use Rattle.std.specs.declared.io.Error.{Error}
+use Rattle.std.specs.declared.io.ErrorKind.TheVariants.{Interrupted}
+use Rattle.futures.specs.declared.task.context.Context.{Context}
+use Rattle.piper.specs.Contexts.{AsksAgain}
+use Rattle.piper_lines.specs.Stays.{WentOn}
 use Rattle.piper_lines.specs.Line.{IsLine, Lacks, line_feed}
 use Rattle.piper_lines.specs.Sends.{Sends}
 
@@ -38,3 +44,14 @@ pub record CameBack (input_before input_after output_before output_after : Optio
   pub ended : IsAtEnd input_after
   pub written : Appends output_before output_after printed
   pub all : length printed ≡ length given
+
+-- a write was interrupted, and left this so
+abbrev pub WasInterrupted : {S : Type 0} → (S → Error → S → Type 0) → S → Type 0
+WasInterrupted {S} fails after =
+    (before : S) × (e : Error) × fails before e after × (error_kind e ≡ Interrupted)
+
+-- why a turn is pending that prints: its reader is; or bytes were printed or a write was interrupted,
+-- and it asked for another turn itself
+abbrev pub PrintPends : Type 0 → Type 0 → ℕ → ℕ → Context → Type 0
+PrintPends reader_waits interrupted before after cx =
+    reader_waits ⊎ ((WentOn before after ⊎ interrupted) × AsksAgain cx)

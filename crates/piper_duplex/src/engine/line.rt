@@ -1,17 +1,16 @@
 //! A line on its way: it is sent, comes back, and is printed before the next one is sent.
 ghost use Rattle.std.specs.Prelude.{◌≡◌, ◌+◌, ◌-◌, ◌<◌, ◌≤◌, drop, take, length, true, false};
 ghost use Rattle.std.specs.Prelude.{OnOk, IfErr};
-ghost use Rattle.futures.specs.Poll.{IfReady, OnPending};
-ghost use Rattle.futures.specs.Task.{IsArmed};
+ghost use Rattle.futures.specs.Poll.{IfReady};
 ghost use Rattle.piper.specs.Polls.{IfReadyErr};
 ghost use Rattle.piper_lines.specs.Sends.{Sends};
 ghost use Rattle.piper_duplex.specs.Client.{IsOfLine, Prints};
 ghost use Rattle.piper_duplex.specs.Failures.{LacksMemory, PrintFails, WriteHasFailed};
 
-use crate::engine::lost::{unread, wanted, write_refused};
+use crate::engine::lost::{unread, write_refused};
 use crate::engine::printing::print_line;
 use crate::engine::session::Ended;
-use crate::engine::waiting::{MOST_OF_A_LINE, turns};
+use crate::engine::waiting::{MOST_OF_A_LINE, Still, Turns, end_sending};
 use futures::task::{Context, Poll};
 use memchr::memchr;
 use piper::io::{AsyncBufRead, AsyncWrite};
@@ -165,39 +164,40 @@ where
     ensures stays { W.saw writer.old ≡ true → W.saw writer.new ≡ true }
     ensures failed { IfErr result LacksMemory }
 {
-    let turns = turns(rt)?;
+    let (turns, mut still) = Turns::new(rt)?;
     for _ in rt.forever() {
-        let mut cx = wanted(turns.next(rt).ok_or(()))?;
-        let turn = poll_send(writer, &mut cx, bytes, count);
-        cx.end(&turn);
+        let cx = turns.next(rt, still)?;
+        let (turn, next) = send_in_turn(writer, cx, bytes, count);
         match turn {
-            Poll::Pending => {}
+            Poll::Pending => still = next,
             Poll::Ready(sent) => return sent,
         }
     }
     unreachable!()
 }
 
-// Sends what is left until it is pending or all is sent.
-fn poll_send<W: AsyncWrite>(
+// Sends what is left until it is pending or all is sent, and ends the turn. It has no way to wait,
+// so it ends.
+fn send_in_turn<W: AsyncWrite>(
     writer: &mut W,
-    cx: &mut Context<'_>,
+    mut cx: Context<'_>,
     bytes: &[u8],
     count: &mut usize,
-) -> Poll<Result<(), Ended>>
+) -> (Poll<Result<(), Ended>>, Still)
     requires { count.old ≤ length bytes.now }
     ensures within { count.new ≤ length bytes.now }
     ensures sends { Sends (drop count.old bytes.now) (drop count.new bytes.now)
         (W.sent writer.old) (W.sent writer.new) (W.saw writer.old) (W.saw writer.new) }
-    ensures whole { IfReady result (λ r. OnOk r (count.new ≡ length bytes.now)) }
+    ensures whole { IfReady result.0 (λ r. OnOk r (count.new ≡ length bytes.now)) }
     ensures stays { W.saw writer.old ≡ true → W.saw writer.new ≡ true }
-    ensures armed { OnPending result (IsArmed cx.new) }
-    ensures failed { IfReadyErr result LacksMemory }
+    ensures failed { IfReadyErr result.0 LacksMemory }
 {
-    match poll_write_all(writer, cx, bytes, count) {
+    let turn = match poll_write_all(writer, &mut cx, bytes, count) {
         Poll::Pending => Poll::Pending,
         Poll::Ready(Ok(Written::Whole)) => Poll::Ready(Ok(())),
         Poll::Ready(Ok(Written::Closed)) => Poll::Ready(Err(unread(writer))),
-        Poll::Ready(Err(error)) => Poll::Ready(Err(write_refused(writer, cx, error))),
-    }
+        Poll::Ready(Err(error)) => Poll::Ready(Err(write_refused(writer, &cx, error))),
+    };
+    let still = end_sending(cx, &turn, writer);
+    (turn, still)
 }

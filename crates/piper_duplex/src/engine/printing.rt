@@ -4,12 +4,12 @@ ghost use Rattle.std.specs.Io.KnownBytes.{WriteAppends};
 ghost use Rattle.futures.specs.Task.{IsArmed};
 ghost use Rattle.futures.specs.Poll.{OnPending};
 ghost use Rattle.piper.specs.Polls.{IfReadyErr};
-ghost use Rattle.piper_duplex.specs.Client.{Prints};
+ghost use Rattle.piper_duplex.specs.Client.{PrintPends, Prints, WasInterrupted};
 ghost use Rattle.piper_duplex.specs.Failures.{CannotWrite, PrintFails, WriteHasFailed};
 
-use crate::engine::lost::{read_refused, unanswered, wanted};
+use crate::engine::lost::{read_refused, unanswered};
 use crate::engine::session::Ended;
-use crate::engine::waiting::turns;
+use crate::engine::waiting::{Still, Turns, end_printing};
 use futures::task::{Context, Poll};
 use piper::io::AsyncBufRead;
 use piper::like::StdWriter;
@@ -18,7 +18,8 @@ use std::io::ErrorKind;
 use std::random::RandomSource;
 use std::sync::Wait;
 
-/// How many writes a poll makes at most before it asks for another one.
+/// How many writes a poll makes at most before it asks for another one, which it also does where
+/// one is interrupted.
 const MOST_WRITES: u32 = 64;
 
 /// Prints and flushes so many bytes, once they come back.
@@ -39,19 +40,44 @@ where
     ensures flushed { OnOk result (O.flushed output.new) }
     ensures failed { IfErr result (PrintFails (WriteHasFailed O.fails O.full output.new)) }
 {
-    let turns = turns(rt)?;
+    let (turns, mut still) = Turns::new(rt)?;
     let mut count = 0;
     for _ in rt.forever() {
-        let mut cx = wanted(turns.next(rt).ok_or(()))?;
-        let turn = poll_print(reader, &mut cx, size, &mut count, output);
-        cx.end(&turn);
+        let cx = turns.next(rt, still)?;
+        let (turn, next) = print_in_turn(reader, cx, size, &mut count, output);
         match turn {
-            Poll::Pending => {}
+            Poll::Pending => still = next,
             Poll::Ready(Ok(())) => return output.flush_once().map_err(|_| Ended::WRITE_FAILED),
             Poll::Ready(Err(ended)) => return Err(ended),
         }
     }
     unreachable!()
+}
+
+// Prints what comes, as `poll_print` does, and ends the turn. It has no way to wait, so it ends.
+fn print_in_turn<A, O>(
+    reader: &mut A,
+    mut cx: Context<'_>,
+    size: usize,
+    count: &mut usize,
+    output: &mut O,
+) -> (Poll<Result<(), Ended>>, Still)
+where
+    A: AsyncBufRead,
+    O: StdWriter,
+    requires { count.old ≤ size }
+    ensures printed { Prints (A.taken reader.old) (A.taken reader.new)
+        (O.contents output.old) (O.contents output.new) }
+    ensures within { count.new ≤ size }
+    ensures counted { length (A.taken reader.new) + count.old
+        ≡ length (A.taken reader.old) + count.new }
+    ensures whole { result.0 ≡ Poll.Ready (Ok (record {})) → count.new ≡ size }
+    ensures failed { IfReadyErr result.0 (PrintFails (WriteHasFailed O.fails O.full output.new)) }
+{
+    let before = *count;
+    let turn = poll_print(reader, &mut cx, size, count, output);
+    let still = end_printing(cx, &turn, reader, output, *count - before);
+    (turn, still)
 }
 
 // Prints what comes until there are `size` bytes, and adds how many that were to `count`. Bytes are
@@ -74,6 +100,8 @@ where
         ≡ length (A.taken reader.old) + count.new }
     ensures whole { result ≡ Poll.Ready (Ok (record {})) → count.new ≡ size }
     ensures armed { OnPending result (IsArmed cx.new) }
+    ensures pends { OnPending result (PrintPends (A.waits reader.new cx.new)
+        (WasInterrupted O.fails output.new) count.old count.new cx.new) }
     ensures failed { IfReadyErr result (PrintFails (WriteHasFailed O.fails O.full output.new)) }
 {
     for _ in 0..MOST_WRITES {
@@ -90,6 +118,7 @@ where
         }
         let room = bytes.len().min(size - *count);
         match write_some(output, &bytes[..room]) {
+            Ok(0) => return cx.yield_now(),
             Ok(written) => {
                 reader.consume(written);
                 *count += written;
@@ -105,6 +134,7 @@ fn write_some<O: StdWriter>(output: &mut O, bytes: &[u8]) -> Result<usize, Ended
     ensures bound { IfOk result (λ n. n ≤ length bytes.now) }
     ensures written { WriteAppends (O.contents output.old) (O.contents output.new)
         result bytes.now }
+    ensures interrupted { result ≡ Ok 0 → WasInterrupted O.fails output.new }
     ensures failed { 0 < length bytes.now →
         IfErr result (CannotWrite (WriteHasFailed O.fails O.full output.new)) }
 {

@@ -1,8 +1,9 @@
 //! What threads poll that sleep until they are woken.
 ghost use Rattle.std.specs.Prelude.{◌<◌, length, IfErr, ⊤};
 ghost use Rattle.futures.specs.Poll.{IfReady, OnPending};
-ghost use Rattle.futures.specs.Task.{Covers, Keeps};
+ghost use Rattle.futures.specs.Task.{Covers, IsArmed, Keeps};
 ghost use Rattle.piper_lines.specs.LineReader.{reader_of};
+ghost use Rattle.piper_duplex.specs.Client.{PrintPends, WasInterrupted};
 ghost use Rattle.piper_duplex.specs.Failures.{LacksMemory};
 
 use crate::engine::echoing::{Echoed, LineEcho};
@@ -12,21 +13,74 @@ use futures::Future;
 use futures::task::{Context, Doorbell, Poll, Queue};
 use piper::PipeError;
 use piper::io::{AsyncBufRead, AsyncWrite};
+use piper::like::StdWriter;
 use piper_lines::Lines;
 use std::alloc::{AllocGlobal, Global};
 use std::random::RandomSource;
+use std::sync::Wait;
 
 /// The most bytes of a line, with its LF; a longer one is cut.
 pub(crate) const MOST_OF_A_LINE: usize = 65_536;
 
-/// The turns of a thread at a call that may be pending: `next` gives the first at once, and each
-/// later one when the waker was called that its last turn left.
-pub(crate) fn turns(rt: &(impl RandomSource + AllocGlobal)) -> Result<Queue, Ended>
-    ensures { IfErr result LacksMemory }
+/// The turns of a thread at a call that may be pending. It gets the first at once, and each later
+/// one when the waker was called that its last turn left.
+#[derive(Drop)]
+pub(crate) struct Turns {
+    queue: Queue,
+}
+
+/// The right to a turn: it is the first one, or the one before has ended and waits. So no thread
+/// spins.
+#[derive(Drop)]
+pub(crate) struct Still(());
+
+impl Turns {
+    pub(crate) fn new(rt: &(impl RandomSource + AllocGlobal)) -> Result<(Turns, Still), Ended>
+        ensures { IfErr result LacksMemory }
+    {
+        let queue = wanted(Queue::new(rt, Doorbell::parking()))?;
+        wanted(queue.add())?.schedule();
+        Ok((Turns { queue }, Still(())))
+    }
+
+    /// Sleeps until the next turn.
+    pub(crate) fn next(&self, rt: &impl Wait, _still: Still) -> Result<Context<'_>, Ended>
+        ensures { IfErr result LacksMemory }
+    {
+        wanted(self.queue.next(rt).ok_or(()))
+    }
+}
+
+/// Ends a turn of a writer, which is why it is pending.
+pub(crate) fn end_sending<W, T>(cx: Context<'_>, turn: &Poll<T>, _writer: &W) -> Still
+where
+    W: AsyncWrite,
+    requires armed { OnPending turn.now (IsArmed cx) }
+    requires waits { OnPending turn.now (W.waits _writer.now cx) }
 {
-    let queue = wanted(Queue::new(rt, Doorbell::parking()))?;
-    wanted(queue.add())?.schedule();
-    Ok(queue)
+    cx.end(turn);
+    Still(())
+}
+
+/// Ends a turn of a reader, from which so many bytes were printed to the output. Where it is
+/// pending the reader is; or it asked for another turn itself, after 64 bytes at least or a write
+/// that was interrupted.
+pub(crate) fn end_printing<A, O, T>(
+    cx: Context<'_>,
+    turn: &Poll<T>,
+    _reader: &A,
+    _output: &O,
+    _printed: usize,
+) -> Still
+where
+    A: AsyncBufRead,
+    O: StdWriter,
+    requires armed { OnPending turn.now (IsArmed cx) }
+    requires waits { OnPending turn.now (PrintPends (A.waits _reader.now cx)
+        (WasInterrupted O.fails _output.now) 0 _printed cx) }
+{
+    cx.end(turn);
+    Still(())
 }
 
 /// Writes lines back until the reader's end, the close of the writer's pipe, or the first error.
