@@ -1,11 +1,15 @@
 -- Pieces that are sent one after the other.
-use Rattle.std.proofs.Common.{◌≡◌, ℕ, Bool, true, false, List, [], ◌∷◌, ◌++◌, Vec, Result, Ok, Err, sym, subst}
+use Rattle.std.proofs.Common.{◌≡◌, ℕ, ◌-◌, Bool, true, false, List, [], ◌∷◌, ◌++◌, length, take, drop, Vec, Result, Ok, Err, sym, subst, ap, ◌∙◌, refl, arith, length-append}
+use Rattle.std.proofs.Math.Seq.{drop-append_seam, take-append_seam}
 use Rattle.std.specs.declared.alloc.Global.{Global}
 use Rattle.futures.specs.Sent.{UnlessFailed}
 use Rattle.futures.specs.declared.task.Poll.{Poll}
 use Rattle.futures.specs.declared.task.Poll.TheVariants.{Ready, Pending}
 use Rattle.piper_lines.specs.Frame.{frame_bytes}
+use Rattle.piper_lines.specs.Header.{header_size, length_bytes}
+use Rattle.piper_lines.specs.declared.header.ByteOrder.TheVariants.{BigEndian, LittleEndian}
 use Rattle.piper_lines.specs.declared.header.FrameHeader.{FrameHeader}
+use Rattle.piper_lines.specs.declared.header.FrameHeader.TheVariants.{OneByte, TwoBytes, FourBytes, EightBytes}
 use Rattle.piper_lines.specs.Sends.{Sends}
 use Rattle.piper_lines.specs.Split.{joined, joined_frames}
 use Rattle.std.specs.List.{flat_map}
@@ -49,6 +53,23 @@ sent_frame format bodies body frame left s saw sends none is =
     let more : Sends (joined_frames format bodies ++ frame_bytes format body.items) (frame_bytes format body.items) [] s false saw = sends_front (joined_frames format bodies) [] (frame_bytes format body.items) [] s false saw whole in
     subst (λ ws. Sends (joined_frames format (bodies ++ body ∷ [])) ws [] s false saw) (sym is)
     (subst (λ ws. Sends ws (frame_bytes format body.items) [] s false saw) (sym (flat_map-push (λ (v : Vec ℕ Global). frame_bytes format v.items) bodies body)) more)
+
+-- what was put behind a body, and turned to its front
+pub turned : (body header whole shown : List ℕ) (n : ℕ) → whole ≡ body ++ header → shown ≡ header → n ≡ length whole → drop (n - length shown) whole ++ take (n - length shown) whole ≡ header ++ body
+turned body header whole shown n is same count =
+    let seam : n - length shown ≡ length body = omega (arith, count, ap length is, ap length same, length-append body header) in
+    ap (λ k. drop k whole ++ take k whole) seam ∙ ap (λ ws. drop (length body) ws ++ take (length body) ws) is
+    ∙ ap (λ ws. ws ++ take (length body) (body ++ header)) (drop-append_seam body header) ∙ ap (λ ws. header ++ ws) (take-append_seam body header)
+
+-- how many bytes report a length
+pub header_length : (format : FrameHeader) (n : ℕ) → length (length_bytes format n) ≡ header_size format
+header_length OneByte n = refl
+header_length (TwoBytes BigEndian) n = refl
+header_length (TwoBytes LittleEndian) n = refl
+header_length (FourBytes BigEndian) n = refl
+header_length (FourBytes LittleEndian) n = refl
+header_length (EightBytes BigEndian) n = refl
+header_length (EightBytes LittleEndian) n = refl
 
 -- what holds in any case holds unless the poll failed
 pub unless_failed : {T E : Type 0} (r : Poll (Result T E)) (P : Type 0) → P → UnlessFailed r P

@@ -1,10 +1,10 @@
 -- What a sink of frames was sent.
-use Rattle.std.specs.Prelude.{◌≡◌, ◌⊎◌, ℕ, Bool, false, List, [], Vec}
+use Rattle.std.specs.Prelude.{◌≡◌, ◌⊎◌, ◌+◌, ◌<◌, ℕ, Bool, false, List, [], Vec}
 use Rattle.std.specs.declared.io.ErrorKind.TheVariants.{InvalidInput}
 use Rattle.std.specs.declared.alloc.Global.{Global}
 use Rattle.piper.specs.declared.error.PipeError.{PipeError}
 use Rattle.piper.specs.declared.error.PipeError.TheVariants.{Memory}
-use Rattle.piper_lines.specs.Header.{CanEncode}
+use Rattle.piper_lines.specs.Header.{header_size, CanEncode}
 use Rattle.piper_lines.specs.declared.header.FrameHeader.{FrameHeader}
 use Rattle.piper_lines.specs.Sends.{Sends}
 use Rattle.piper_lines.specs.Split.{joined_frames}
@@ -29,6 +29,9 @@ FramesSent sent saw frames bodies =
     Sends (joined_frames (header_of frames) bodies) (left_of (frames_below frames)) []
     (sent (writer_of (frames_below frames))) false (saw (writer_of (frames_below frames)))
 
--- a body of so many bytes is refused: the header can't report them, or there is no memory
-abbrev pub IsRefused : FrameHeader → ℕ → PipeError → Type 0
-IsRefused format n e = (IsOfKind InvalidInput e × ¬ CanEncode format n) ⊎ (e ≡ Memory)
+-- a body of `n` bytes is refused: the header can't report them, or memory is,
+-- where the body's own has no room for the header, too
+abbrev pub IsRefused : FrameHeader → ℕ → ℕ → PipeError → Type 0
+IsRefused format n room e =
+    (IsOfKind InvalidInput e × ¬ CanEncode format n)
+    ⊎ ((e ≡ Memory) × (room < n + header_size format))

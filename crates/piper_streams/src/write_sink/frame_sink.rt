@@ -1,5 +1,5 @@
 //! Frames that are sent body by body.
-ghost use Rattle.std.specs.Prelude.{◌≡◌, ◌++◌, [], ◌∷◌, length, true, IfErr, OnErr, OnOk};
+ghost use Rattle.std.specs.Prelude.{◌≡◌, ◌++◌, [], ◌∷◌, true, vec_capacity, vec_len, IfErr, OnErr, OnOk};
 ghost use Rattle.piper_lines.specs.Header.{usual_header};
 ghost use Rattle.futures.specs.Poll.{IfReady, OnPending};
 ghost use Rattle.futures.specs.Task.{Covers, Keeps};
@@ -17,14 +17,14 @@ use std::io::ErrorKind;
 
 /// Writes a frame for each body that it is sent, whole and in order: its length, and the body.
 ///
-/// Memory is asked for where a body is sent; where that is refused, or a body whose length the
-/// header can't say is, by an error of the kind `InvalidInput`, the sink is as it was, and the body
-/// goes. What is said of [`WriteSink`] holds of it, too. In clauses, `frames_below` is the sink
-/// below, and `header_of` how the length is reported.
+/// The header is put before the body in the body's own memory, and more is asked for only where it
+/// has no room for both. Where that is refused, or a body whose length the header can't say is, by
+/// an error of the kind `InvalidInput`, the sink is as it was, and the body goes. What is said of
+/// [`WriteSink`] holds of it, too. In clauses, `frames_below` is the sink below, and `header_of`
+/// how the length is reported.
 #[derive(Debug, Drop)]
 pub struct FrameSink<W> {
     sink: WriteSink<W>,
-    alloc: Global,
     format: FrameHeader,
 }
 
@@ -49,7 +49,6 @@ impl<W: AsyncWrite + Drop> FrameSink<W> {
     {
         FrameSink {
             sink: WriteSink::new(alloc, writer),
-            alloc,
             format,
         }
     }
@@ -58,11 +57,7 @@ impl<W: AsyncWrite + Drop> FrameSink<W> {
     pub fn into_writer(self) -> W
         ensures { result ≡ writer_of (frames_below self) }
     {
-        let FrameSink {
-            sink,
-            alloc: _,
-            format: _,
-        } = self;
+        let FrameSink { sink, format: _ } = self;
         sink.into_writer()
     }
 }
@@ -97,7 +92,8 @@ impl<W: AsyncWrite + Drop> Sink<Vec<u8>> for FrameSink<W> {
 
     fn start_send(&mut self, item: Vec<u8>) -> Result<(), PipeError>
         requires { left_of (frames_below self.old) ≡ [] }
-        ensures error { IfErr result (IsRefused (header_of self.old) (length item.items)) }
+        ensures error { IfErr result
+            (IsRefused (header_of self.old) (vec_len item) (vec_capacity item)) }
         ensures history { OnOk result ((xs : _) → FramesSent W.sent W.saw self.old xs
             → FramesSent W.sent W.saw self.new (xs ++ item ∷ [])) }
         ensures refused { OnErr result (self.new ≡ self.old) }
@@ -107,13 +103,11 @@ impl<W: AsyncWrite + Drop> Sink<Vec<u8>> for FrameSink<W> {
             return Err(PipeError::Io(ErrorKind::InvalidInput.into()));
         }
         let header = self.format.encode(item.len());
-        let mut frame = Vec::new(self.alloc);
+        let mut frame = item;
         if frame.extend_from_slice(header.as_slice()).is_err() {
             return Err(PipeError::Memory);
         }
-        if frame.extend_from_slice(&item).is_err() {
-            return Err(PipeError::Memory);
-        }
+        frame.rotate_right(header.as_slice().len());
         self.sink.written = 0;
         self.sink.piece = frame;
         Ok(())
