@@ -79,14 +79,15 @@ def same_calls(crate, trait, name, of):
     return said(of) == said(name)
 
 
-def impl_call(page, name, trait, method, is_foreign):
-    """A call of a trait of a type, with the trait's sentence."""
+def impl_call(page, name, trait, method, is_foreign, said):
+    """A call of a trait of a type, with what is said of it, or the trait's sentence."""
     of_trait, there = (None, None) if is_foreign else trait_named(trait, page)
     page.heading(4, f"{name}: {trait}::{method.name}")
     if of_trait:
         above = next(one for one in inner(of_trait) if one.name == method.name)
         where = anchor(f"{trait}::{method.name}")
-        sentence = re.split(r"[.;:] |\.$", paragraphs(above.doc)[0])[0] + "."
+        own = f"{name}: {trait}::{method.name}"
+        sentence = said.get(own) or re.split(r"[.;:] |\.$", paragraphs(above.doc)[0])[0] + "."
         page.lines += ["", f"[`{trait}::{method.name}`]({there}#{where}): {sentence}"]
         page.lines += spaced(paragraphs(method.doc))
     else:
@@ -126,12 +127,12 @@ def own_calls(crate, name):
             for method in inner(body) if method.is_public]
 
 
-def trait_calls(page, crate, name, but=lambda trait: False):
+def trait_calls(page, crate, name, but=lambda trait: False, said=None):
     for trait, of_type, body in impls(crate):
         if trait and bare(of_type) == name and not but(bare(trait)):
             for method in inner(body):
                 if method.clauses():
-                    impl_call(page, name, bare(trait), method, body.is_foreign(trait))
+                    impl_call(page, name, bare(trait), method, body.is_foreign(trait), said or {})
 
 
 def any_item(page, crate, name, path):
@@ -165,7 +166,7 @@ def rows_of(rows, name, calls):
     return rows
 
 
-def handle(page, name, rows):
+def handle(page, name, rows, impls):
     """A handle: its table, its example, and its calls, but for those for proofs."""
     a_type(page, "piper", name, f"piper::{name}")
     calls = {method.name: method for method in own_calls("piper", name)}
@@ -180,7 +181,7 @@ def handle(page, name, rows):
                    "", "```rust", *function_text(EXAMPLES_FILE, EXAMPLES[name]), "```"]
     for one, said in rows.items():
         page.call(calls[one], f"{name}::{one}", said, is_short=True)
-    trait_calls(page, "piper", name)
+    trait_calls(page, "piper", name, said=impls)
 
 
 def owner(page, crate, name, path):
@@ -211,10 +212,12 @@ def piper_page(links):
     page.lines += ["", *(DATA / "every_call.md").read_text().splitlines()]
     page.heading(2, "The handles", False)
     for name in HANDLES:
-        handle(page, name, rows[name])
+        handle(page, name, rows[name], rows["impls"])
     page.heading(2, "Owners", False)
     for name in HANDLES.values():
         any_item(page, names[name][0], name, names[name][1])
+    # The contents name the types of these sections, and none of their calls.
+    page.brief |= {"Owners", "Copies, traits, sources and destinations"}
     for title, group in (("Errors", ERRORS), ("Copies, traits, sources and destinations", TRAITS)):
         page.heading(2, title, False)
         for name in group:

@@ -37,6 +37,8 @@ class Page:
     def __init__(self, name, title, links):
         self.name, self.title, self.links = name, title, links
         self.lines, self.contents, self.seen, self.above = [], [], set(), None
+        # The sections whose calls the contents leave out.
+        self.brief = set()
 
     def heading(self, depth, text, is_code=True):
         """A heading. The contents show a call below its type by its own name."""
@@ -76,12 +78,13 @@ class Page:
 
     def table_of_contents(self):
         """The sections, each with its items, and those with their calls."""
-        found, lines = [], []
+        found, lines, section = [], [], None
         for depth, shown, where in self.contents:
             link = f"[{shown}](#{where})"
+            section = shown if depth == 2 else section
             if depth < 4:
                 found.append((depth, link, []))
-            elif found:
+            elif section not in self.brief:
                 found[-1][2].append(link)
         for depth, link, calls in found:
             lines.append("  " * (depth - 2) + f"- {link}" + (": " + ", ".join(calls) if calls else ""))
