@@ -854,7 +854,7 @@ piper_reader_poll:                      // @piper_reader_poll
 	stp	xzr, xzr, [x8, #8]
 	stp	x1, x2, [x8, #24]
 	ret
-.LBB15_19:                              // %join.3.i.i.i44.i.i
+.LBB15_19:                              // %join.3.i.i.i43.i.i
 	ldr	x10, [x9]
 	//APP
 	//NO_APP
@@ -868,7 +868,7 @@ piper_reader_poll:                      // @piper_reader_poll
 	//APP
 	//NO_APP
 	cbz	x10, .LBB15_35
-// %bb.22:                              // %join.6.i.i.i47.i.i
+// %bb.22:                              // %join.6.i.i.i46.i.i
 	mov	w12, wzr
 	mov	x10, xzr
 	mov	x11, xzr
@@ -908,16 +908,16 @@ piper_reader_poll:                      // @piper_reader_poll
 	str	x14, [x9, #24]
 	cmp	x15, x14
 	b.ne	.LBB15_26
-// %bb.25:                              // %join.3.i64.i.i
+// %bb.25:                              // %join.3.i66.i.i
 	cmp	x13, #0
 	mov	w13, #2                         // =0x2
 	csel	w13, wzr, w13, eq
 	b	.LBB15_34
-.LBB15_26:                              // %then.1.i61.i.i
+.LBB15_26:                              // %then.1.i62.i.i
 	ldrb	w13, [x9, #33]
 	cmp	w13, #1
 	b.ne	.LBB15_33
-// %bb.27:                              // %join.3.i.i63.i.i
+// %bb.27:                              // %join.3.i.i64.i.i
 	ldrb	w13, [x9, #32]
 	cmp	w13, #1
 	b.eq	.LBB15_34
@@ -985,7 +985,7 @@ piper_reader_poll:                      // @piper_reader_poll
 	//NO_APP
 	strb	wzr, [x9, #33]
 	cbz	x10, .LBB15_41
-// %bb.39:                              // %join.6.i14.i.i.i.i
+// %bb.39:                              // %join.6.i13.i.i.i.i
 	ldr	x12, [x9, #40]
 	ldrb	w13, [x12]
 	ldp	x10, x11, [x12, #8]
@@ -1145,7 +1145,7 @@ piper_writer_poll:                      // @piper_writer_poll
 	stp	xzr, xzr, [x8, #8]
 	stp	x1, x2, [x8, #24]
 	ret
-.LBB16_22:                              // %join.3.i.i.i51.i.i
+.LBB16_22:                              // %join.3.i.i.i50.i.i
 	ldr	x10, [x9]
 	//APP
 	//NO_APP
@@ -1159,7 +1159,7 @@ piper_writer_poll:                      // @piper_writer_poll
 	//APP
 	//NO_APP
 	cbz	x10, .LBB16_38
-// %bb.25:                              // %join.6.i.i.i54.i.i
+// %bb.25:                              // %join.6.i.i.i53.i.i
 	mov	w12, wzr
 	mov	x10, xzr
 	mov	x11, xzr
@@ -1195,7 +1195,7 @@ piper_writer_poll:                      // @piper_writer_poll
 	cmp	x15, x13
 	str	x13, [x9, #24]
 	b.ne	.LBB16_29
-// %bb.28:                              // %join.3.i75.i.i
+// %bb.28:                              // %join.3.i77.i.i
 	ldr	x13, [x9]
 	//APP
 	//NO_APP
@@ -1207,11 +1207,11 @@ piper_writer_poll:                      // @piper_writer_poll
 	mov	w13, #2                         // =0x2
 	csel	w13, wzr, w13, eq
 	b	.LBB16_37
-.LBB16_29:                              // %then.1.i71.i.i
+.LBB16_29:                              // %then.1.i72.i.i
 	ldrb	w13, [x9, #57]
 	cmp	w13, #1
 	b.ne	.LBB16_36
-// %bb.30:                              // %join.3.i.i74.i.i
+// %bb.30:                              // %join.3.i.i75.i.i
 	ldrb	w13, [x9, #56]
 	cmp	w13, #1
 	b.eq	.LBB16_37
@@ -1279,7 +1279,7 @@ piper_writer_poll:                      // @piper_writer_poll
 	//NO_APP
 	strb	wzr, [x9, #57]
 	cbz	x10, .LBB16_44
-// %bb.42:                              // %join.6.i13.i.i.i.i
+// %bb.42:                              // %join.6.i12.i.i.i.i
 	ldr	x12, [x9, #64]
 	ldrb	w13, [x12, #24]
 	ldp	x10, x11, [x12, #32]
@@ -1387,7 +1387,7 @@ piper_writer_close:                     // @piper_writer_close
 	stp	x10, x11, [x8]
 	str	q0, [x8, #16]
 	ret
-.LBB17_12:                              // %join.3.i.i.i11.i.i
+.LBB17_12:                              // %join.3.i.i.i12.i.i
 	ldr	x10, [x9]
 	//APP
 	//NO_APP
@@ -1402,7 +1402,7 @@ piper_writer_close:                     // @piper_writer_close
 	//NO_APP
 	strb	wzr, [x9, #57]
 	cbz	x10, .LBB17_18
-// %bb.15:                              // %join.6.i.i.i17.i.i
+// %bb.15:                              // %join.6.i.i.i18.i.i
 	ldr	x10, [x9, #64]
 	ldrb	w11, [x10, #24]
 	ldr	q0, [x10, #32]
@@ -1410,7 +1410,7 @@ piper_writer_close:                     // @piper_writer_close
 	str	xzr, [x10, #24]
 	cmp	w11, #1
 	b.ne	.LBB17_19
-// %bb.16:                              // %arm.1.i26.i.i
+// %bb.16:                              // %arm.1.i27.i.i
 	mov	x10, xzr
 	mov	x11, xzr
 .LBB17_17:                              // %"piper_c::writer::piper_writer_close.exit"

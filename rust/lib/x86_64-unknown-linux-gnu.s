@@ -766,7 +766,7 @@ piper_reader_poll:                      # @piper_reader_poll
 # %bb.15:                               # %join.6.i.i
 	testb	$1, 32(%rax)
 	jne	.LBB15_16
-# %bb.17:                               # %join.3.i.i.i46.i.i
+# %bb.17:                               # %join.3.i.i.i45.i.i
 	movq	(%rax), %r8
 	#APP
 	#NO_APP
@@ -776,7 +776,7 @@ piper_reader_poll:                      # @piper_reader_poll
 	#NO_APP
 	testq	%r9, %r9
 	je	.LBB15_19
-# %bb.18:                               # %join.6.i.i.i49.i.i
+# %bb.18:                               # %join.6.i.i.i48.i.i
 	movb	$0, 33(%rax)
 .LBB15_16:
 	xorl	%r10d, %r10d
@@ -814,7 +814,7 @@ piper_reader_poll:                      # @piper_reader_poll
 	movq	%rdx, 24(%rax)
 	cmpq	%rdx, 16(%rax)
 	jne	.LBB15_24
-# %bb.32:                               # %join.3.i66.i.i
+# %bb.32:                               # %join.3.i68.i.i
 	xorl	%r11d, %r11d
 	testq	%rcx, %rcx
 	setne	%r11b
@@ -886,11 +886,11 @@ piper_reader_poll:                      # @piper_reader_poll
 	xorl	%r8d, %r8d
 	xorl	%r9d, %r9d
 	jmp	.LBB15_34
-.LBB15_24:                              # %then.1.i63.i.i
+.LBB15_24:                              # %then.1.i64.i.i
 	movl	$1, %r11d
 	cmpb	$1, 33(%rax)
 	jne	.LBB15_33
-# %bb.25:                               # %join.3.i.i65.i.i
+# %bb.25:                               # %join.3.i.i66.i.i
 	testb	$1, 32(%rax)
 	jne	.LBB15_33
 # %bb.26:                               # %join.3.i.i.i.i.i.i
@@ -954,7 +954,7 @@ piper_reader_poll:                      # @piper_reader_poll
 	movb	$0, 33(%rax)
 	testq	%r9, %r9
 	je	.LBB15_30
-# %bb.21:                               # %join.6.i15.i.i.i.i
+# %bb.21:                               # %join.6.i14.i.i.i.i
 	movq	40(%rax), %r10
 	movzbl	(%r10), %r11d
 	movq	8(%r10), %r9
@@ -1031,7 +1031,7 @@ piper_writer_poll:                      # @piper_writer_poll
 # %bb.16:                               # %join.9.i.i
 	testb	$1, 56(%rax)
 	jne	.LBB16_17
-# %bb.18:                               # %join.3.i.i.i53.i.i
+# %bb.18:                               # %join.3.i.i.i52.i.i
 	movq	(%rax), %r8
 	#APP
 	#NO_APP
@@ -1041,7 +1041,7 @@ piper_writer_poll:                      # @piper_writer_poll
 	#NO_APP
 	testq	%r9, %r9
 	je	.LBB16_20
-# %bb.19:                               # %join.6.i.i.i56.i.i
+# %bb.19:                               # %join.6.i.i.i55.i.i
 	movb	$0, 57(%rax)
 .LBB16_17:
 	xorl	%r10d, %r10d
@@ -1080,7 +1080,7 @@ piper_writer_poll:                      # @piper_writer_poll
 	movq	%r11, 24(%rax)
 	cmpq	%r11, %rdx
 	jne	.LBB16_25
-# %bb.33:                               # %join.3.i77.i.i
+# %bb.33:                               # %join.3.i79.i.i
 	movq	(%rax), %rcx
 	#APP
 	#NO_APP
@@ -1158,11 +1158,11 @@ piper_writer_poll:                      # @piper_writer_poll
 	movq	%rdi, %rax
 	popq	%rbx
 	retq
-.LBB16_25:                              # %then.1.i73.i.i
+.LBB16_25:                              # %then.1.i74.i.i
 	movl	$1, %r11d
 	cmpb	$1, 57(%rax)
 	jne	.LBB16_34
-# %bb.26:                               # %join.3.i.i76.i.i
+# %bb.26:                               # %join.3.i.i77.i.i
 	testb	$1, 56(%rax)
 	jne	.LBB16_34
 # %bb.27:                               # %join.3.i.i.i.i.i.i
@@ -1218,7 +1218,7 @@ piper_writer_poll:                      # @piper_writer_poll
 	movb	$0, 57(%rax)
 	testq	%r9, %r9
 	je	.LBB16_31
-# %bb.22:                               # %join.6.i14.i.i.i.i
+# %bb.22:                               # %join.6.i13.i.i.i.i
 	movq	64(%rax), %r10
 	movzbl	24(%r10), %r11d
 	movq	32(%r10), %r9
@@ -1299,7 +1299,7 @@ piper_writer_close:                     # @piper_writer_close
 	movq	$0, 40(%rcx)
 	cmpb	$1, %dl
 	jne	.LBB17_6
-.LBB17_11:                              # %arm.1.i27.i.i
+.LBB17_11:                              # %arm.1.i28.i.i
 	movb	$1, 56(%rax)
 	jmp	.LBB17_12
 .LBB17_7:                               # %arm.2.i.i
@@ -1309,7 +1309,7 @@ piper_writer_close:                     # @piper_writer_close
 # %bb.8:
 	xorps	%xmm1, %xmm1
 	jmp	.LBB17_12
-.LBB17_9:                               # %join.3.i.i.i12.i.i
+.LBB17_9:                               # %join.3.i.i.i13.i.i
 	movq	(%rax), %rcx
 	#APP
 	#NO_APP
@@ -1321,7 +1321,7 @@ piper_writer_close:                     # @piper_writer_close
 	xorps	%xmm1, %xmm1
 	testq	%rdx, %rdx
 	je	.LBB17_12
-# %bb.10:                               # %join.6.i.i.i18.i.i
+# %bb.10:                               # %join.6.i.i.i19.i.i
 	movq	64(%rax), %rcx
 	movzbl	24(%rcx), %edx
 	movups	32(%rcx), %xmm1
