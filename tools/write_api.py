@@ -217,7 +217,7 @@ def piper_page(links):
     for name in HANDLES.values():
         any_item(page, names[name][0], name, names[name][1])
     # The contents name the types of these sections, and none of their calls.
-    page.brief |= {"Owners", "Copies, traits, sources and destinations"}
+    page.brief |= {"Owners", "Copies, traits, sources and destinations", "Calls for proofs"}
     for title, group in (("Errors", ERRORS), ("Copies, traits, sources and destinations", TRAITS)):
         page.heading(2, title, False)
         for name in group:
