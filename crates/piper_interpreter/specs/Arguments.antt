@@ -17,3 +17,9 @@ AsksFor (word ∷ []) mode =
     ((string_bytes word ≡ codes "run") × (mode ≡ Run))
     ⊎ ((string_bytes word ≡ codes "all") × (mode ≡ All))
 AsksFor (word ∷ second ∷ words) mode = ⊥
+
+-- the word for a script of steps
+abbrev pub IsRun : {A : Type 0} → List (String A) → Type 0
+IsRun [] = ⊥
+IsRun (word ∷ []) = string_bytes word ≡ codes "run"
+IsRun (word ∷ second ∷ words) = ⊥

@@ -6,6 +6,7 @@ pub mod Makes
 pub mod Output
 pub mod Played
 pub mod Refused
+pub mod RunStops
 pub mod Script
 pub mod Steps
 pub mod StepsToRun

@@ -2,10 +2,11 @@
 
 ghost use Rattle.std.specs.Prelude.{◌≡◌, ◌≤◌, ◌↔◌, [], length, codes, IsNone, IsOk, IfSome, IfErr, OnOk};
 ghost use Rattle.piper_interpreter.specs.Ended.{EndsWith, IsEndOf};
-ghost use Rattle.piper_interpreter.specs.Arguments.{IsWrong, AsksFor};
+ghost use Rattle.piper_interpreter.specs.Arguments.{IsRun, IsWrong, AsksFor};
 ghost use Rattle.piper_interpreter.specs.Lines.{unread_in_turn};
-ghost use Rattle.piper_interpreter.specs.Output.{AnswersLine, FlushesRefusal, Reports};
+ghost use Rattle.piper_interpreter.specs.Output.{AnswersLine, FlushesRefusal, Reports, RunsScript};
 ghost use Rattle.piper_interpreter.specs.Played.{PlaysLine};
+ghost use Rattle.piper_interpreter.specs.RunStops.{RefusesRun};
 ghost use Rattle.piper_interpreter.specs.Script.{PlaysScript, RefusesScript, StopsScript};
 ghost use Rattle.piper_script.specs.Limits.{longest_line};
 
@@ -125,6 +126,10 @@ pub fn replay<I: Read, O: Write>(
         PlaysScript (I.remaining input.old) (O.contents output.old) (O.contents output.new) }
     ensures refused { words.now ≡ [] → result.status ≡ 1 →
         RefusesScript (I.remaining input.old) (O.contents output.old) (O.contents output.new) }
+    ensures run { IsRun words.now → result.status ≡ 0 →
+        RunsScript (I.remaining input.old) (O.contents output.old) (O.contents output.new) }
+    ensures run_refused { IsRun words.now → result.status ≡ 1 →
+        RefusesRun (I.remaining input.old) (O.contents output.old) (O.contents output.new) }
 {
     let played = match mode_of(words) {
         None => return Ended::WRONG_ARGUMENTS,

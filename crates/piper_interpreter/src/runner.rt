@@ -1,10 +1,11 @@
 //! The mode `run`: a script of steps is read whole, and then run on a new machine.
 
-ghost use Rattle.std.specs.Prelude.{◌≡◌, ◌≤◌, ◌<◌, ◌+◌, [], ◌∷◌, ◌++◌, ℕ, replicate, vec_len, vec_capacity, None, IfOk, IfErr, OnOk, OnErr, IsTrue, ◌↔◌, ◌⊎◌, length};
+ghost use Rattle.std.specs.Prelude.{◌≡◌, ◌≤◌, ◌<◌, ◌+◌, [], ◌∷◌, ◌++◌, replicate, vec_len, vec_capacity, None, IfOk, IfErr, OnOk, OnErr, IsTrue, ◌↔◌, ◌⊎◌, length};
 ghost use Rattle.std.specs.Option.{ForSome};
 ghost use Rattle.piper_interpreter.specs.Lines.{unread_of};
-ghost use Rattle.piper_interpreter.specs.Output.{FlushesRefusal, Reports, ReportsRun, RunsScript, WritesRun, event_lines, run_text, unread_line};
-ghost use Rattle.piper_interpreter.specs.StepsToRun.{AddsLine, AsksAll, Fits, SaysStep, last_end, most_steps_of_a_script};
+ghost use Rattle.piper_interpreter.specs.Output.{FlushesRefusal, ReportsRun, RunsScript, WritesRun, event_lines, run_text, unread_line};
+ghost use Rattle.piper_interpreter.specs.RunStops.{AddsNumber, SaysAll, StopsReading, StopsRun};
+ghost use Rattle.piper_interpreter.specs.StepsToRun.{AddsLine, Fits, SaysStep, last_end, most_steps_of_a_script};
 ghost use Rattle.piper_script.specs.Limits.{longest_line};
 ghost use Rattle.piper_protocol.specs.Index.{IsCapacity};
 ghost use Rattle.piper_sides.specs.Log.{events};
@@ -57,19 +58,22 @@ impl StepsToRun {
     }
 
     // Reads a script to its end.
-    #[tactic(auto, using(crate::proofs::AskedFor::asks_kept))]
+    #[tactic(auto, using(crate::proofs::AskedFor::says_kept, crate::proofs::AskedFor::reading_kept))]
     fn read<I: Read>(&mut self, alloc: Global, input: &mut I) -> Result<(), Stop>
-        ensures { OnOk result (AsksAll (I.remaining input.old)
-            (asked_by self.old) (asked_by self.new)) }
+        ensures says { OnOk result (SaysAll (I.remaining input.old)
+            (asked_by self.old) (asked_by self.new) self.old.lines.items self.new.lines.items) }
+        ensures stopped { IfErr result (λ stop.
+            StopsReading stop (I.remaining input.old) (asked_by self.old) self.new.line) }
     {
         let mut lines = Lines::new(alloc, input)?;
         self.add_lines(alloc, &mut lines)
     }
 
-    #[tactic(auto, using(crate::proofs::AskedFor::asked_all))]
     fn add_lines<I: Read>(&mut self, alloc: Global, lines: &mut Lines<'_, I>) -> Result<(), Stop>
-        ensures { OnOk result (AsksAll (unread_of I.remaining lines.old)
-            (asked_by self.old) (asked_by self.new)) }
+        ensures says { OnOk result (SaysAll (unread_of I.remaining lines.old)
+            (asked_by self.old) (asked_by self.new) self.old.lines.items self.new.lines.items) }
+        ensures stopped { IfErr result (λ stop.
+            StopsReading stop (unread_of I.remaining lines.old) (asked_by self.old) self.new.line) }
     {
         for number in 1..u64::MAX {
             if !lines.next()? {
@@ -85,6 +89,9 @@ impl StepsToRun {
     fn add_line(&mut self, alloc: Global, line: &[u8]) -> Result<(), Stop>
         ensures adds { OnOk result (AddsLine line.now self.old.capacity self.new.capacity
             self.old.steps.items self.new.steps.items) }
+        ensures number { OnOk result (AddsNumber self.old.line self.old.lines.items
+            self.new.lines.items (vec_len self.old.steps) (vec_len self.new.steps)) }
+        ensures line { self.new.line ≡ self.old.line }
         ensures within { OnOk result (length line.now ≤ longest_line) }
         ensures fits { length line.now ≤ longest_line → Fits self.old.capacity line.now
             ⊎ (result ≡ Err (Stop.Refused Refusal.Syntax)) }
@@ -121,8 +128,9 @@ impl StepsToRun {
     #[tactic(auto, using(crate::proofs::SaidLines::last_end_more))]
     fn add(&mut self, step: Step) -> Result<(), Stop>
         ensures step { OnOk result (self.new.steps.items ≡ self.old.steps.items ++ step ∷ []) }
-        ensures line { OnOk result (self.new.lines.items
+        ensures number { OnOk result (self.new.lines.items
             ≡ self.old.lines.items ++ (self.old.line, vec_len self.old.steps + 1) ∷ []) }
+        ensures line { self.new.line ≡ self.old.line }
         ensures capacity { self.new.capacity ≡ self.old.capacity }
     {
         let end = self.end_of(1)?;
@@ -137,8 +145,9 @@ impl StepsToRun {
     fn add_steps(&mut self, side: Side, count: usize) -> Result<(), Stop>
         ensures steps { OnOk result (self.new.steps.items
             ≡ self.old.steps.items ++ replicate count (Step.Go side)) }
-        ensures line { OnOk result (self.new.lines.items
+        ensures number { OnOk result (self.new.lines.items
             ≡ self.old.lines.items ++ (self.old.line, vec_len self.old.steps + count) ∷ []) }
+        ensures line { self.new.line ≡ self.old.line }
         ensures capacity { self.new.capacity ≡ self.old.capacity }
     {
         let end = self.end_of(count)?;
@@ -200,12 +209,12 @@ fn push_line(lines: &mut Vec<(u64, usize)>, number: u64, end: usize)
 
 /// Reads the script that `input` gives to its end, runs its steps on a new machine, and writes what
 /// happened to `output`.
-#[tactic(auto, using(crate::proofs::Lines::none_is_written, crate::proofs::Lines::asked_is_written, crate::proofs::Lines::some_line_is_reported))]
+#[tactic(auto, using(crate::proofs::RunStops::none_is_written, crate::proofs::RunStops::asked_is_written, crate::proofs::RunStops::stops_at_line, crate::proofs::RunStops::stops_at_step))]
 pub fn run<I: Read, O: Output>(alloc: Global, input: &mut I, output: &mut O) -> Result<(), Stop>
     ensures written { OnOk result
         (RunsScript (I.remaining input.old) (O.contents output.old) (O.contents output.new)) }
-    ensures reported { IfErr result (λ stop. (line : ℕ)
-        × Reports line stop (O.contents output.old) (O.contents output.new)) }
+    ensures stopped { IfErr result (λ stop. StopsRun stop (I.remaining input.old)
+        (O.contents output.old) (O.contents output.new)) }
     ensures flushed { O.flushed output.old → OnOk result (O.flushed output.new) }
     ensures refusal { IfErr result (FlushesRefusal (O.flushed output.new)) }
 {

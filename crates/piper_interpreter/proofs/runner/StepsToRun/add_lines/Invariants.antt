@@ -5,4 +5,5 @@ use Rattle.piper_interpreter.proofs.AskedFor.{AskedSoFar}
 use Rattle.piper_interpreter.proofs.runner.StepsToRun.add_lines.Given as goal
 
 abbrev pub invariant-loop-number : goal.invariant-loop-number
-invariant-loop-number g l = AskedSoFar (unread_of g.I.Read.remaining l.initial.lines) (unread_of g.I.Read.remaining l.lines) (asked_by l.initial.self) (asked_by l.self)
+invariant-loop-number g l =
+    AskedSoFar (unread_of g.I.Read.remaining l.initial.lines) (unread_of g.I.Read.remaining l.lines) l.number (asked_by l.initial.self) (asked_by l.self) l.initial.self.lines.items l.self.lines.items
