@@ -168,3 +168,26 @@ fn frames_go_on_after_a_long_one_and_end_where_they_are_cut_off(
     same_pieces(&rt, &found, &[&[7], &[9]]);
     Ok(())
 }
+
+#[test]
+fn a_line_is_taken_at_once_and_a_frame_after_its_header(rt: HostRuntime) -> Result<(), Fail> {
+    let task = MockTask::new(&rt)?;
+    let mut lines = Lines::new(rt.alloc(), Halting::new(b"a line\n", 9, Halt::Pending, 0));
+    let mut line = Vec::new(rt.alloc());
+    let polled = task.enter(|cx| lines.poll_line(cx, &mut line, 9));
+    same(
+        &rt,
+        (polled.is_ready(), lines.into_reader().takes()),
+        (true, 1),
+    );
+    let bytes = [0, 0, 0, 3, 7, 8, 9];
+    let mut frames = Frames::new(rt.alloc(), Halting::new(&bytes, 9, Halt::Pending, 0));
+    let mut body = Vec::new(rt.alloc());
+    let polled = task.enter(|cx| frames.poll_frame(cx, &mut body, 9));
+    same(
+        &rt,
+        (polled.is_ready(), frames.into_reader().takes()),
+        (true, 2),
+    );
+    Ok(())
+}

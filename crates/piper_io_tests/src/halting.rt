@@ -25,6 +25,7 @@ pub(crate) struct Halting<'a> {
     known: usize,
     most: usize,
     looks: usize,
+    takes: usize,
     last: usize,
     how: Halt,
     is_over: bool,
@@ -66,6 +67,7 @@ impl AsyncBufRead for Halting<'_> {
     fn consume(&mut self, amt: usize) {
         self.taken += amt;
         self.known -= amt;
+        self.takes = self.takes.saturating_add(1);
     }
 }
 
@@ -79,10 +81,16 @@ impl<'a> Halting<'a> {
             known: 0,
             most,
             looks: 0,
+            takes: 0,
             last,
             how,
             is_over: false,
         }
+    }
+
+    /// How often bytes were taken.
+    pub(crate) fn takes(&self) -> usize {
+        self.takes
     }
 
     fn front(&self) -> &[u8]

@@ -13,6 +13,8 @@ mod joined;
 #[cfg(test)]
 mod methods;
 #[cfg(test)]
+mod one_call;
+#[cfg(test)]
 mod owning;
 #[cfg(test)]
 mod running;

@@ -9,6 +9,8 @@ mod compare;
 #[cfg(test)]
 mod copies;
 #[cfg(test)]
+mod ends;
+#[cfg(test)]
 mod pattern;
 #[cfg(test)]
 mod pieces;

@@ -1,6 +1,11 @@
-//! Sizes as they are written.
+//! Sizes as they are written, and what the errors of sizes and of transfers say.
 use crate::compare::same;
-use pump_words::size::parse_size;
+use piper_transfer::TransferError;
+use pump_words::size::{NotASize, parse_size};
+use std::alloc::AllocGlobal;
+use std::fmt::Display;
+use std::io::ErrorKind;
+use std::process::Abort;
 
 #[test]
 fn a_size_is_digits_and_perhaps_a_unit(rt: HostRuntime) {
@@ -58,4 +63,26 @@ fn anything_else_is_no_size(rt: HostRuntime) {
     for text in texts {
         same(&rt, (text, parse_size(text).ok()), (text, None));
     }
+}
+
+fn says<H: Abort + AllocGlobal>(rt: &H, error: &impl Display, wanted: &str) {
+    let said = format!(in rt.alloc(); "{error}").expect(rt, "memory");
+    same(rt, said.as_str(), wanted);
+}
+
+#[test]
+fn errors_say_what_failed(rt: HostRuntime) {
+    says(
+        &rt,
+        &NotASize,
+        "a size is a number of bytes from 1 to 9223372036854775807, as 4096, 64K, 16m or 2GiB",
+    );
+    let read = TransferError::Read(ErrorKind::BrokenPipe.into());
+    says(&rt, &read, "reading the input failed: broken pipe");
+    let write = TransferError::Write(ErrorKind::BrokenPipe.into());
+    says(&rt, &write, "writing the output failed: broken pipe");
+    says(&rt, &TransferError::Full, "the output takes no more bytes");
+    says(&rt, &TransferError::Memory, "out of memory");
+    let turns = TransferError::Turns(ErrorKind::OutOfMemory.into());
+    says(&rt, &turns, "a thread can't be made to wait: out of memory");
 }

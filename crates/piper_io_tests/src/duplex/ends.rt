@@ -1,9 +1,10 @@
 //! The ends of a duplex stream on one thread.
 use crate::compare::same;
 use crate::polls::{Polled, outcome_of};
+use futures::task::{Doorbell, Queue};
 use futures::test::MockTask;
 use piper::io::{AsyncRead, AsyncWrite};
-use piper_duplex::{End, duplex};
+use piper_duplex::{End, OwnedEnd, duplex, owned_duplex};
 use std::alloc::AllocGlobal;
 use std::process::Abort;
 use std::random::RandomSource;
@@ -13,9 +14,10 @@ use std::sync::Wait;
 const MOST_POLLS: u32 = 1_000;
 
 /// Writes until a poll is ready, and holds what it returns against the count that is wanted.
-fn writes<H>(rt: &H, task: &MockTask, end: &mut End, bytes: &[u8], want: usize)
+fn writes<H, W>(rt: &H, task: &MockTask, end: &mut W, bytes: &[u8], want: usize)
 where
     H: Abort + Wait,
+    W: AsyncWrite,
 {
     let mut answer = Polled::Pending;
     for _ in 0..MOST_POLLS {
@@ -96,4 +98,57 @@ where
 #[test]
 fn a_dropped_end_wakes_who_reads_and_who_writes(rt: HostRuntime) {
     wakes_both(&rt);
+}
+
+/// A queue of two tasks: task 0 waits to read from this end, and task 1 to write to it.
+fn two_waiting<H>(rt: &H, end: &mut OwnedEnd) -> Queue
+where
+    H: Abort + Wait + RandomSource + AllocGlobal,
+{
+    let task = MockTask::new(rt).expect(rt, "memory");
+    writes(rt, &task, end, b"full", 4);
+    let queue = Queue::new(rt, Doorbell::parking()).expect(rt, "memory");
+    queue.add().expect(rt, "memory").schedule();
+    queue.add().expect(rt, "memory").schedule();
+    let mut place = [0; 4];
+    let mut cx = queue.next(rt).expect(rt, "a task");
+    let read = end.poll_read(&mut cx, &mut place);
+    cx.end(&read);
+    let mut cx = queue.next(rt).expect(rt, "a task");
+    let written = end.poll_write(&mut cx, b"more");
+    cx.end(&written);
+    let pending = (read.is_pending(), written.is_pending());
+    same(rt, pending, (true, true));
+    queue
+}
+
+/// The task that is woken next.
+fn next_woken(rt: &(impl Abort + Wait), queue: &Queue) -> usize {
+    let cx = queue.next(rt).expect(rt, "a task");
+    let task = cx.task();
+    cx.cancel();
+    task
+}
+
+/// Who reads was woken first, and then who writes.
+fn reader_was_first(rt: &(impl Abort + Wait), queue: &Queue) {
+    let first = next_woken(rt, queue);
+    same(rt, (first, next_woken(rt, queue)), (0, 1));
+}
+
+#[test]
+fn a_dropped_end_closes_first_what_it_writes_into(rt: HostRuntime) {
+    let (first, second) = duplex(rt.alloc(), 4, 4, 1).expect(&rt, "memory");
+    let mut other = OwnedEnd::new(second);
+    let queue = two_waiting(&rt, &mut other);
+    first.drop();
+    reader_was_first(&rt, &queue);
+}
+
+#[test]
+fn a_dropped_owned_end_closes_first_what_it_writes_into(rt: HostRuntime) {
+    let (first, mut other) = owned_duplex(rt.alloc(), 4, 4).expect(&rt, "memory");
+    let queue = two_waiting(&rt, &mut other);
+    drop(first);
+    reader_was_first(&rt, &queue);
 }
