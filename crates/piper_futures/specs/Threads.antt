@@ -1,6 +1,7 @@
 -- What comes of threads that fill a pipe, or drain one.
-use Rattle.std.specs.Prelude.{◌≡◌, ◌⊎◌, Bool, true, ⊤, List, ℕ, length, ◌++◌, Option, None, Some, Result, Ok, Err}
+use Rattle.std.specs.Prelude.{◌≡◌, ◌⊎◌, Bool, true, ⊤, List, ℕ, length, ◌++◌, Option, None, Some, Result, Ok, Err, IfErr}
 use Rattle.std.specs.Io.KnownBytes.{IsAtEnd, Appends}
+use Rattle.std.specs.declared.io.Error.{Error}
 use Rattle.futures.specs.declared.task.context.Context.{Context}
 use Rattle.piper.specs.Contexts.{WantsWaker}
 use Rattle.piper.specs.Handles.{NotifiesWriter}
@@ -10,7 +11,6 @@ use Rattle.piper.specs.declared.io.copy.Copied.{Copied}
 use Rattle.piper.specs.declared.io.copy.Copied.TheVariants.{ToTheEnd, UntilClosed}
 use Rattle.piper.specs.declared.owned.OwnedReader.{OwnedReader}
 use Rattle.piper.specs.declared.owned.OwnedWriter.{OwnedWriter}
-use Rattle.piper_protocol.specs.Reported.{HasFailed}
 use Rattle.piper_lines.specs.AtEnd.{AtEnd}
 use Rattle.piper_futures.specs.Draining.{DrainsOn}
 use Rattle.piper_futures.specs.Filling.{FillsOn}
@@ -37,9 +37,19 @@ WhyFilled saw left UntilClosed = saw ≡ true
 abbrev pub IsOfWaker : PipeError → Type 0
 IsOfWaker e = (cx : Context) × WantsWaker cx e
 
--- a thread's wait failed with it
+-- a thread's own wait failed with this error. It is sealed: no proof looks into it, and only that of
+-- `wait_for` uses the lemma below
+pub WaitHasFailed : Error → Type 0
+WaitHasFailed error = ⊤
+
+pub as_wait_failed : {T : Type 0} (waited : Result T Error) → IfErr waited WaitHasFailed
+unfolding WaitHasFailed
+as_wait_failed (Ok x) = tt
+as_wait_failed (Err e) = tt
+
+-- the same of an error that is told
 abbrev pub IsOfWait : PipeError → Type 0
-IsOfWait (Io e) = HasFailed e
+IsOfWait (Io e) = WaitHasFailed e
 IsOfWait other = ⊥
 
 module _ {S : Type 0} (remaining : S → Option (List ℕ)) where

@@ -4,11 +4,12 @@ ghost use Rattle.std.specs.Prelude.{◌≡◌, IfOk, IfErr, length, true};
 ghost use Rattle.piper.specs.OfReader.{taken};
 ghost use Rattle.piper.specs.OfWriter.{saw, sent};
 ghost use Rattle.piper_protocol.specs.Reported.{HasFailed};
-ghost use Rattle.piper_futures.specs.Threads.{FilledAndClosed, DrainedOrClosed, HadSeen};
+ghost use Rattle.piper_futures.specs.Threads.{FilledAndClosed, DrainedOrClosed, HadSeen, WaitHasFailed};
 
 use crate::drain::drain_into;
 use crate::failed::Failed;
 use crate::fill::fill_from;
+use futures::Future;
 use futures::executor::block_on;
 use piper::io::Copied;
 use piper::{LastReadMark, OwnedReader, OwnedWriter, PipeError, WriteMark};
@@ -118,6 +119,19 @@ where
     reported(spawned.map_err(io::Error::from))
 }
 
+/// Polls the future on this thread, which sleeps until it is woken. Only what fails here is known
+/// to be the thread's own wait.
+fn wait_for<H, F>(rt: &H, future: F) -> io::Result<F::Output>
+where
+    H: Wait + RandomSource + AllocGlobal,
+    F: Future,
+    requires { F.can_poll future }
+    ensures gives { IfOk result (F.gives future) }
+    ensures failed { IfErr result WaitHasFailed }
+{
+    block_on(rt, future)
+}
+
 /// Moves all that `source` gives into the pipe, and drops the writer.
 fn fill_and_close<H, S>(
     rt: &H,
@@ -129,7 +143,7 @@ where
     S: Read + Drop,
     ensures { FilledAndClosed S.remaining writer source result }
 {
-    match reported(block_on(rt, fill_from(writer, source))) {
+    match wait_for(rt, fill_from(writer, source)) {
         Ok(Ok((writer, source, copied))) => Ok((closed_by_writer(writer, source), copied)),
         Ok(Err(failed)) => {
             let Failed { left, error } = failed;
@@ -165,7 +179,7 @@ where
     D: Write + Drop,
     ensures { DrainedOrClosed D.contents reader dest result }
 {
-    match reported(block_on(rt, drain_into(reader, dest))) {
+    match wait_for(rt, drain_into(reader, dest)) {
         Ok(Ok(ends)) => Ok(ends),
         Ok(Err(failed)) => {
             let Failed { left, error } = failed;
