@@ -1,14 +1,12 @@
 //! How many calls it takes to move what lies in one piece. No clause tells how often a reader or a
 //! writer is called, so that a body which moves a byte a call would be proved, too.
-use crate::compare::{confirm, same};
-use crate::running::{ends, sends};
-use futures::task::{Context, Poll};
+use crate::compare::same;
+use crate::running::ends;
+use futures::task::Poll;
 use futures::test::MockTask;
 use piper::io::{AsyncRead, AsyncWrite};
-use piper::{OwnedReader, OwnedWriter, PipeError, owned_pipe};
-use piper_futures::{drain_into, fill_from, write_all};
-use piper_lines::WriteFrame;
-use piper_streams::WriteSink;
+use piper::{OwnedReader, OwnedWriter, owned_pipe};
+use piper_futures::{drain_into, fill_from};
 use std::alloc::AllocGlobal;
 use std::io;
 use std::process::Abort;
@@ -47,46 +45,6 @@ impl io::Write for OfStd {
     }
 }
 
-/// A writer that counts its writes.
-#[derive(Drop)]
-struct Counting<W> {
-    writer: W,
-    writes: u32,
-}
-
-impl<W: AsyncWrite> AsyncWrite for Counting<W> {
-    ghost sent = { λ it. W.sent it.writer };
-
-    ghost saw = { λ it. W.saw it.writer };
-
-    ghost needs = { λ it. W.needs it.writer };
-
-    ghost waits = { λ it. W.waits it.writer };
-
-    ghost fails = { λ it. W.fails it.writer };
-
-    ghost woken = { λ it. W.woken it.writer };
-
-    ghost flushed = { λ it. W.flushed it.writer };
-
-    fn poll_write(
-        &mut self,
-        cx: &mut Context<'_>,
-        source: &[u8],
-    ) -> Poll<Result<usize, PipeError>> {
-        self.writes = self.writes.saturating_add(1);
-        self.writer.poll_write(cx, source)
-    }
-
-    fn poll_flush(&mut self, cx: &mut Context<'_>) -> Poll<Result<(), PipeError>> {
-        self.writer.poll_flush(cx)
-    }
-
-    fn poll_close(&mut self, cx: &mut Context<'_>) -> Poll<Result<(), PipeError>> {
-        self.writer.poll_close(cx)
-    }
-}
-
 fn std_is_called_once<R>(rt: &R)
 where
     R: Abort + Wait + RandomSource + AllocGlobal,
@@ -108,31 +66,6 @@ where
 #[test]
 fn a_fill_and_a_drain_call_std_once_a_piece(rt: HostRuntime) {
     std_is_called_once(&rt);
-}
-
-fn writers_are_called_once<R>(rt: &R)
-where
-    R: Abort + Wait + RandomSource + AllocGlobal,
-{
-    let (_reader, writer) = wide(rt);
-    let mut counting = Counting { writer, writes: 0 };
-    let _count = ends(rt, write_all(&mut counting, b"some bytes"));
-    same(rt, counting.writes, 1);
-    let _sink = sends(rt, WriteSink::new(rt.alloc(), &mut counting), &[b"a piece"]);
-    same(rt, counting.writes, 2);
-    // The header is one slice, and the body another.
-    let task = MockTask::new(rt).expect(rt, "memory");
-    let mut frame = WriteFrame::new(b"a body");
-    confirm(
-        rt,
-        task.enter(|cx| frame.poll(cx, &mut counting)).is_ready(),
-    );
-    same(rt, counting.writes, 4);
-}
-
-#[test]
-fn a_slice_is_written_by_one_call(rt: HostRuntime) {
-    writers_are_called_once(&rt);
 }
 
 /// How many bytes one read takes.
