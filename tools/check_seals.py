@@ -17,6 +17,14 @@ from pathlib import Path
 
 TOP = Path(__file__).resolve().parent.parent
 
+
+
+def of_sides(*calls):
+    """The proofs of these calls of both sides of the ring."""
+    sides = ("reader/ReadSide", "writer/WriteSide")
+    return [f"piper_ring/proofs/ends/slots/{side}/{call}" for side in sides for call in calls]
+
+
 # each lemma, the specs that have it, and the proofs that may use it
 SEALS = {
     "as_reported": ("piper_protocol/specs/Reported", ["piper_protocol/proofs/reported/reported"]),
@@ -45,8 +53,11 @@ SEALS = {
     "as_handed_back": ("piper_ring/specs/Loads", ["piper_ring/proofs/ring/slots/SlotWords/reclaim"]),
     "as_back": (
         "piper_ring/specs/Loads",
-        [f"piper_ring/proofs/ends/{end}/reclaim_waker" for end in ("reader/ReadEnd", "writer/WriteEnd")],
+        of_sides("reclaim_waker"),
     ),
+    "as_put": ("piper_ring/specs/Loads", of_sides("publish_waker")),
+    "as_taken_back": ("piper_ring/specs/Loads", of_sides("cancel", "reclaim_waker")),
+    "as_taken": ("piper_ring/specs/Loads", of_sides("take", "finish")),
     "as_gone": (
         "piper_ring/specs/Loads",
         [f"piper_ring/proofs/ring/seats/{seat}/leave" for seat in ("ReadSeat", "WriteSeat")],
@@ -56,37 +67,13 @@ SEALS = {
         "piper/specs/Waits",
         [f"piper/proofs/handles/{handle}/leave" for handle in ("Reader", "Writer")],
     ),
-    "just_registered": ("piper/specs/Contexts", ["piper/proofs/slots/Slots/grant"]),
+    "just_registered": ("piper/specs/Contexts", ["piper/proofs/slots/Taken/grant"]),
     "as_read": ("piper/specs/StdEnds", ["piper/proofs/like/std_ends/std_read"]),
     "as_written": ("piper/specs/StdEnds", ["piper/proofs/like/std_ends/std_write"]),
     "as_flushed": ("piper/specs/StdEnds", ["piper/proofs/like/std_ends/std_flush"]),
     "as_left": (
         "piper_c/specs/Leaving",
         [f"piper_c/proofs/halves/{half}/leave" for half in ("ReadHalf", "WriteHalf")],
-    ),
-    "as_put": (
-        "piper_c/specs/Places",
-        [f"piper_c/proofs/halves/{half}/put" for half in ("ReadHalf", "WriteHalf")],
-    ),
-    "as_come_out": (
-        "piper_c/specs/Places",
-        [
-            f"piper_c/proofs/halves/{half}/{call}"
-            for half in ("ReadHalf", "WriteHalf")
-            for call in ("reclaim", "take_back")
-        ],
-    ),
-    "as_taken_out": (
-        "piper_c/specs/Places",
-        [
-            f"piper_c/proofs/halves/{call}"
-            for call in (
-                "ReadHalf/take_writer",
-                "ReadHalf/finish",
-                "WriteHalf/take_reader",
-                "WriteHalf/finish",
-            )
-        ],
     ),
     "as_waker_refused": ("piper_transfer/specs/Transfer", ["piper_transfer/proofs/error/no_waker"]),
     "as_cannot_wait": ("piper_transfer/specs/Transfer", ["piper_transfer/proofs/turns/of_queue"]),

@@ -23,36 +23,36 @@ none_left : (left n space : ℕ) → (n < space → left ≡ 0) → n ≤ space 
 none_left left n space none within fits = elim (dec_lt n space) [ yes less ↦ none less | no more ↦ omega (arith, more, within, fits) ]
 
 -- a fill publishes all that it is given, where there is room for it and the pipe was not seen closed
-pub filled_all : (n : ℕ) (a b : Writer) (bytes : List ℕ) → Filled n a b bytes → 0 < a.end.room → length bytes ≤ a.end.room → b.end.saw ≡ false
-    → b.end.sent ≡ a.end.sent ++ bytes
+pub filled_all : (n : ℕ) (a b : Writer) (bytes : List ℕ) → Filled n a b bytes → 0 < a.side.end.room → length bytes ≤ a.side.end.room → b.side.end.saw ≡ false
+    → b.side.end.sent ≡ a.side.end.sent ++ bytes
 filled_all n a b bytes filled some fits unseen =
-    let sent : b.end.sent ≡ a.end.sent ++ take n bytes = filled.all unseen in
-    let count : length b.end.sent ≡ length a.end.sent + n =
-    ap length sent ∙ length-append a.end.sent (take n bytes) ∙ ap (λ k. length a.end.sent + k) (length-take-le n bytes filled.count) in
+    let sent : b.side.end.sent ≡ a.side.end.sent ++ take n bytes = filled.all unseen in
+    let count : length b.side.end.sent ≡ length a.side.end.sent + n =
+    ap length sent ∙ length-append a.side.end.sent (take n bytes) ∙ ap (λ k. length a.side.end.sent + k) (length-take-le n bytes filled.count) in
     let all : length bytes ≤ n = no_less n (length bytes) (λ less. omega (arith, less, fits, filled.most less unseen, filled.room some, count)) in
-    sent ∙ ap (λ xs. a.end.sent ++ xs) (take_all n bytes all)
+    sent ∙ ap (λ xs. a.side.end.sent ++ xs) (take_all n bytes all)
 
 -- a drain takes all bytes that are known, where there is place for them
-pub drained_all : (n : ℕ) (a b : Reader) (old new : List ℕ) → Drained n a b old new → 0 < length a.end.known → length a.end.known ≤ length old → length new ≡ length old
-    → (take n new ≡ a.end.known) × (b.end.known ≡ [])
+pub drained_all : (n : ℕ) (a b : Reader) (old new : List ℕ) → Drained n a b old new → 0 < length a.side.end.known → length a.side.end.known ≤ length old → length new ≡ length old
+    → (take n new ≡ a.side.end.known) × (b.side.end.known ≡ [])
 drained_all n a b old new drained some fits same =
-    let came : take n new ++ b.end.known ≡ a.end.known = drained.known some in
+    let came : take n new ++ b.side.end.known ≡ a.side.end.known = drained.known some in
     let count : length (take n new) ≡ n = length-take-le n new (omega (arith, drained.count, same)) in
-    let left : length b.end.known ≡ 0 =
-    none_left (length b.end.known) n (length old) (λ less. ap length (drained.most less)) drained.count (omega (arith, count, ap length came, length-append (take n new) b.end.known, fits)) in
-    let none : b.end.known ≡ [] = nil_from_length b.end.known left in
+    let left : length b.side.end.known ≡ 0 =
+    none_left (length b.side.end.known) n (length old) (λ less. ap length (drained.most less)) drained.count (omega (arith, count, ap length came, length-append (take n new) b.side.end.known, fits)) in
+    let none : b.side.end.known ≡ [] = nil_from_length b.side.end.known left in
     (sym (append-nil (take n new)) ∙ sym (ap (λ xs. take n new ++ xs) none) ∙ came, none)
 
 -- what a fill published of a slice, into an open pipe of which all was taken before, a drain takes
 -- after the handles met
-pub filled_and_drained : (n m : ℕ) (q r s : Reader) (v w x : Writer) (source old new : List ℕ) → Filled n v w source → MeetSame q r w x → MeetClosed r x → r.end.taken ++ r.end.known ≡ x.end.sent
-    → Drained m r s old new → q.end.taken ≡ v.end.sent → x.end.shut ≡ false → 0 < n → length source ≤ length old → length new ≡ length old
+pub filled_and_drained : (n m : ℕ) (q r s : Reader) (v w x : Writer) (source old new : List ℕ) → Filled n v w source → MeetSame q r w x → MeetClosed r x → r.side.end.taken ++ r.side.end.known ≡ x.side.end.sent
+    → Drained m r s old new → q.side.end.taken ≡ v.side.end.sent → x.side.end.shut ≡ false → 0 < n → length source ≤ length old → length new ≡ length old
     → take m new ≡ take m source
 filled_and_drained n m q r s v w x source old new filled met closed fifo drained emptied unshut some room long =
     let sent = filled.all (sym met.writer.saw ∙ saw_none _ _ closed.writer unshut) in
-    let known : r.end.known ≡ take n source = append_cancel_left r.end.taken _ _ (cc) in
+    let known : r.side.end.known ≡ take n source = append_cancel_left r.side.end.taken _ _ (cc) in
     let count = filled.count in
-    let found : 0 < length r.end.known = grind (arith, common_steps) in
+    let found : 0 < length r.side.end.known = grind (arith, common_steps) in
     let all = drained_all _ _ _ _ _ drained found (grind (arith, common_steps)) long in
     all.0 ∙ known ∙ ap (λ k. take k source) (grind (arith, common_steps))
 

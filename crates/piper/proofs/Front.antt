@@ -22,21 +22,21 @@ module _ (old before now new moved : List ℕ) (place n : ℕ) (same : before �
   full_is within end ends full = omega (arith, within, ends, full, first, count, ap length whole, length-append moved (drop n old), length-drop n old)
 
   -- and so the slice was drained into
-  pub drained_is : (a b : Reader) → b.end.taken ≡ a.end.taken ++ moved → (0 < length a.end.known → a.end.known ≡ moved ++ b.end.known) → (a.end.known ≡ [] → ReaderIsUpToDate b.end) → n ≤ length old → (n < length old → b.end.known ≡ []) → Drained n a b old new
+  pub drained_is : (a b : Reader) → b.side.end.taken ≡ a.side.end.taken ++ moved → (0 < length a.side.end.known → a.side.end.known ≡ moved ++ b.side.end.known) → (a.side.end.known ≡ [] → ReaderIsUpToDate b.side.end) → n ≤ length old → (n < length old → b.side.end.known ≡ []) → Drained n a b old new
   drained_is a b taken known fresh within most = record {
     count = within;
     rest = rest_is;
-    taken = taken ∙ ap (λ xs. a.end.taken ++ xs) (sym front_is);
-    known = λ some. ap (λ xs. xs ++ b.end.known) front_is ∙ sym (known some);
+    taken = taken ∙ ap (λ xs. a.side.end.taken ++ xs) (sym front_is);
+    known = λ some. ap (λ xs. xs ++ b.side.end.known) front_is ∙ sym (known some);
     fresh = fresh;
     most = most;
   }
 
 -- where nothing was moved, the reader only looked
-pub looked_only : (a b : Reader) (moved : List ℕ) → moved ≡ [] → b.end.taken ≡ a.end.taken ++ moved → (0 < length a.end.known → a.end.known ≡ moved ++ b.end.known) → (a.end.known ≡ [] → ReaderIsUpToDate b.end) → OnlyLooked a b
+pub looked_only : (a b : Reader) (moved : List ℕ) → moved ≡ [] → b.side.end.taken ≡ a.side.end.taken ++ moved → (0 < length a.side.end.known → a.side.end.known ≡ moved ++ b.side.end.known) → (a.side.end.known ≡ [] → ReaderIsUpToDate b.side.end) → OnlyLooked a b
 looked_only a b moved none taken known fresh = record {
-  taken = taken ∙ ap (λ xs. a.end.taken ++ xs) none ∙ append-nil a.end.taken;
-  known = λ some. sym (known some ∙ ap (λ xs. xs ++ b.end.known) none);
+  taken = taken ∙ ap (λ xs. a.side.end.taken ++ xs) none ∙ append-nil a.side.end.taken;
+  known = λ some. sym (known some ∙ ap (λ xs. xs ++ b.side.end.known) none);
   fresh = fresh;
 }
 

@@ -12,13 +12,13 @@ use Rattle.piper.specs.WriterCalls.{DrawsToYield, FillPends, FillsWaiting}
 use Rattle.piper.specs.declared.error.Inner.{Inner}
 use Rattle.piper.specs.declared.error.Inner.TheVariants.{Memory, Like}
 
-draws : {E : Type 0} (r : Poll (Result ℕ (Inner E))) (a b d : Writer) → WriterUnlent b.end d.end → SameWriter b d → DrawsToYield r a b → DrawsToYield r a d
+draws : {E : Type 0} (r : Poll (Result ℕ (Inner E))) (a b d : Writer) → WriterUnlent b.side.end d.side.end → SameWriter b d → DrawsToYield r a b → DrawsToYield r a d
 draws (Ready (Ok n)) a b d end rest h = rw (rest.rng, end.saw) h
 draws (Ready (Err Memory)) a b d end rest h = rw rest.rng h
 draws (Ready (Err (Like e))) a b d end rest h = rw rest.rng h
 draws Pending a b d end rest h = rw (rest.rng, end.room) h
 
-still : (a b d : Writer) (cx : Context) → WriterUnlent b.end d.end → d.registrations ≡ b.registrations → WriterRegistered a b cx → WriterRegistered a d cx
+still : (a b d : Writer) (cx : Context) → WriterUnlent b.side.end d.side.end → d.side.slots ≡ b.side.slots → WriterRegistered a b cx → WriterRegistered a d cx
 still a b d cx end registrations (inl w) = inl (record {
   ticket = rw registrations w.ticket;
   pending = record {
@@ -32,7 +32,7 @@ still a b d cx end registrations (inl w) = inl (record {
 })
 still a b d cx end registrations (inr away) = inr (away.0, (away.1.0, rw registrations away.1.1, away.1.2))
 
-pending : {A : Type 0} (r : Poll A) (a b d : Writer) (cx : Context) → WriterUnlent b.end d.end → SameWriter b d
+pending : {A : Type 0} (r : Poll A) (a b d : Writer) (cx : Context) → WriterUnlent b.side.end d.side.end → SameWriter b d
     → OnPending r (FillPends a b cx) → OnPending r (FillPends a d cx)
 pending (Ready x) a b d cx end rest h = tt
 pending Pending a b d cx end rest h = record {
@@ -42,7 +42,7 @@ pending Pending a b d cx end rest h = record {
 }
 
 -- and the whole fill waits as it did
-pub stays_waiting : {E : Type 0} (r : Poll (Result ℕ (Inner E))) (a b d : Writer) (old left : Context) → WriterUnlent b.end d.end → SameWriter b d
+pub stays_waiting : {E : Type 0} (r : Poll (Result ℕ (Inner E))) (a b d : Writer) (old left : Context) → WriterUnlent b.side.end d.side.end → SameWriter b d
     → FillsWaiting r a b old left → FillsWaiting r a d old left
 stays_waiting r a b d old left end rest h = record {
   draws = draws r a b d end rest h.draws;

@@ -17,12 +17,12 @@ use Rattle.piper.specs.declared.handles.Reader.{Reader}
 use Rattle.piper.specs.declared.handles.Writer.{Writer}
 
 -- a drain of none into a slice that has room found none
-found_none : (n : ℕ) (a b : Reader) (old new : List ℕ) → Drained n a b old new → n ≡ 0 → 0 < length old → found_len a.end b.end ≡ 0
+found_none : (n : ℕ) (a b : Reader) (old new : List ℕ) → Drained n a b old new → n ≡ 0 → 0 < length old → found_len a.side.end b.side.end ≡ 0
 found_none n a b old new d none some =
-    omega (arith, ap length d.taken, length-append a.end.taken (take n new), length-take n new, none, ap length (d.most (omega (arith, none, some))))
+    omega (arith, ap length d.taken, length-append a.side.end.taken (take n new), length-take n new, none, ap length (d.most (omega (arith, none, some))))
 
 pub reads : {E : Type 0} (r : Poll (Result ℕ E)) (a b : Reader) (old new : List ℕ) → DrainsSlice r a b old new → DrainsEnd r a b
-    → Reads r old new a.end.taken b.end.taken b.end.saw
+    → Reads r old new a.side.end.taken b.side.end.taken b.side.end.saw
 reads (Ready (Ok n)) a b old new d e = (d.count, d.taken, d.rest, λ none some. (e.end (found_none n a b old new d none some)).saw)
 reads (Ready (Err x)) a b old new d e = (d.0.taken, d.1)
 reads Pending a b old new d e = (d.0.taken, d.1)
@@ -48,12 +48,12 @@ waits_or_asks zero f none some = registered_or_asked f (none refl)
 waits_or_asks (suc found) f none some = inr (some (omega arith))
 
 pub read_pends : {E : Type 0} (r : Poll (Result ℕ E)) (a b : Reader) (cx : Context) → SameReaderButMoved a b → OnPending r (DrainPends a b cx)
-    → OnPending r (Covers cx (λ s. s ≡ read_source b) × (a.end.told_shut ≡ true → AsksAgain cx) × ReaderIsWaiting b cx)
+    → OnPending r (Covers cx (λ s. s ≡ read_source b) × (a.side.end.told_shut ≡ true → AsksAgain cx) × ReaderIsWaiting b cx)
 read_pends (Ready x) a b cx same h = tt
 read_pends Pending a b cx same h = (
-  rw same.slots h.covered,
-  λ told. asks (found_len a.end b.end) b.end.told_shut _ _ h.unseen h.yields (same.end.end.told_shut ∙ told),
-  waits_or_asks (found_len a.end b.end) (λ (w : ReaderWaits a b cx). w.pending) h.registered h.yields,
+  rw same.slots.1 h.covered,
+  λ told. asks (found_len a.side.end b.side.end) b.side.end.told_shut _ _ h.unseen h.yields (same.end.end.told_shut ∙ told),
+  waits_or_asks (found_len a.side.end b.side.end) (λ (w : ReaderWaits a b cx). w.pending) h.registered h.yields,
 )
 
 -- a poll that is pending is registered, or asked for another one
@@ -67,7 +67,7 @@ as_many before after xs m n le within p q =
     omega (arith, ap length p, ap length q, length-append before (take m xs), length-append before (take n xs), length-take-le m xs (omega (arith, le, within)), length-take-le n xs within)
 
 writes_some : (n : ℕ) (a b : Writer) (bytes : List ℕ) → Filled n a b bytes
-    → (n ≤ length bytes) × ((m : ℕ) × (m ≤ n) × (b.end.sent ≡ a.end.sent ++ take m bytes) × (b.end.saw ≡ false → m ≡ n) × (n ≤ m + MOST_A_ROUND))
+    → (n ≤ length bytes) × ((m : ℕ) × (m ≤ n) × (b.side.end.sent ≡ a.side.end.sent ++ take m bytes) × (b.side.end.saw ≡ false → m ≡ n) × (n ≤ m + MOST_A_ROUND))
 writes_some n a b bytes f =
     let m : ℕ = f.front.0 in (
       f.count,
@@ -75,19 +75,19 @@ writes_some n a b bytes f =
         m,
         f.front.1,
         f.front.2,
-        λ unseen. as_many a.end.sent b.end.sent bytes m n f.front.1 f.count f.front.2 (f.all unseen),
-        omega (arith, f.last, ap length f.front.2, length-append a.end.sent (take m bytes), length-take m bytes),
+        λ unseen. as_many a.side.end.sent b.side.end.sent bytes m n f.front.1 f.count f.front.2 (f.all unseen),
+        omega (arith, f.last, ap length f.front.2, length-append a.side.end.sent (take m bytes), length-take m bytes),
       ),
     )
 
 pub writes : {E : Type 0} (r : Poll (Result ℕ E)) (a b : Writer) (bytes : List ℕ) → FillsSlice r a b bytes
-    → Writes r bytes a.end.sent b.end.sent b.end.saw
+    → Writes r bytes a.side.end.sent b.side.end.sent b.side.end.saw
 writes (Ready (Ok n)) a b bytes f = writes_some n a b bytes f.0
 writes (Ready (Err x)) a b bytes f = f.sent
 writes Pending a b bytes f = f.sent
 
 pub write_full : {E : Type 0} (r : Poll (Result ℕ E)) (a b : Writer) (bytes : List ℕ) → FillsSlice r a b bytes
-    → r ≡ Ready (Ok 0) → 0 < length bytes → b.end.saw ≡ true
+    → r ≡ Ready (Ok 0) → 0 < length bytes → b.side.end.saw ≡ true
 write_full (Ready (Ok n)) a b bytes f told some = f.1 (cc) some
 write_full (Ready (Err x)) a b bytes f told some = absurd (cc)
 write_full Pending a b bytes f told some = absurd (cc)
@@ -96,6 +96,6 @@ pub write_pends : {E : Type 0} (r : Poll (Result ℕ E)) (a b : Writer) (cx : Co
     → OnPending r (Covers cx (λ s. s ≡ write_source b) × WriterIsWaiting b cx)
 write_pends (Ready x) a b cx same h = tt
 write_pends Pending a b cx same h = (
-  rw same.slots h.covered,
-  waits_or_asks b.end.room (λ (w : WriterWaits a b cx). w.pending) h.registered h.yields,
+  rw same.slots.1 h.covered,
+  waits_or_asks b.side.end.room (λ (w : WriterWaits a b cx). w.pending) h.registered h.yields,
 )

@@ -31,20 +31,20 @@ lost_one a b published lost n most sent count last =
     omega (arith, ap length sent, length-append a published, length-append published lost, count, last)
 
 -- the bytes of a slice that were counted, and those of them that were published
-module _ (bytes published lost rest : List ℕ) (a b : Writer) (n : ℕ) (given : bytes ≡ (published ++ lost) ++ rest) (count : length (published ++ lost) ≡ n) (sent : b.end.sent ≡ a.end.sent ++ published) (all : b.end.saw ≡ false → lost ≡ []) (last : length lost ≤ most_of_round b.end) where
-  told : (n ≤ length bytes) × ((m : ℕ) × (m ≤ n) × (b.end.sent ≡ a.end.sent ++ take m bytes) × (b.end.saw ≡ false → m ≡ n) × (n ≤ m + MOST_A_ROUND))
-  told = wrote bytes published lost rest a.end.sent b.end.sent n b.end.saw (room_in_one_piece b.end) given count sent all last
+module _ (bytes published lost rest : List ℕ) (a b : Writer) (n : ℕ) (given : bytes ≡ (published ++ lost) ++ rest) (count : length (published ++ lost) ≡ n) (sent : b.side.end.sent ≡ a.side.end.sent ++ published) (all : b.side.end.saw ≡ false → lost ≡ []) (last : length lost ≤ most_of_round b.side.end) where
+  told : (n ≤ length bytes) × ((m : ℕ) × (m ≤ n) × (b.side.end.sent ≡ a.side.end.sent ++ take m bytes) × (b.side.end.saw ≡ false → m ≡ n) × (n ≤ m + MOST_A_ROUND))
+  told = wrote bytes published lost rest a.side.end.sent b.side.end.sent n b.side.end.saw (room_in_one_piece b.side.end) given count sent all last
 
-  full_is : ((((0 < n) × (b.end.room ≡ 0)) ⊎ (length rest ≡ 0)) ⊎ (b.end.saw ≡ true)) → n < length bytes → b.end.saw ≡ false → b.end.room ≡ 0
+  full_is : ((((0 < n) × (b.side.end.room ≡ 0)) ⊎ (length rest ≡ 0)) ⊎ (b.side.end.saw ≡ true)) → n < length bytes → b.side.end.saw ≡ false → b.side.end.room ≡ 0
   full_is (inl (inl full)) less unseen = full.1
   full_is (inl (inr dry)) less unseen = absurd (omega (arith, less, dry, count, ap length given, length-append (published ++ lost) rest))
   full_is (inr saw) less unseen = absurd (true≢false (sym saw ∙ unseen))
 
-  pub filled_is : (0 < a.end.room → IsReplaced a.end b.end) → (a.end.room ≡ 0 → b.end.saw ≡ false → WriterIsUpToDate b.end) → ((((0 < n) × (b.end.room ≡ 0)) ⊎ (length rest ≡ 0)) ⊎ (b.end.saw ≡ true)) → Filled n a b bytes
+  pub filled_is : (0 < a.side.end.room → IsReplaced a.side.end b.side.end) → (a.side.end.room ≡ 0 → b.side.end.saw ≡ false → WriterIsUpToDate b.side.end) → ((((0 < n) × (b.side.end.room ≡ 0)) ⊎ (length rest ≡ 0)) ⊎ (b.side.end.saw ≡ true)) → Filled n a b bytes
   filled_is room fresh most = record {
     count = told.0;
     front = (told.1.0, told.1.1, told.1.2);
-    all = λ unseen. told.1.2 ∙ ap (λ k. a.end.sent ++ take k bytes) (told.1.3 unseen);
+    all = λ unseen. told.1.2 ∙ ap (λ k. a.side.end.sent ++ take k bytes) (told.1.3 unseen);
     last = lost_one _ _ published lost n _ sent count last;
     room = room;
     fresh = fresh;
@@ -52,15 +52,15 @@ module _ (bytes published lost rest : List ℕ) (a b : Writer) (n : ℕ) (given 
   }
 
   -- none of some only where the pipe is closed
-  pub none_is : ((((0 < n) × (b.end.room ≡ 0)) ⊎ (length rest ≡ 0)) ⊎ (b.end.saw ≡ true)) → n ≡ 0 → 0 < length bytes → b.end.saw ≡ true
+  pub none_is : ((((0 < n) × (b.side.end.room ≡ 0)) ⊎ (length rest ≡ 0)) ⊎ (b.side.end.saw ≡ true)) → n ≡ 0 → 0 < length bytes → b.side.end.saw ≡ true
   none_is (inl (inl full)) zero some = absurd (omega (arith, full.0, zero))
   none_is (inl (inr dry)) zero some = absurd (omega (arith, zero, some, dry, count, ap length given, length-append (published ++ lost) rest))
   none_is (inr saw) zero some = saw
 
 -- where none was given, the writer only looked
-pub looked_only : (a b : Writer) (published lost : List ℕ) → published ++ lost ≡ [] → b.end.sent ≡ a.end.sent ++ published → (0 < a.end.room → IsReplaced a.end b.end) → (a.end.room ≡ 0 → b.end.saw ≡ false → WriterIsUpToDate b.end) → OnlyLooked a b
+pub looked_only : (a b : Writer) (published lost : List ℕ) → published ++ lost ≡ [] → b.side.end.sent ≡ a.side.end.sent ++ published → (0 < a.side.end.room → IsReplaced a.side.end b.side.end) → (a.side.end.room ≡ 0 → b.side.end.saw ≡ false → WriterIsUpToDate b.side.end) → OnlyLooked a b
 looked_only a b published lost none sent room fresh = record {
-  sent = sent ∙ ap (λ xs. a.end.sent ++ xs) (nil_from_length published (omega (arith, ap length none, length-append published lost))) ∙ append-nil a.end.sent;
+  sent = sent ∙ ap (λ xs. a.side.end.sent ++ xs) (nil_from_length published (omega (arith, ap length none, length-append published lost))) ∙ append-nil a.side.end.sent;
   room = room;
   fresh = fresh;
 }

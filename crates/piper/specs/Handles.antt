@@ -6,37 +6,36 @@ use Rattle.piper_ring.specs.LendsBuffer.{with_lent}
 use Rattle.piper_ring.specs.SlotsView.{IsAtRest, IsReaderAtRest, SameReaderLooks, SameReaderPlace, SameWriterLooks, SameWriterPlace}
 use Rattle.piper_ring.specs.Opened.{FreshReadEnd, FreshWriteEnd}
 use Rattle.piper.specs.Generator.{generator}
-use Rattle.piper.specs.Slots.{source_of}
 use Rattle.piper.specs.declared.handles.Reader.{Reader}
 use Rattle.piper.specs.declared.handles.Writer.{Writer}
 use Rattle.piper.specs.contracts.handles.Writer.{the_row}
 
 -- the handles of one pipe: each wakes the other's slot
 pub record ArePair (reader : Reader) (writer : Writer) : Type 0 where
-  pub ring : writer.end.ring ≡ reader.end.ring
-  pub cells : writer.slots.cells ≡ reader.slots.cells
+  pub ring : writer.side.end.ring ≡ reader.side.end.ring
+  pub cells : writer.side.cells ≡ reader.side.cells
 
 -- the source at which a task waits that polls the reader
 abbrev pub read_source : Reader → ℕ
-read_source reader = source_of reader.slots
+read_source reader = reader.source.id
 
 -- the source at which a task waits that polls the writer
 abbrev pub write_source : Writer → ℕ
-write_source writer = source_of writer.slots
+write_source writer = writer.source.id
 
 -- the reader checked the writer's slot after all that it consumed, and took who waited there
 abbrev pub NotifiesWriter : Reader → Type 0
-NotifiesWriter reader = IsReaderAtRest reader.end reader.registrations
+NotifiesWriter reader = IsReaderAtRest reader.side.end reader.side.slots
 
 -- the writer checked the reader's slot after all that it published, and after its close where it
 -- closed the pipe, and took who waited there
 abbrev pub NotifiesReader : Writer → Type 0
-NotifiesReader writer = IsAtRest writer.end writer.registrations
+NotifiesReader writer = IsAtRest writer.side.end writer.side.slots
 
 -- the handles of a pipe that was just opened: nothing was stored, and nobody waits
 pub record AreFresh (cap : ℕ) (r : Reader) (w : Writer) : Type 0 where
-  pub reader : FreshReadEnd cap r.end
-  pub writer : FreshWriteEnd cap w.end
+  pub reader : FreshReadEnd cap r.side.end
+  pub writer : FreshWriteEnd cap w.side.end
   pub woken : NotifiesWriter r × NotifiesReader w
 
 -- the generators of the handles, before their first draw
@@ -46,45 +45,46 @@ pub record DrawFrom (seed : ℕ) (r : Reader) (w : Writer) : Type 0 where
 
 -- b waits as a does and wakes at the slots of a, and draws the same numbers next
 pub record SameReaderButWoke (a b : Reader) : Type 0 where
-  pub slots : b.slots ≡ a.slots
+  pub slots : (b.side.cells ≡ a.side.cells) × (b.source ≡ a.source)
   pub rng : b.rng ≡ a.rng
-  pub waits : SameReaderPlace a.registrations b.registrations
+  pub waits : SameReaderPlace a.side.slots b.side.slots
 
 pub record SameWriterButWoke (a b : Writer) : Type 0 where
-  pub slots : b.slots ≡ a.slots
+  pub slots : (b.side.cells ≡ a.side.cells) × (b.source ≡ a.source)
   pub rng : b.rng ≡ a.rng
-  pub waits : SameWriterPlace a.registrations b.registrations
+  pub waits : SameWriterPlace a.side.slots b.side.slots
 
 -- since a, b may have woken the other side again, and may wait otherwise
 pub record SameReaderButWaits (a b : Reader) : Type 0 where
-  pub slots : b.slots ≡ a.slots
+  pub slots : (b.side.cells ≡ a.side.cells) × (b.source ≡ a.source)
   pub rng : b.rng ≡ a.rng
-  pub looks : SameReaderLooks a.registrations b.registrations
+  pub looks : SameReaderLooks a.side.slots b.side.slots
 
 pub record SameWriterButWaits (a b : Writer) : Type 0 where
-  pub slots : b.slots ≡ a.slots
+  pub slots : (b.side.cells ≡ a.side.cells) × (b.source ≡ a.source)
   pub rng : b.rng ≡ a.rng
-  pub looks : SameWriterLooks a.registrations b.registrations
+  pub looks : SameWriterLooks a.side.slots b.side.slots
 
 -- b may wait otherwise, and have woken the other side since
 pub record SameWriterButSlots (a b : Writer) : Type 0 where
-  pub slots : b.slots ≡ a.slots
+  pub slots : (b.side.cells ≡ a.side.cells) × (b.source ≡ a.source)
   pub rng : b.rng ≡ a.rng
 
 -- b waits as a does, and since a may have woken the other side again
 pub record SameReader (a b : Reader) : Type 0 where
-  pub slots : b.slots ≡ a.slots
+  pub slots : (b.side.cells ≡ a.side.cells) × (b.source ≡ a.source)
   pub rng : b.rng ≡ a.rng
-  pub registrations : b.registrations ≡ a.registrations
+  pub registrations : b.side.slots ≡ a.side.slots
 
 pub record SameWriter (a b : Writer) : Type 0 where
-  pub slots : b.slots ≡ a.slots
+  pub slots : (b.side.cells ≡ a.side.cells) × (b.source ≡ a.source)
   pub rng : b.rng ≡ a.rng
-  pub registrations : b.registrations ≡ a.registrations
+  pub registrations : b.side.slots ≡ a.side.slots
 
 -- the handle that writes, once a `&mut` into the slice that
 -- it lent has ended: what is lent holds what was written there
 abbrev pub lends_room : MutBor Writer → MutBor (List ℕ) → Fml
 lends_room writer room =
     Lends the_row (Array u8 0) writer room
-    (λ bytes. record writer.now { end = with_lent writer.now.end room.now bytes })
+    (λ bytes. record writer.now
+    { side = record writer.now.side { end = with_lent writer.now.side.end room.now bytes } })

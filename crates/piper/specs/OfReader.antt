@@ -6,40 +6,40 @@ use Rattle.piper.specs.declared.handles.Reader.{Reader}
 
 -- its end of the ring
 abbrev pub end_of : Reader → ReadView
-end_of reader = reader.end
+end_of reader = reader.side.end
 
 -- of which pipe it is
 abbrev pub ring : Reader → Ring
-ring reader = reader.end.ring
+ring reader = reader.side.end.ring
 
 -- how many bytes the pipe can hold
 abbrev pub capacity : Reader → ℕ
-capacity reader = reader.end.capacity
+capacity reader = reader.side.end.capacity
 
 -- all bytes that it consumed
 abbrev pub taken : Reader → List ℕ
-taken reader = reader.end.taken
+taken reader = reader.side.end.taken
 
 -- the bytes that it knows of, the next one first
 abbrev pub known : Reader → List ℕ
-known reader = reader.end.known
+known reader = reader.side.end.known
 
 -- how many of these are contiguous
 abbrev pub front : Reader → ℕ
-front reader = in_one_piece reader.end
+front reader = in_one_piece reader.side.end
 
 -- whether a call of its own saw the pipe closed
 abbrev pub saw : Reader → Bool
-saw reader = reader.end.saw
+saw reader = reader.side.end.saw
 
 -- how many published bytes marks reported to it, and whether one reported that the writer closed
 -- the pipe
 abbrev pub told : Reader → ℕ
-told reader = reader.end.told
+told reader = reader.side.end.told
 
 abbrev pub told_shut : Reader → Bool
-told_shut reader = reader.end.told_shut
+told_shut reader = reader.side.end.told_shut
 
 -- all bytes that were ever published, once it knows that the pipe is closed
 abbrev pub all : Reader → List ℕ
-all reader = reader.end.all
+all reader = reader.side.end.all

@@ -6,36 +6,36 @@ use Rattle.piper.specs.declared.handles.Writer.{Writer}
 
 -- its end of the ring
 abbrev pub end_of : Writer → WriteView
-end_of writer = writer.end
+end_of writer = writer.side.end
 
 -- of which pipe it is
 abbrev pub ring : Writer → Ring
-ring writer = writer.end.ring
+ring writer = writer.side.end.ring
 
 -- how many bytes the pipe can hold
 abbrev pub capacity : Writer → ℕ
-capacity writer = writer.end.capacity
+capacity writer = writer.side.end.capacity
 
 -- all bytes that it published
 abbrev pub sent : Writer → List ℕ
-sent writer = writer.end.sent
+sent writer = writer.side.end.sent
 
 -- how many bytes it knows to have room for
 abbrev pub room : Writer → ℕ
-room writer = writer.end.room
+room writer = writer.side.end.room
 
 -- what is left of the slice last lent, as it is
 abbrev pub lent : Writer → List ℕ
-lent writer = writer.end.lent
+lent writer = writer.side.end.lent
 
 -- whether it closed the pipe for good
 abbrev pub shut : Writer → Bool
-shut writer = writer.end.shut
+shut writer = writer.side.end.shut
 
 -- whether a call of its own saw the pipe closed, or closed it
 abbrev pub saw : Writer → Bool
-saw writer = writer.end.saw
+saw writer = writer.side.end.saw
 
 -- how many consumed bytes marks reported to it
 abbrev pub told : Writer → ℕ
-told writer = writer.end.told
+told writer = writer.side.end.told

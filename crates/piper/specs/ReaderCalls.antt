@@ -22,39 +22,39 @@ use Rattle.piper.specs.Polls.{After, IfReadyErr, IfReadyOk, Lends, TakesNone}
 use Rattle.piper.specs.Waits.{ReaderIsRemembered, ReaderIsWaiting, ReaderPends, WriterIsRemembered, ReaderLeavesNone, ReaderRegistered}
 use Rattle.piper.specs.declared.error.Inner.{Inner}
 use Rattle.piper.specs.declared.error.PipeError.{PipeError}
-use Rattle.piper.specs.declared.finished.FinishedWriter.{FinishedWriter}
+use Rattle.piper_ring.specs.declared.ends.finished.FinishedWriter.{FinishedWriter}
 use Rattle.piper.specs.declared.handles.Reader.{Reader}
 use Rattle.piper.specs.declared.handles.Writer.{Writer}
 
 -- the reader found the end, which is final: it saw the pipe closed, and all that was ever published
 -- has been taken
 abbrev pub AtEnd : Reader → Type 0
-AtEnd reader = IsEnded reader.end
+AtEnd reader = IsEnded reader.side.end
 
 -- n bytes may be unread: all that the reader knows of, all that it was told of, and no more than
 -- fit; and just those up to the end where that is known
 abbrev pub MayBeUnread : Reader → ℕ → Type 0
-MayBeUnread reader n = EndMayHave reader.end n
+MayBeUnread reader n = EndMayHave reader.side.end n
 
 -- what the reader knows to be all that was ever published is so still
 abbrev pub KeepsAll : Reader → Reader → Type 0
-KeepsAll a b = KnowsEnd a.end → b.end.all ≡ a.end.all
+KeepsAll a b = KnowsEnd a.side.end → b.side.end.all ≡ a.side.end.all
 
 -- the reader looked, which takes no byte
 abbrev pub Looks : Reader → Reader → Type 0
-Looks a b = ReaderLooked a.end b.end
+Looks a b = ReaderLooked a.side.end b.side.end
 
 -- a poll looked, which takes no byte, and returns what it found; where that is a byte, it leaves no
 -- waker in its slot
 pub record Polled {E : Type 0} (r : Poll (Result Bool E)) (a b : Reader) : Type 0 where
-  pub found : ReaderFound r b.end
-  pub looked : ReaderLooked a.end b.end
+  pub found : ReaderFound r b.side.end
+  pub looked : ReaderLooked a.side.end b.side.end
   pub leaves : IfReadyOk r (λ some. some ≡ true → ReaderLeavesNone b)
 
 -- once the end was reported a poll reports it again, or is refused memory; and what the reader knows
 -- to be all is all
 pub record PollsEnd {A E : Type 0} (r : Poll (Result A E)) (a b : Reader) : Type 0 where
-  pub after : AtEnd a → After r (AtEnd b) b.end.known
+  pub after : AtEnd a → After r (AtEnd b) b.side.end.known
   pub all : KeepsAll a b
 
 -- a poll lent the first piece of the known bytes: no byte was taken; an empty piece is the end,
@@ -62,22 +62,22 @@ pub record PollsEnd {A E : Type 0} (r : Poll (Result A E)) (a b : Reader) : Type
 abbrev pub LendsPiece : Poll (Result (Bor (List ℕ)) PipeError)
     → Reader → Reader → Context → Type 0
 LendsPiece r a b cx =
-    Lends r b.end.known (in_one_piece b.end) b.end.saw
+    Lends r b.side.end.known (in_one_piece b.side.end) b.side.end.saw
     × IfReadyOk r (λ lent. length lent.now ≡ 0 → AtEnd b)
-    × (AtEnd a → After r (AtEnd b) b.end.known)
-    × StartsWith b.end.known a.end.known
-    × (b.end.taken ≡ a.end.taken)
-    × (a.end.saw ≡ true → b.end.saw ≡ true)
+    × (AtEnd a → After r (AtEnd b) b.side.end.known)
+    × StartsWith b.side.end.known a.side.end.known
+    × (b.side.end.taken ≡ a.side.end.taken)
+    × (a.side.end.saw ≡ true → b.side.end.saw ≡ true)
     × IfReadyErr r (WantsWaker cx)
-    × (b.end.told_shut ≡ a.end.told_shut)
-    × OnPending r ((b.end.told_shut ≡ false) × ReaderIsWaiting b cx)
+    × (b.side.end.told_shut ≡ a.side.end.told_shut)
+    × OnPending r ((b.side.end.told_shut ≡ false) × ReaderIsWaiting b cx)
     × OnPending r (Covers cx (λ s. s ≡ read_source b))
     × (NotifiesWriter a → NotifiesWriter b)
 
 -- and else it is `poll`: it looked, and where it is pending it waits as that does
 pub record PollsPiece (r : Poll (Result (Bor (List ℕ)) PipeError)) (a b : Reader) (cx : Context)
     : Type 0 where
-  pub looked : ReaderLooked a.end b.end
+  pub looked : ReaderLooked a.side.end b.side.end
   pub pending : OnPending r (ReaderPends a b cx)
   pub all : KeepsAll a b
   pub rest : SameReaderButWaits a b
@@ -87,16 +87,16 @@ pub record PollsPiece (r : Poll (Result (Bor (List ℕ)) PipeError)) (a b : Read
 pub record Drained (n : ℕ) (a b : Reader) (old new : List ℕ) : Type 0 where
   pub count : n ≤ length old
   pub rest : drop n new ≡ drop n old
-  pub taken : b.end.taken ≡ a.end.taken ++ take n new
-  pub known : 0 < length a.end.known → take n new ++ b.end.known ≡ a.end.known
-  pub fresh : a.end.known ≡ [] → ReaderIsUpToDate b.end
-  pub most : n < length old → b.end.known ≡ []
+  pub taken : b.side.end.taken ≡ a.side.end.taken ++ take n new
+  pub known : 0 < length a.side.end.known → take n new ++ b.side.end.known ≡ a.side.end.known
+  pub fresh : a.side.end.known ≡ [] → ReaderIsUpToDate b.side.end
+  pub most : n < length old → b.side.end.known ≡ []
 
 -- nothing was taken, and what was known is known; where none was, the reader looked for more
 pub record OnlyLooked (a b : Reader) : Type 0 where
-  pub taken : b.end.taken ≡ a.end.taken
-  pub known : 0 < length a.end.known → b.end.known ≡ a.end.known
-  pub fresh : a.end.known ≡ [] → ReaderIsUpToDate b.end
+  pub taken : b.side.end.taken ≡ a.side.end.taken
+  pub known : 0 < length a.side.end.known → b.side.end.known ≡ a.side.end.known
+  pub fresh : a.side.end.known ≡ [] → ReaderIsUpToDate b.side.end
 
 -- a drain into a slice drained as many bytes as it returns; else it looked, and moved nothing
 abbrev pub DrainsSlice : {E : Type 0} → Poll (Result ℕ E) → Reader → Reader
@@ -107,18 +107,18 @@ DrainsSlice other a b old new = OnlyLooked a b × (new ≡ old)
 -- a drain into any destination, and into a writer of std
 abbrev pub DrainsLike : {S E : Type 0} → Passes S → (S → Type 0) → (S → E → S → Type 0)
     → Poll (Result ℕ (Inner E)) → Reader → Reader → S → S → Type 0
-DrainsLike takes is_full fails r a b s t = Drains takes is_full fails r a.end b.end s t
+DrainsLike takes is_full fails r a b s t = Drains takes is_full fails r a.side.end b.side.end s t
 
 abbrev pub DrainsStd : {S E : Type 0} → (S → Option (List ℕ)) → (S → Type 0)
     → (S → E → S → Type 0) → Poll (Result ℕ (Inner E)) → Reader → Reader → S → S → Type 0
 DrainsStd contents is_full fails r a b s t =
-    Drains (appends_to contents) is_full fails r a.end b.end s t
+    Drains (appends_to contents) is_full fails r a.side.end b.side.end s t
 
 -- a drain that returns a count found a byte, or the end; and once the end was reported it takes
 -- nothing and doesn't wait. What the reader knows to be all is all
 pub record DrainsEnd {E : Type 0} (r : Poll (Result ℕ E)) (a b : Reader) : Type 0 where
-  pub end : EndIsTrue r a.end b.end
-  pub after : AtEnd a → TakesNone r (AtEnd b) a.end.taken b.end.taken
+  pub end : EndIsTrue r a.side.end b.side.end
+  pub after : AtEnd a → TakesNone r (AtEnd b) a.side.end.taken b.side.end.taken
   pub all : KeepsAll a b
 
 -- the same of a drain that doesn't wait
@@ -129,14 +129,14 @@ pub record KeepsEnd (a b : Reader) : Type 0 where
 -- a drain that is pending: it found no byte, neither saw the pipe closed nor was told so, and waits
 -- as a poll does; or it found one and asked for another poll itself
 pub record DrainPends (a b : Reader) (cx : Context) : Type 0 where
-  pub unseen : found_len a.end b.end ≡ 0 → (b.end.saw ≡ false) × (b.end.told_shut ≡ false)
-  pub yields : 0 < found_len a.end b.end → AsksAgain cx
+  pub unseen : found_len a.side.end b.side.end ≡ 0 → (b.side.end.saw ≡ false) × (b.side.end.told_shut ≡ false)
+  pub yields : 0 < found_len a.side.end b.side.end → AsksAgain cx
   pub covered : Covers cx (λ s. s ≡ read_source a)
-  pub registered : found_len a.end b.end ≡ 0 → ReaderRegistered a b cx
+  pub registered : found_len a.side.end b.side.end ≡ 0 → ReaderRegistered a b cx
 
 -- a drain draws from the reader's generator exactly where it found a byte, and yields by that draw
 abbrev pub DrawsToYield : {E : Type 0} → Poll (Result ℕ E) → Reader → Reader → Type 0
-DrawsToYield r a b = Draws (0 < found_len a.end b.end) r a.rng b.rng
+DrawsToYield r a b = Draws (0 < found_len a.side.end b.side.end) r a.rng b.rng
 
 -- with a context a drain draws, waits, and is refused memory only for its waker
 pub record DrainsWaiting {E : Type 0} (r : Poll (Result ℕ (Inner E)))
@@ -149,10 +149,10 @@ pub record DrainsWaiting {E : Type 0} (r : Poll (Result ℕ (Inner E)))
 -- without one it doesn't draw, is pending only where it found no byte and the pipe open, is refused
 -- no memory, and waits as it did
 pub record DrainsAtOnce {E : Type 0} (r : Poll (Result ℕ (Inner E))) (a b : Reader) : Type 0 where
-  pub undrawn : Undrawn (0 < found_len a.end b.end) r a.rng b.rng
-  pub unseen : EndIsUnseen r a.end b.end
+  pub undrawn : Undrawn (0 < found_len a.side.end b.side.end) r a.rng b.rng
+  pub unseen : EndIsUnseen r a.side.end b.side.end
   pub memory : OnMemory r ⊥
-  pub place : SameReaderPlace a.registrations b.registrations
+  pub place : SameReaderPlace a.side.slots b.side.slots
 
 -- who was woken after all that the reader had consumed, was so after all that it consumed since
 abbrev pub WakesWriter : Reader → Reader → Type 0
@@ -161,62 +161,62 @@ WakesWriter a b = NotifiesWriter a → NotifiesWriter b
 -- the same reader of the same pipe, but for bytes that it took and knows of, for how it waits, and
 -- for what its generator draws next: it may have seen closed now
 pub record SameReaderButMoved (a b : Reader) : Type 0 where
-  pub slots : b.slots ≡ a.slots
-  pub end : ReaderCopied a.end b.end
+  pub slots : (b.side.cells ≡ a.side.cells) × (b.source ≡ a.source)
+  pub end : ReaderCopied a.side.end b.side.end
 
 -- and it waits as it did, and draws the same numbers next
 pub record SameReaderButTried (a b : Reader) : Type 0 where
   pub handle : SameReaderButWoke a b
-  pub end : ReaderCopied a.end b.end
+  pub end : ReaderCopied a.side.end b.side.end
 
 -- the reader, but for the bytes that it took and knows of
 pub record SameReaderButConsumed (a b : Reader) : Type 0 where
   pub handle : SameReaderButWoke a b
-  pub end : ReaderConsumed a.end b.end
-  pub all : b.end.all ≡ a.end.all
+  pub end : ReaderConsumed a.side.end b.side.end
+  pub all : b.side.end.all ≡ a.side.end.all
 
 -- the reader learned that these bytes are all that was ever published: what it took and knows of is
 -- their front
 pub record KnowsAll (r : Reader) (bytes : List ℕ) : Type 0 where
-  pub all : r.end.all ≡ bytes
-  pub rest : (xs : List ℕ) × ((r.end.taken ++ r.end.known) ++ xs ≡ bytes)
+  pub all : r.side.end.all ≡ bytes
+  pub rest : (xs : List ℕ) × ((r.side.end.taken ++ r.side.end.known) ++ xs ≡ bytes)
 
 -- where the reader was pending in its slot, the writer took its last waker and woke it as it left
 abbrev pub WasWoken : Reader → FinishedWriter → Type 0
 WasWoken reader left =
-    IsPending reader.end reader.registrations
-    → left.registrations.taken ≡ reader.registrations.tickets
+    IsPending reader.side.end reader.side.slots
+    → left.slots.taken ≡ reader.side.slots.tickets
 
 -- the reader, but for what marks reported to it
 pub record SameReaderButTold (a b : Reader) : Type 0 where
-  pub end : ReaderHeeded a.end b.end
+  pub end : ReaderHeeded a.side.end b.side.end
   pub handle : SameReader a b
 
 -- where two handles met: what each of them knows of more than before
 pub record MeetMore (a b : Reader) (c d : Writer) : Type 0 where
-  pub known : (xs : List ℕ) × (b.end.known ≡ a.end.known ++ xs)
-  pub room : c.end.room ≤ d.end.room
+  pub known : (xs : List ℕ) × (b.side.end.known ≡ a.side.end.known ++ xs)
+  pub room : c.side.end.room ≤ d.side.end.room
   pub all : KeepsAll a b
 
 -- and that the writer closed the pipe, where one of them saw it closed: then all is what it sent
 pub record MeetClosed (b : Reader) (d : Writer) : Type 0 where
-  pub reader : b.end.saw ≡ true → d.end.shut ≡ true
-  pub writer : d.end.saw ≡ true → d.end.shut ≡ true
-  pub all : KnowsEnd b.end → b.end.all ≡ d.end.sent
+  pub reader : b.side.end.saw ≡ true → d.side.end.shut ≡ true
+  pub writer : d.side.end.saw ≡ true → d.side.end.shut ≡ true
+  pub all : KnowsEnd b.side.end → b.side.end.all ≡ d.side.end.sent
 
 -- and that the reader is not forgotten: where it was pending, and the writer checked its slot after
 -- its last store, the writer took and woke its waker since, or the reader has nothing to do
 abbrev pub MeetReader : Reader → Reader → Writer → Type 0
 MeetReader a b writer =
-    IsPending a.end a.registrations → NotifiesReader writer → ReaderIsRemembered a b writer
+    IsPending a.side.end a.side.slots → NotifiesReader writer → ReaderIsRemembered a b writer
 
 -- nor the writer
 abbrev pub MeetWriter : Writer → Writer → Reader → Type 0
 MeetWriter a b reader =
-    IsWriterPending a.end a.registrations → NotifiesWriter reader → WriterIsRemembered a b reader
+    IsWriterPending a.side.end a.side.slots → NotifiesWriter reader → WriterIsRemembered a b reader
 
 -- and both are else as they were
 pub record MeetSame (a b : Reader) (c d : Writer) : Type 0 where
-  pub reader : ReaderRefreshed a.end b.end
-  pub writer : WriterRefreshed c.end d.end
+  pub reader : ReaderRefreshed a.side.end b.side.end
+  pub writer : WriterRefreshed c.side.end d.side.end
   pub handles : SameReader a b × SameWriter c d

@@ -9,39 +9,39 @@ use Rattle.piper.specs.Handles.{read_source, write_source}
 use Rattle.piper.specs.Looks.{NothingYet}
 use Rattle.piper.specs.declared.handles.Reader.{Reader}
 use Rattle.piper.specs.declared.handles.Writer.{Writer}
-use Rattle.piper.specs.declared.finished.FinishedReader.{FinishedReader}
-use Rattle.piper.specs.declared.finished.FinishedWriter.{FinishedWriter}
+use Rattle.piper_ring.specs.declared.ends.finished.FinishedReader.{FinishedReader}
+use Rattle.piper_ring.specs.declared.ends.finished.FinishedWriter.{FinishedWriter}
 
 -- the reader waits: since a it has registered in its slot, under a new ticket, and its look after
 -- that found nothing to do; its task didn't ask for another poll itself
 pub record ReaderWaits (a b : Reader) (cx : Context) : Type 0 where
-  pub ticket : b.registrations.tickets ≡ a.registrations.tickets + 1
-  pub pending : IsPending b.end b.registrations
-  pub calm : IsCalm a.registrations.owns cx
+  pub ticket : b.side.slots.tickets ≡ a.side.slots.tickets + 1
+  pub pending : IsPending b.side.end b.side.slots
+  pub calm : IsCalm a.side.slots.owns cx
 
 -- the writer waits
 pub record WriterWaits (a b : Writer) (cx : Context) : Type 0 where
-  pub ticket : b.registrations.tickets ≡ a.registrations.tickets + 1
-  pub pending : IsWriterPending b.end b.registrations
-  pub calm : IsCalm a.registrations.owns cx
+  pub ticket : b.side.slots.tickets ≡ a.side.slots.tickets + 1
+  pub pending : IsWriterPending b.side.end b.side.slots
+  pub calm : IsCalm a.side.slots.owns cx
 
 -- the place of the side's waker is with the other side, or on its way back, before and after the
 -- call, which looked for it: so no waker could be left there
 abbrev pub ReaderIsAway : Reader → Reader → Type 0
 ReaderIsAway a b =
-    (a.registrations.owns ≡ false) × (b.registrations.owns ≡ false) × IsAway a.registrations.names
+    (a.side.slots.owns ≡ false) × (b.side.slots.owns ≡ false) × IsAway a.side.slots.names
 
 abbrev pub WriterIsAway : Writer → Writer → Type 0
 WriterIsAway a b =
-    (a.registrations.owns ≡ false) × (b.registrations.owns ≡ false) × IsAway a.registrations.names
+    (a.side.slots.owns ≡ false) × (b.side.slots.owns ≡ false) × IsAway a.side.slots.names
 
 -- no waker of the side's is left in its slot: none was registered, or it was taken back, or found to
 -- be gone
 abbrev pub ReaderLeavesNone : Reader → Type 0
-ReaderLeavesNone reader = reader.registrations.maybe_registered ≡ false
+ReaderLeavesNone reader = reader.side.slots.maybe_registered ≡ false
 
 abbrev pub WriterLeavesNone : Writer → Type 0
-WriterLeavesNone writer = writer.registrations.maybe_registered ≡ false
+WriterLeavesNone writer = writer.side.slots.maybe_registered ≡ false
 
 -- a reader that has nothing to do waits in its slot; only where its place is away its task asked for
 -- another poll itself
@@ -54,7 +54,7 @@ WriterRegistered a b cx = WriterWaits a b cx ⊎ (AsksAgain cx × WriterIsAway a
 -- a reader whose poll is pending: there is nothing to do yet; its task is armed at the reader's
 -- source, and is registered there, or asked for another poll itself since its place is away
 pub record ReaderPends (a b : Reader) (cx : Context) : Type 0 where
-  pub nothing : NothingYet b.end
+  pub nothing : NothingYet b.side.end
   pub covered : Covers cx (λ s. s ≡ read_source a)
   pub registered : ReaderRegistered a b cx
 
@@ -65,34 +65,34 @@ pub record WriterPends (a b : Writer) (cx : Context) : Type 0 where
 -- why a call of a trait is pending: the reader is registered and has nothing to do, or its task asked
 -- for another poll itself
 abbrev pub ReaderIsWaiting : Reader → Context → Type 0
-ReaderIsWaiting r cx = IsPending r.end r.registrations ⊎ AsksAgain cx
+ReaderIsWaiting r cx = IsPending r.side.end r.side.slots ⊎ AsksAgain cx
 
 abbrev pub WriterIsWaiting : Writer → Context → Type 0
-WriterIsWaiting w cx = IsWriterPending w.end w.registrations ⊎ AsksAgain cx
+WriterIsWaiting w cx = IsWriterPending w.side.end w.side.slots ⊎ AsksAgain cx
 
 -- once a reader met its writer as b: the writer took its last ticket,
 -- or the reader has nothing to do, since no byte is unread and the pipe is open
 abbrev pub ReaderIsRemembered : Reader → Reader → Writer → Type 0
 ReaderIsRemembered a b writer =
-    (writer.registrations.taken ≡ a.registrations.tickets)
-    ⊎ ((b.end.known ≡ []) × (writer.end.shut ≡ false))
+    (writer.side.slots.taken ≡ a.side.slots.tickets)
+    ⊎ ((b.side.end.known ≡ []) × (writer.side.end.shut ≡ false))
 
 -- once a writer met its reader as b: the reader took its last ticket,
 -- or the writer has nothing to do, since there is no room and the pipe is open
 abbrev pub WriterIsRemembered : Writer → Writer → Reader → Type 0
 WriterIsRemembered a b reader =
-    (reader.registrations.taken ≡ a.registrations.tickets)
-    ⊎ ((b.end.room ≡ 0) × (b.end.shut ≡ false))
+    (reader.side.slots.taken ≡ a.side.slots.tickets)
+    ⊎ ((b.side.end.room ≡ 0) × (b.side.end.shut ≡ false))
 
 -- after the close by which it left, the reader checked the writer's slot
 pub record ReaderWokeLast (reader : Reader) (left : FinishedReader) : Type 0 where
-  pub count : left.registrations.count ≡ length reader.end.taken
-  pub over : left.registrations.over ≡ true
+  pub count : left.slots.count ≡ length reader.side.end.taken
+  pub over : left.slots.over ≡ true
 
 -- after the close by which it left, the writer checked the reader's slot
 pub record WriterWokeLast (writer : Writer) (left : FinishedWriter) : Type 0 where
-  pub bytes : left.registrations.bytes ≡ writer.end.sent
-  pub shut : left.registrations.shut ≡ true
+  pub bytes : left.slots.bytes ≡ writer.side.end.sent
+  pub shut : left.slots.shut ≡ true
 
 -- `drop` of this handle was called. It is sealed: no proof looks into it, and only those of the two
 -- `leave` use the lemma. So what a clause says of it came from such a call

@@ -20,35 +20,35 @@ use Rattle.piper.specs.Looks.{WriterFound, WriterLooked}
 use Rattle.piper.specs.Polls.{IfReadyOk}
 use Rattle.piper.specs.Waits.{WriterLeavesNone, WriterRegistered}
 use Rattle.piper.specs.declared.error.Inner.{Inner}
-use Rattle.piper.specs.declared.finished.FinishedReader.{FinishedReader}
+use Rattle.piper_ring.specs.declared.ends.finished.FinishedReader.{FinishedReader}
 use Rattle.piper.specs.declared.handles.Writer.{Writer}
 
 -- n bytes may be unread: the room that the writer knows of is free, and the bytes that it was told
 -- of are consumed
 abbrev pub MayBeUnread : Writer → ℕ → Type 0
-MayBeUnread writer n = EndMayHave writer.end n
+MayBeUnread writer n = EndMayHave writer.side.end n
 
 -- a call for at most `max` bytes may lend n: none once the writer closed the pipe, and else all that
 -- is asked for and fits, or as much of it as one call may set to zero: twice what was published and
 -- is lent, and 4,096 more
 abbrev pub MayLend : Writer → ℕ → ℕ → Type 0
-MayLend writer max n = Lendable writer.end max n
+MayLend writer max n = Lendable writer.side.end max n
 
 -- there is room, some is asked for, and the writer didn't close the pipe
 abbrev pub MustLend : Writer → ℕ → Type 0
-MustLend writer max = (writer.end.shut ≡ false) × (0 < writer.end.room) × (0 < max)
+MustLend writer max = (writer.side.end.shut ≡ false) × (0 < writer.side.end.room) × (0 < max)
 
 -- where the writer was pending in its slot, the reader took its last waker and woke it as it left
 abbrev pub WasWoken : Writer → FinishedReader → Type 0
 WasWoken writer left =
-    IsWriterPending writer.end writer.registrations
-    → left.registrations.taken ≡ writer.registrations.tickets
+    IsWriterPending writer.side.end writer.side.slots
+    → left.slots.taken ≡ writer.side.slots.tickets
 
 -- a poll looked, which publishes nothing, and returns what it found; where that is room, it leaves no
 -- waker in its slot
 pub record Polled {E : Type 0} (r : Poll (Result Bool E)) (a b : Writer) : Type 0 where
-  pub found : WriterFound r b.end
-  pub looked : WriterLooked a.end b.end
+  pub found : WriterFound r b.side.end
+  pub looked : WriterLooked a.side.end b.side.end
   pub leaves : IfReadyOk r (λ some. some ≡ true → WriterLeavesNone b)
 
 -- n bytes were taken from the front of a slice, and published: all of them unless the pipe was seen
@@ -56,51 +56,51 @@ pub record Polled {E : Type 0} (r : Poll (Result Bool E)) (a b : Writer) : Type 
 -- looked for where none was known
 pub record Filled (n : ℕ) (a b : Writer) (bytes : List ℕ) : Type 0 where
   pub count : n ≤ length bytes
-  pub front : (m : ℕ) × (m ≤ n) × (b.end.sent ≡ a.end.sent ++ take m bytes)
-  pub all : b.end.saw ≡ false → b.end.sent ≡ a.end.sent ++ take n bytes
-  pub last : LosesOneRound n a.end b.end
-  pub room : 0 < a.end.room → IsReplaced a.end b.end
-  pub fresh : a.end.room ≡ 0 → b.end.saw ≡ false → WriterIsUpToDate b.end
-  pub most : n < length bytes → b.end.saw ≡ false → b.end.room ≡ 0
+  pub front : (m : ℕ) × (m ≤ n) × (b.side.end.sent ≡ a.side.end.sent ++ take m bytes)
+  pub all : b.side.end.saw ≡ false → b.side.end.sent ≡ a.side.end.sent ++ take n bytes
+  pub last : LosesOneRound n a.side.end b.side.end
+  pub room : 0 < a.side.end.room → IsReplaced a.side.end b.side.end
+  pub fresh : a.side.end.room ≡ 0 → b.side.end.saw ≡ false → WriterIsUpToDate b.side.end
+  pub most : n < length bytes → b.side.end.saw ≡ false → b.side.end.room ≡ 0
 
 -- nothing was published, and the room is as it was; where there was none, the writer looked for some
 pub record OnlyLooked (a b : Writer) : Type 0 where
-  pub sent : b.end.sent ≡ a.end.sent
-  pub room : 0 < a.end.room → IsReplaced a.end b.end
-  pub fresh : a.end.room ≡ 0 → b.end.saw ≡ false → WriterIsUpToDate b.end
+  pub sent : b.side.end.sent ≡ a.side.end.sent
+  pub room : 0 < a.side.end.room → IsReplaced a.side.end b.side.end
+  pub fresh : a.side.end.room ≡ 0 → b.side.end.saw ≡ false → WriterIsUpToDate b.side.end
 
 -- a fill from a slice published as many bytes as it returns, and returns 0 only where there are none
 -- or the pipe is closed; else it looked, and moved nothing
 abbrev pub FillsSlice : {E : Type 0} → Poll (Result ℕ E) → Writer → Writer → List ℕ → Type 0
 FillsSlice (Ready (Ok n)) a b bytes =
-    Filled n a b bytes × (n ≡ 0 → 0 < length bytes → b.end.saw ≡ true)
+    Filled n a b bytes × (n ≡ 0 → 0 < length bytes → b.side.end.saw ≡ true)
 FillsSlice other a b bytes = OnlyLooked a b
 
 -- a fill from any source, and from a reader of std
 abbrev pub FillsLike : {S E : Type 0} → Passes S → (S → Type 0) → (S → E → S → Type 0)
     → Poll (Result ℕ (Inner E)) → Writer → Writer → S → S → Type 0
-FillsLike gives is_dry fails r a b s t = Fills gives is_dry fails r a.end b.end s t
+FillsLike gives is_dry fails r a b s t = Fills gives is_dry fails r a.side.end b.side.end s t
 
 abbrev pub FillsStd : {S E : Type 0} → (S → Option (List ℕ)) → (S → E → S → Type 0)
     → Poll (Result ℕ (Inner E)) → Writer → Writer → S → S → Type 0
 FillsStd remaining fails r a b s t =
-    Fills (consumes_of remaining) (λ u. IsAtEnd (remaining u)) fails r a.end b.end s t
+    Fills (consumes_of remaining) (λ u. IsAtEnd (remaining u)) fails r a.side.end b.side.end s t
 
 -- once the pipe was seen closed a fill returns 0, and a call that returns no count saw it open
 pub record FillsEnd {E : Type 0} (r : Poll (Result ℕ E)) (a b : Writer) : Type 0 where
-  pub over : a.end.saw ≡ true → r ≡ Ready (Ok 0)
-  pub unseen : OnNoCount r (b.end.saw ≡ false)
+  pub over : a.side.end.saw ≡ true → r ≡ Ready (Ok 0)
+  pub unseen : OnNoCount r (b.side.end.saw ≡ false)
 
 -- a fill that is pending: it waits as a poll does; or there is room, and it asked for another poll
 -- itself
 pub record FillPends (a b : Writer) (cx : Context) : Type 0 where
-  pub yields : 0 < b.end.room → AsksAgain cx
+  pub yields : 0 < b.side.end.room → AsksAgain cx
   pub covered : Covers cx (λ s. s ≡ write_source a)
-  pub registered : b.end.room ≡ 0 → WriterRegistered a b cx
+  pub registered : b.side.end.room ≡ 0 → WriterRegistered a b cx
 
 -- a fill draws from the writer's generator exactly where it found room, and yields by that draw
 abbrev pub DrawsToYield : {E : Type 0} → Poll (Result ℕ (Inner E)) → Writer → Writer → Type 0
-DrawsToYield r a b = Draws (FoundRoom r b.end) r a.rng b.rng
+DrawsToYield r a b = Draws (FoundRoom r b.side.end) r a.rng b.rng
 
 -- with a context a fill draws, waits, and is refused memory only for its waker
 pub record FillsWaiting {E : Type 0} (r : Poll (Result ℕ (Inner E)))
@@ -113,9 +113,9 @@ pub record FillsWaiting {E : Type 0} (r : Poll (Result ℕ (Inner E)))
 -- without one it doesn't draw, is pending only where it found no room, is refused no memory, and
 -- waits as it did
 pub record FillsAtOnce {E : Type 0} (r : Poll (Result ℕ (Inner E))) (a b : Writer) : Type 0 where
-  pub undrawn : Undrawn (FoundRoom r b.end) r a.rng b.rng
+  pub undrawn : Undrawn (FoundRoom r b.side.end) r a.rng b.rng
   pub memory : OnMemory r ⊥
-  pub place : SameWriterPlace a.registrations b.registrations
+  pub place : SameWriterPlace a.side.slots b.side.slots
 
 -- who was woken after all that the writer had published, was so after all that it published since
 abbrev pub WakesReader : Writer → Writer → Type 0
@@ -124,30 +124,30 @@ WakesReader a b = NotifiesReader a → NotifiesReader b
 -- the same writer of the same pipe, but for bytes that it published and its room, for how it waits,
 -- and for what its generator draws next: it may have seen closed now, and lends nothing
 pub record SameWriterButMoved (a b : Writer) : Type 0 where
-  pub slots : b.slots ≡ a.slots
-  pub end : WriterCopied a.end b.end
+  pub slots : (b.side.cells ≡ a.side.cells) × (b.source ≡ a.source)
+  pub end : WriterCopied a.side.end b.side.end
 
 -- and it waits as it did, and draws the same numbers next
 pub record SameWriterButTried (a b : Writer) : Type 0 where
   pub handle : SameWriterButWoke a b
-  pub end : WriterCopied a.end b.end
+  pub end : WriterCopied a.side.end b.side.end
 
 -- the writer, but for the bytes that it published, and the room and the slice that they were in
 pub record SameWriterButPublished (a b : Writer) : Type 0 where
   pub handle : SameWriterButWoke a b
-  pub end : WriterPublished a.end b.end
+  pub end : WriterPublished a.side.end b.side.end
 
 -- the writer, which has closed the pipe for good: it lends nothing any more
 pub record SameWriterButShut (a b : Writer) : Type 0 where
   pub handle : SameWriterButSlots a b
-  pub end : WriterShut a.end b.end
+  pub end : WriterShut a.side.end b.side.end
 
 -- the writer, but for what marks reported to it
 pub record SameWriterButTold (a b : Writer) : Type 0 where
   pub handle : SameWriter a b
-  pub end : WriterHeeded a.end b.end
+  pub end : WriterHeeded a.side.end b.side.end
 
 -- and that the reader was dropped
 pub record SameWriterButLast (a b : Writer) : Type 0 where
   pub handle : SameWriter a b
-  pub end : SameButHeard a.end b.end
+  pub end : SameButHeard a.side.end b.side.end

@@ -1,17 +1,13 @@
-//! The two handles of a pipe. Each is an end of the ring, what it has of the slots of both sides,
-//! and what it waits and draws with.
-ghost use Rattle.std.specs.Prelude.{◌≡◌};
-ghost use Rattle.piper_ring.specs.Cells.{AreCellsOf};
-
+//! The two handles of a pipe. Each is a side of the ring, and what it waits and draws with.
 mod draws;
 mod ends;
 mod opening;
 pub(crate) mod read_steps;
 pub(crate) mod write_steps;
 
-use crate::slots::Slots;
+use futures::task::{Source, Waker};
 pub use opening::pipe;
-use piper_ring::{ReadEnd, ReadRegistrations, WriteEnd, WriteRegistrations};
+use piper_ring::{ReadSide, WriteSide};
 use rand_pcg::Pcg32;
 
 /// The reading side of a pipe.
@@ -19,13 +15,10 @@ use rand_pcg::Pcg32;
 /// It is made by `pipe`, can't be cloned, and has to be spent by its call `drop`. Clauses see what
 /// it knows by functions of it: `taken`, `known`, `capacity` and others.
 pub struct Reader {
-    end: ReadEnd,
-    /// How it waits in its slot, and what it had stored when it last checked the writer's.
-    registrations: ReadRegistrations,
-    slots: Slots,
+    side: ReadSide<Waker>,
+    /// What its task waits at. A waker of it is called when it lies in its place no more.
+    source: Source,
     rng: Pcg32,
-    ghost of_one_ring: { registrations.names ≡ end.ring.names },
-    ghost places: { AreCellsOf registrations.names slots.cells },
 }
 
 /// The writing side of a pipe.
@@ -33,11 +26,8 @@ pub struct Reader {
 /// It is made by `pipe`, can't be cloned, and has to be spent by its call `drop`. Clauses see what
 /// it knows by functions of it: `sent`, `room`, `capacity` and others.
 pub struct Writer {
-    end: WriteEnd,
-    /// How it waits in its slot, and what it had stored when it last checked the reader's.
-    registrations: WriteRegistrations,
-    slots: Slots,
+    side: WriteSide<Waker>,
+    /// What its task waits at. A waker of it is called when it lies in its place no more.
+    source: Source,
     rng: Pcg32,
-    ghost of_one_ring: { registrations.names ≡ end.ring.names },
-    ghost places: { AreCellsOf registrations.names slots.cells },
 }

@@ -4,7 +4,6 @@
 mod copies;
 mod debug;
 mod error;
-mod finished;
 mod handles;
 pub mod io;
 pub mod like;
@@ -15,9 +14,9 @@ mod slots;
 mod writer;
 
 pub use error::{Inner, PipeError};
-pub use finished::{FinishedReader, FinishedWriter};
 pub use handles::{Reader, Writer, pipe};
 pub use owned::{DEFAULT_SEED, OwnedReader, OwnedWriter, owned_pipe};
 pub use piper_ring::{
-    LastReadMark, OutOfMemory, ReadEnd, ReadMark, WriteEnd, WriteMark, open_ring,
+    FinishedReader, FinishedWriter, LastReadMark, OutOfMemory, ReadEnd, ReadMark, WriteEnd,
+    WriteMark, open_ring,
 };

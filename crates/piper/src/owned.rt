@@ -207,13 +207,13 @@ impl AsyncRead for OwnedReader {
     ghost use Rattle.piper.specs.Polls.{IfReadyErr};
     ghost use Rattle.piper.specs.ReaderCalls.{DrainPends, DrainsEnd, DrainsSlice, DrawsToYield, SameReaderButMoved, WakesWriter};
 
-    ghost taken = { λ owned. owned.end.taken };
+    ghost taken = { λ owned. owned.side.end.taken };
 
-    ghost saw = { λ owned. owned.end.saw };
+    ghost saw = { λ owned. owned.side.end.saw };
 
-    ghost told = { λ owned. owned.end.told_shut };
+    ghost told = { λ owned. owned.side.end.told_shut };
 
-    ghost ended = { λ owned. IsEnded owned.end };
+    ghost ended = { λ owned. IsEnded owned.side.end };
 
     ghost needs = { λ owned s. s ≡ read_source owned };
 
@@ -244,17 +244,17 @@ impl AsyncBufRead for OwnedReader {
     ghost use Rattle.piper.specs.ReaderCalls.{AtEnd, LendsPiece, PollsPiece, SameReaderButConsumed};
     ghost use Rattle.piper.specs.contracts.owned.OwnedReader.{the_row};
 
-    ghost known = { λ owned. owned.end.known };
+    ghost known = { λ owned. owned.side.end.known };
 
-    ghost piece = { λ owned. in_one_piece owned.end };
+    ghost piece = { λ owned. in_one_piece owned.side.end };
 
-    ghost taken = { λ owned. owned.end.taken };
+    ghost taken = { λ owned. owned.side.end.taken };
 
-    ghost saw = { λ owned. owned.end.saw };
+    ghost saw = { λ owned. owned.side.end.saw };
 
-    ghost told = { λ owned. owned.end.told_shut };
+    ghost told = { λ owned. owned.side.end.told_shut };
 
-    ghost ended = { λ owned. IsEnded owned.end };
+    ghost ended = { λ owned. IsEnded owned.side.end };
 
     ghost needs = { λ owned s. s ≡ read_source owned };
 
@@ -292,9 +292,9 @@ impl AsyncWrite for OwnedWriter {
     ghost use Rattle.piper.specs.CopyAnswers.{inner_of};
     ghost use Rattle.piper.specs.WriterCalls.{DrawsToYield, FillPends, FillsEnd, FillsSlice, SameWriterButMoved, SameWriterButShut, WakesReader};
 
-    ghost sent = { λ owned. owned.end.sent };
+    ghost sent = { λ owned. owned.side.end.sent };
 
-    ghost saw = { λ owned. owned.end.saw };
+    ghost saw = { λ owned. owned.side.end.saw };
 
     ghost needs = { λ owned s. s ≡ write_source owned };
 

@@ -4,12 +4,11 @@ ghost use Rattle.futures.specs.Task.{Keeps};
 ghost use Rattle.futures.specs.Poll.{OnPending};
 ghost use Rattle.piper.specs.Looks.{OnRefused};
 
-use crate::finished::FinishedReader;
 use crate::handles::Reader;
 use crate::looks::NoWork;
 use futures::task::{Context, Poll};
 use piper_protocol::steps::{OfPoll, dropping, storing};
-use piper_ring::{LastReadMark, OutOfMemory, ReadMark};
+use piper_ring::{FinishedReader, LastReadMark, OutOfMemory, ReadMark};
 
 impl Reader {
     ghost use Rattle.piper_ring.specs.Loads.{FoundClosed};

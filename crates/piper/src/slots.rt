@@ -1,4 +1,4 @@
-//! How a side waits, and wakes the other.
+//! Wakers that come out of the slots of both sides.
 ghost use Rattle.std.specs.Prelude.{◌≡◌, ℕ, OnErr, true, false};
 ghost use Rattle.futures.specs.Task.{Covers, Keeps};
 ghost use Rattle.piper.specs.Contexts.{JustRegistered};
@@ -6,51 +6,13 @@ ghost use Rattle.piper.specs.Contexts.{JustRegistered};
 use futures::task::{Context, Poll, Source, Waker};
 use piper_protocol::steps::TakeOther;
 use piper_protocol::write_steps::TakeOwn;
-use piper_ring::{OutOfMemory, Placed, WakerCells};
-
-/// What a side waits with: the places of both sides' wakers, which lie in the ring's block, and the
-/// source that it waits at. A waker is called when it lies in its place no more.
-///
-/// It doesn't say who waits: the words of the ring's slots do, with which the right to a place goes
-/// from side to side. So only the side that has the right uses the place, and no use waits.
-#[derive(Drop)]
-pub(crate) struct Slots {
-    pub(crate) cells: Placed<WakerCells<Waker>>,
-    source: Source,
-}
+use piper_ring::OutOfMemory;
 
 /// What was registered in a slot when it was emptied: in the other side's, or in the side's own. It
 /// is not dropped automatically, and a waker that was found can be ended by a call of it alone, or
 /// by `grant`, which leaves it in its place again.
 pub(crate) struct Taken {
     waker: Option<Waker>,
-}
-
-impl Slots {
-    ghost use Rattle.piper.specs.Slots.{source_of, waker_in};
-
-    /// With a source of its own.
-    pub(crate) fn new(cells: Placed<WakerCells<Waker>>) -> Slots
-        ensures { result.cells ≡ cells }
-    {
-        let source = Source::new();
-        Slots { cells, source }
-    }
-
-    /// A waker of the task that is polled, to be left here. `held` is the waker that was taken out
-    /// before, if there was one: that of another task is woken. Where no waker can be made, the
-    /// task has asked for another poll.
-    pub(crate) fn grant(&self, cx: &mut Context<'_>, held: Taken) -> Result<Waker, OutOfMemory>
-        ensures covered { Covers cx.new (λ s. s ≡ source_of self.now) }
-        ensures calm { JustRegistered (waker_in held) cx.new }
-        ensures refused { OnErr result (cx.new.lacks_waker ≡ true) }
-        ensures kept { Keeps cx.old cx.new }
-    {
-        let Taken { waker } = held;
-        let mut waker = waker;
-        let _pending: Poll<()> = cx.register(&self.source, &mut waker);
-        waker.ok_or(OutOfMemory)
-    }
 }
 
 impl Taken {
@@ -61,6 +23,21 @@ impl Taken {
         ensures { waker_in result ≡ waker }
     {
         Taken { waker }
+    }
+
+    /// A waker of the task that is polled, which waits at `source`, to be left in the place that
+    /// this came out of: a waker of another task is woken. Where none can be made, the task has
+    /// asked for another poll.
+    pub(crate) fn grant(self, source: &Source, cx: &mut Context<'_>) -> Result<Waker, OutOfMemory>
+        ensures covered { Covers cx.new (λ s. s ≡ source.now.id) }
+        ensures calm { JustRegistered (waker_in self) cx.new }
+        ensures refused { OnErr result (cx.new.lacks_waker ≡ true) }
+        ensures kept { Keeps cx.old cx.new }
+    {
+        let Taken { waker } = self;
+        let mut waker = waker;
+        let _pending: Poll<()> = cx.register(source, &mut waker);
+        waker.ok_or(OutOfMemory)
     }
 
     /// Calls the waker, if there was one, as the steps of a call that emptied the other side's

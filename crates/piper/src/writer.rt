@@ -4,13 +4,12 @@ ghost use Rattle.futures.specs.Task.{Keeps};
 ghost use Rattle.futures.specs.Poll.{OnPending};
 ghost use Rattle.piper.specs.Looks.{OnRefused};
 
-use crate::finished::FinishedWriter;
 use crate::handles::Writer;
 use crate::looks::{FirstLook, NoWork};
 use futures::task::{Context, Poll};
 use piper_protocol::steps::{OfPoll, dropping, storing};
 use piper_protocol::write_steps::closing;
-use piper_ring::{OutOfMemory, WriteMark};
+use piper_ring::{FinishedWriter, OutOfMemory, WriteMark};
 
 impl Writer {
     ghost use Rattle.piper_ring.specs.Loads.{FoundClosed};

@@ -14,7 +14,7 @@ pub trait Fill {
     /// many. A way that can do nothing without a task puts none in.
     #[inline(always)]
     fn fill_at_once<C: Copying>(&self, writer: &mut Writer, bytes: &[u8]) -> usize
-        ensures slots { writer.new.slots ≡ writer.old.slots }
+        ensures source { write_source writer.new ≡ write_source writer.old }
     {
         0
     }
@@ -27,7 +27,7 @@ pub trait Fill {
         cx: &mut Context<'_>,
         bytes: &[u8],
     ) -> Poll<Result<usize, OutOfMemory>>
-        ensures slots { writer.new.slots ≡ writer.old.slots }
+        ensures source { write_source writer.new ≡ write_source writer.old }
         ensures covered { OnPending result (Covers cx.new (λ s. s ≡ write_source writer.old)) }
         ensures kept { Keeps cx.old cx.new };
 }
@@ -38,7 +38,7 @@ pub trait Drain {
     /// many. A way that can do nothing without a task copies none out.
     #[inline(always)]
     fn drain_at_once<C: Copying>(&self, reader: &mut Reader, place: &mut [u8]) -> usize
-        ensures slots { reader.new.slots ≡ reader.old.slots }
+        ensures source { read_source reader.new ≡ read_source reader.old }
     {
         0
     }
@@ -51,7 +51,7 @@ pub trait Drain {
         cx: &mut Context<'_>,
         place: &mut [u8],
     ) -> Poll<Result<usize, OutOfMemory>>
-        ensures slots { reader.new.slots ≡ reader.old.slots }
+        ensures source { read_source reader.new ≡ read_source reader.old }
         ensures covered { OnPending result (Covers cx.new (λ s. s ≡ read_source reader.old)) }
         ensures kept { Keeps cx.old cx.new };
 }

@@ -40,7 +40,7 @@ module _ (p : Ptr) {M : Type 1} {𝓤 : Ura M} {𝓛 : Logic 𝓤} {K : Type 0} 
 
   -- a handle that lent room, and that room
   pub loan_out : K → (m : Option WriteHalf) (l : Option Ptr) (q : Ptr) (s : Option (List ℕ)) → IsLoanOf m l q s
-      → ((w : WriteHalf) (ws : List ℕ) → length ws ≡ length w.end.lent → IsWhole m s (with_room w ws) → Seq K 𝓛 (‵ (all_but_room p q w) ∷ ‵ (room_owns q (Some ws)) ∷ Γ) G)
+      → ((w : WriteHalf) (ws : List ℕ) → length ws ≡ length w.side.end.lent → IsWhole m s (with_room w ws) → Seq K 𝓛 (‵ (all_but_room p q w) ∷ ‵ (room_owns q (Some ws)) ∷ Γ) G)
       → Seq K 𝓛 (‵ (held_writer p m l) ∷ ‵ (room_owns q s) ∷ Γ) G
   loan_out t (Some w) (Some at) q (Some ws) is k = rewrite t 0 (λ (r : Ptr). ‵ (all_but_room p r w)) is.0 refl $ k w ws is.1 refl
   loan_out t (Some w) (Some at) q None is k = absurd is
@@ -48,8 +48,8 @@ module _ (p : Ptr) {M : Type 1} {𝓤 : Ura M} {𝓛 : Logic 𝓤} {K : Type 0} 
   loan_out t None l q s is k = absurd is
 
 -- the writer with ws written over as many bytes that it lent has ws there
-refilled_is : (w : WriteHalf) (ws : List ℕ) → length ws ≡ length w.end.lent → refilled w ws ≡ with_room w ws
-refilled_is w ws same = ap (λ (xs : List ℕ). with_room w xs) (take_front ws (drop_list (length ws) w.end.lent) (length w.end.lent) same)
+refilled_is : (w : WriteHalf) (ws : List ℕ) → length ws ≡ length w.side.end.lent → refilled w ws ≡ with_room w ws
+refilled_is w ws same = ap (λ (xs : List ℕ). with_room w xs) (take_front ws (drop_list (length ws) w.side.end.lent) (length w.side.end.lent) same)
 
 -- the room and all else are the box
 pub room_in : {M : Type 1} {𝓤 : Ura M} (𝓛 : Logic 𝓤) (p at : Ptr) (w : WriteHalf) (ws : List ℕ) → ent 𝓤 (sep 𝓤 (sem 𝓛 (comes_back w at ws)) (sem 𝓛 (all_but_room p at w))) (𝓛.H.⇛ (sem 𝓛 (box_owns heap_token the_row p (with_room w ws))))
@@ -60,7 +60,7 @@ room_in {𝓤 = 𝓤} 𝓛 p at w ws =
     -- [the open loan of the bytes, in three entries; the rest; the room]
     fsplit3 ! $ move ! (4 ∷ []) $ rewrite ! 0 (λ (r : Ptr). ‵ (lies_at (Array u8 (length ws)) full_share r ws)) is_at refl $
     use1 𝓛 (‵ (fsep (feq ℕ (length ws) (length ws)) (bytes full_share ws b o))) (bytes_apart 𝓛 full_share (length ws) ws b o) $ fsplit ! $ drop ! $
-    closes_slice ! tt u8 w.end.lent ws same b o $
+    closes_slice ! tt u8 w.side.end.lent ws same b o $
     -- [what the bytes are; their loan; the token; the rest]
     rewrite ! 0 (λ (ys : List ℕ). ‵ (fobs l.1.1 ((coded_list u8.coded).code ys))) (heres_id u8 ws) refl $ name_done ! tt $
     move ! (2 ∷ []) $ lft_end ! tt $ move ! (3 ∷ []) $ fsplit ! $ fsplit ! $

@@ -32,13 +32,13 @@ room_owns p (Some ws) = lies_at (Array u8 (length ws)) full_share p ws
 
 -- the writer, with these bytes as those that it lent
 abbrev pub with_room : WriteHalf → List ℕ → WriteHalf
-with_room w ws = record w {
-  end = write_view w.end.ring w.end.capacity w.end.sent w.end.room ws w.end.shut w.end.told w.end.saw;
-}
+with_room w ws =
+    let e = w.side.end in
+    record w { side = record w.side { end = write_view e.ring e.capacity e.sent e.room ws e.shut e.told e.saw } }
 
 -- the room that came back: as many bytes as were lent
 abbrev pub comes_back : WriteHalf → Ptr → List ℕ → Fml
-comes_back w at ws = fsep (fact (length ws ≡ length w.end.lent)) (room_owns at (Some ws))
+comes_back w at ws = fsep (fact (length ws ≡ length w.side.end.lent)) (room_owns at (Some ws))
 
 -- the names of a loan: its lifetime, the name of the writer's value and that of the room's bytes
 abbrev pub Loan : Type 0
@@ -46,15 +46,15 @@ Loan = ℕ × (ℕ × ℕ)
 
 -- the writer, with ws written over what it lent
 abbrev pub refilled : WriteHalf → List ℕ → WriteHalf
-refilled w ws = record w { end = with_lent w.end w.end.lent ws }
+refilled w ws = record w { side = record w.side { end = with_lent w.side.end w.side.end.lent ws } }
 
 -- the bytes of the room are out: whoever brings back as many closes the loan of them
 abbrev pub lent_bytes : WriteHalf → Ptr → Loan → Fml
 lent_bytes w at l =
     fsep (fobor (l.0 ∷ []) full_share
-    (Held u8 (length w.end.lent) (block_of at) (count_of at) l.1.1))
-    (fsep (fobs l.1.1 ((coded_holeys u8).code (heres u8 w.end.lent)))
-    (fauth l.1.1 ((coded_holeys u8).code (heres u8 w.end.lent))))
+    (Held u8 (length w.side.end.lent) (block_of at) (count_of at) l.1.1))
+    (fsep (fobs l.1.1 ((coded_holeys u8).code (heres u8 w.side.end.lent)))
+    (fauth l.1.1 ((coded_holeys u8).code (heres u8 w.side.end.lent))))
 
 -- the writer at p comes back once the loan has ended, with what is in the room then
 abbrev pub lent_writer : Ptr → WriteHalf → Loan → Fml

@@ -17,7 +17,8 @@ use Rattle.piper_c.specs.contracts.halves.WriteHalf.{the_row}
 -- the side, once a `&mut` into the slice that it lent has ended
 abbrev pub lends_half : MutBor WriteHalf → MutBor (List ℕ) → Fml
 lends_half w r =
-    Lends the_row (Array u8 0) w r (λ ws. record w.now { end = with_lent w.now.end r.now ws })
+    Lends the_row (Array u8 0) w r (λ ws. record w.now
+    { side = record w.now.side { end = with_lent w.now.side.end r.now ws } })
 
 -- a loan of at most `max` bytes: the room has the bytes, and the handle all the rest of w
 pub record LendsOut (w : WriteHalf) (max len : ℕ) (writer : PiperWriter) (room : PiperRoom) : Type 0 where
@@ -26,8 +27,8 @@ pub record LendsOut (w : WriteHalf) (max len : ℕ) (writer : PiperWriter) (room
   pub half : writer.half ≡ Some (with_room w bytes)
   pub lent : writer.lent ≡ Some room.at
   pub count : len ≡ length bytes
-  pub most : Lendable w.end max len
-  pub some : w.end.shut ≡ false → 0 < w.end.room → 0 < max → 0 < len
+  pub most : Lendable w.side.end max len
+  pub some : w.side.end.shut ≡ false → 0 < w.side.end.room → 0 < max → 0 < len
 
 -- nothing was lent, and the room is as it was
 pub record IsKept (w : WriteHalf) (len : ℕ) (writer : PiperWriter)
@@ -39,7 +40,7 @@ pub record IsKept (w : WriteHalf) (len : ℕ) (writer : PiperWriter)
 
 -- the room that comes back is the one that was lent
 abbrev pub IsLoanOf : Option WriteHalf → Option Ptr → Ptr → Option (List ℕ) → Type 0
-IsLoanOf (Some w) (Some at) p (Some ws) = (at ≡ p) × (length ws ≡ length w.end.lent)
+IsLoanOf (Some w) (Some at) p (Some ws) = (at ≡ p) × (length ws ≡ length w.side.end.lent)
 IsLoanOf w at p ws = ⊥
 
 -- n bytes are no more than the room has

@@ -4,7 +4,6 @@ pub mod Lending
 pub mod Handles
 pub mod Opened
 pub mod Outcome
-pub mod Places
 pub mod Reading
 pub mod Waiting
 pub mod Writing

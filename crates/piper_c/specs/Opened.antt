@@ -8,18 +8,18 @@ use Rattle.piper_c.specs.declared.halves.WriteHalf.{WriteHalf}
 
 -- the sides of one pipe: each takes the words that the other leaves
 pub record ArePair (r : ReadHalf) (w : WriteHalf) : Type 0 where
-  pub ring : w.end.ring ≡ r.end.ring
-  pub places : w.places ≡ r.places
+  pub ring : w.side.end.ring ≡ r.side.end.ring
+  pub places : w.side.cells ≡ r.side.cells
 
 -- nothing was read, and nobody has waited
 pub record IsFreshReader (capacity : ℕ) (r : ReadHalf) : Type 0 where
-  pub end : FreshReadEnd capacity r.end
-  pub slots : FreshReadSlots r.end.ring.names r.slots
+  pub end : FreshReadEnd capacity r.side.end
+  pub slots : FreshReadSlots r.side.end.ring.names r.side.slots
 
 -- nothing was published, and nobody has waited
 pub record IsFreshWriter (capacity : ℕ) (w : WriteHalf) : Type 0 where
-  pub end : FreshWriteEnd capacity w.end
-  pub slots : FreshWriteSlots w.end.ring.names w.slots
+  pub end : FreshWriteEnd capacity w.side.end
+  pub slots : FreshWriteSlots w.side.end.ring.names w.side.slots
 
 -- no pipe holds so many bytes: none, or more than half of the addresses
 abbrev pub IsNoCapacity : ℕ → Type 0

@@ -24,39 +24,39 @@ pub record IsEnded (r : ReadView) : Type 0 where
 
 -- what a poll found; it has to be made again only where the place of the words is away
 abbrev pub ReaderFound : Outcome → ReadHalf → Type 0
-ReaderFound Ready r = 0 < length r.end.known
-ReaderFound End r = IsEnded r.end
-ReaderFound Pending r = IsPending r.end r.slots
-ReaderFound Again r = (r.end.known ≡ []) × (r.slots.owns ≡ false)
+ReaderFound Ready r = 0 < length r.side.end.known
+ReaderFound End r = IsEnded r.side.end
+ReaderFound Pending r = IsPending r.side.end r.side.slots
+ReaderFound Again r = (r.side.end.known ≡ []) × (r.side.slots.owns ≡ false)
 ReaderFound Refused r = ⊥
 
 -- what a look found that leaves no words
 abbrev pub ReaderSaw : Outcome → ReadHalf → Type 0
-ReaderSaw Ready r = 0 < length r.end.known
-ReaderSaw End r = IsEnded r.end
-ReaderSaw Pending r = (r.end.known ≡ []) × (r.end.saw ≡ false)
+ReaderSaw Ready r = 0 < length r.side.end.known
+ReaderSaw End r = IsEnded r.side.end
+ReaderSaw Pending r = (r.side.end.known ≡ []) × (r.side.end.saw ≡ false)
 ReaderSaw Again r = ⊥
 ReaderSaw Refused r = ⊥
 
 -- a poll takes no byte, and what it saw of closed it keeps; nobody is taken from the writer's slot.
 -- Where no byte was known it has loaded the tail
 pub record ReaderLooked (a b : ReadHalf) : Type 0 where
-  pub end : SameReadEnd a.end b.end
-  pub taken : b.end.taken ≡ a.end.taken
-  pub known : 0 < length a.end.known → b.end ≡ a.end
-  pub loaded : a.end.known ≡ [] → HasLoaded b.end
-  pub saw : flag a.end.saw ≤ flag b.end.saw
-  pub looks : SameReaderLooks a.slots b.slots
-  pub places : b.places ≡ a.places
+  pub end : SameReadEnd a.side.end b.side.end
+  pub taken : b.side.end.taken ≡ a.side.end.taken
+  pub known : 0 < length a.side.end.known → b.side.end ≡ a.side.end
+  pub loaded : a.side.end.known ≡ [] → HasLoaded b.side.end
+  pub saw : flag a.side.end.saw ≤ flag b.side.end.saw
+  pub looks : SameReaderLooks a.side.slots b.side.slots
+  pub places : b.side.cells ≡ a.side.cells
 
 -- a poll gives back the words that it took out of its slot, and those that it didn't leave; it
 -- leaves none where a byte was known, and none stay there where it found one
 pub record ReaderGotBack (mine : Waiter) (p : Polled) (a b : ReadHalf) : Type 0 where
-  pub words : GotBack mine p a.slots.owns b.slots.owns a.slots.tickets b.slots.tickets
-  pub known : 0 < length a.end.known → b.slots.tickets ≡ a.slots.tickets
-  pub ready : p.outcome ≡ Ready → b.slots.maybe_registered ≡ false
-  pub again : p.outcome ≡ Again → b.slots ≡ record a.slots { maybe_registered = false }
-  pub away : p.outcome ≡ Again → IsAway a.slots.names
+  pub words : GotBack mine p a.side.slots.owns b.side.slots.owns a.side.slots.tickets b.side.slots.tickets
+  pub known : 0 < length a.side.end.known → b.side.slots.tickets ≡ a.side.slots.tickets
+  pub ready : p.outcome ≡ Ready → b.side.slots.maybe_registered ≡ false
+  pub again : p.outcome ≡ Again → b.side.slots ≡ record a.side.slots { maybe_registered = false }
+  pub away : p.outcome ≡ Again → IsAway a.side.slots.names
 
 -- the reader, but for the bytes that it took and knows of
 pub record ReaderConsumed (a b : ReadView) : Type 0 where
@@ -67,40 +67,40 @@ pub record ReaderConsumed (a b : ReadView) : Type 0 where
 -- after all that b consumed, the writer's slot was checked: words are handed out
 -- exactly where it took a ticket of the writer's
 pub record TookWriter (taken : Option Waiter) (old : ReadSlotsView) (b : ReadHalf) : Type 0 where
-  pub rests : IsReaderAtRest b.end b.slots
-  pub took : Took taken old.taken b.slots.taken
-  pub own : SameReaderPlace old b.slots
+  pub rests : IsReaderAtRest b.side.end b.side.slots
+  pub took : Took taken old.taken b.side.slots.taken
+  pub own : SameReaderPlace old b.side.slots
 
 -- after the close by which a left, the writer's slot was checked: words come out exactly
 -- where a ticket of the writer's was taken
 pub record LeftReading (a : ReadHalf) (taken : Option Waiter) (left : ReadSlotsView) : Type 0 where
-  pub count : left.count ≡ length a.end.taken
+  pub count : left.count ≡ length a.side.end.taken
   pub over : left.over ≡ true
-  pub took : Took taken a.slots.taken left.taken
+  pub took : Took taken a.side.slots.taken left.taken
 
 -- the pipe was checked for its end: what the answer says was seen, and what was seen once stays
 pub record ReaderAsked (is_closed : Bool) (a b : ReadHalf) : Type 0 where
-  pub saw : is_closed ≡ b.end.saw
-  pub found : FoundClosed a.end.ring.names is_closed
-  pub stays : flag a.end.saw ≤ flag b.end.saw
-  pub end : SameButSaw a.end b.end
-  pub slots : b.slots ≡ a.slots
-  pub places : b.places ≡ a.places
+  pub saw : is_closed ≡ b.side.end.saw
+  pub found : FoundClosed a.side.end.ring.names is_closed
+  pub stays : flag a.side.end.saw ≤ flag b.side.end.saw
+  pub end : SameButSaw a.side.end b.side.end
+  pub slots : b.side.slots ≡ a.side.slots
+  pub places : b.side.cells ≡ a.side.cells
 
 -- n known bytes were copied to the front of a slice and taken, in order: of those in one piece as
 -- many as fit; where none was known, the tail was loaded
 pub record ReadsInto (old new : List ℕ) (n : ℕ) (a b : ReadHalf) : Type 0 where
   pub count : n ≤ length old
   pub rest : drop n new ≡ drop n old
-  pub taken : b.end.taken ≡ a.end.taken ++ take n new
-  pub known : 0 < length a.end.known → take n new ++ b.end.known ≡ a.end.known
-  pub loaded : a.end.known ≡ [] → HasLoaded b.end
+  pub taken : b.side.end.taken ≡ a.side.end.taken ++ take n new
+  pub known : 0 < length a.side.end.known → take n new ++ b.side.end.known ≡ a.side.end.known
+  pub loaded : a.side.end.known ≡ [] → HasLoaded b.side.end
   pub most : n ≡ min (length old)
-      (min (n + length b.end.known) (a.end.capacity - read_place a.end))
-  pub none : n ≡ 0 → (old ≡ []) ⊎ (b.end.known ≡ [])
-  pub end : SameReadEnd a.end b.end
-  pub saw : b.end.saw ≡ a.end.saw
-  pub places : b.places ≡ a.places
+      (min (n + length b.side.end.known) (a.side.end.capacity - read_place a.side.end))
+  pub none : n ≡ 0 → (old ≡ []) ⊎ (b.side.end.known ≡ [])
+  pub end : SameReadEnd a.side.end b.side.end
+  pub saw : b.side.end.saw ≡ a.side.end.saw
+  pub places : b.side.cells ≡ a.side.cells
 
 -- the exports
 
@@ -117,17 +117,17 @@ pub record ReaderTold (mine : PiperWords) (p : PiperPolled) (a b : ReadHalf) : T
 -- after all that b consumed, the writer's slot was checked: words come out exactly where
 -- it took a ticket of the writer's
 pub record WakesWriter (wake : PiperWords) (old : ReadSlotsView) (b : ReadHalf) : Type 0 where
-  pub rests : IsReaderAtRest b.end b.slots
-  pub took : HandedOut wake old.taken b.slots.taken
-  pub own : SameReaderPlace old b.slots
+  pub rests : IsReaderAtRest b.side.end b.side.slots
+  pub took : HandedOut wake old.taken b.side.slots.taken
+  pub own : SameReaderPlace old b.side.slots
 
 -- n bytes were taken, from the front of those that the reader knows of
 pub record ReaderTook (n : ℕ) (wake : PiperWords) (a b : ReadHalf) : Type 0 where
-  pub taken : b.end.taken ≡ a.end.taken ++ take n a.end.known
-  pub known : b.end.known ≡ drop n a.end.known
-  pub end : ReaderConsumed a.end b.end
-  pub woke : WakesWriter wake a.slots b
-  pub places : b.places ≡ a.places
+  pub taken : b.side.end.taken ≡ a.side.end.taken ++ take n a.side.end.known
+  pub known : b.side.end.known ≡ drop n a.side.end.known
+  pub end : ReaderConsumed a.side.end b.side.end
+  pub woke : WakesWriter wake a.side.slots b
+  pub places : b.side.cells ≡ a.side.cells
 
 -- nothing was done, and nobody is to be woken
 pub record ReaderRefused (wake : PiperWords) (a b : ReadHalf) : Type 0 where
@@ -135,18 +135,18 @@ pub record ReaderRefused (wake : PiperWords) (a b : ReadHalf) : Type 0 where
   pub nobody : wake.vtable ≡ 0
 
 pub record ReaderConsumes (n : ℕ) (wake : PiperWords) (a b : ReadHalf) : Type 0 where
-  pub taken : n ≤ in_one_piece a.end → ReaderTook n wake a b
-  pub refused : in_one_piece a.end < n → ReaderRefused wake a b
+  pub taken : n ≤ in_one_piece a.side.end → ReaderTook n wake a b
+  pub refused : in_one_piece a.side.end < n → ReaderRefused wake a b
 
 pub record ReaderReads (old new : List ℕ) (moved : PiperMoved) (a b : ReadHalf) : Type 0 where
   pub read : ReadsInto old new moved.count a b
-  pub none : moved.count ≡ 0 → (moved.wake.vtable ≡ 0) × (b.slots ≡ a.slots)
-  pub some : 0 < moved.count → WakesWriter moved.wake a.slots b
+  pub none : moved.count ≡ 0 → (moved.wake.vtable ≡ 0) × (b.side.slots ≡ a.side.slots)
+  pub some : 0 < moved.count → WakesWriter moved.wake a.side.slots b
 
 pub record ReaderSeen (result : PiperSeen) (a b : ReadHalf) : Type 0 where
   pub outcome : Outcome
   pub code : result.outcome ≡ code outcome
-  pub len : result.len ≡ in_one_piece b.end
+  pub len : result.len ≡ in_one_piece b.side.end
   pub saw : ReaderSaw outcome b
   pub looked : ReaderLooked a b
-  pub slots : b.slots ≡ a.slots
+  pub slots : b.side.slots ≡ a.side.slots

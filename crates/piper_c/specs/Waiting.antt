@@ -9,7 +9,7 @@ use Rattle.piper_c.specs.declared.outcome.PiperPolled.{PiperPolled}
 use Rattle.piper_c.specs.declared.words.Waiter.{Waiter}
 use Rattle.piper_c.specs.declared.words.PiperWords.{PiperWords}
 use Rattle.piper_c.specs.Outcome.{code}
-use Rattle.piper_c.specs.Places.{CameOut, WerePut, WereTaken}
+use Rattle.piper_ring.specs.Loads.{WasTakenBack, WasPut, WasTaken}
 
 -- C got these words of a waiter, or none
 abbrev pub IsOut : Option Waiter → PiperWords → Type 0
@@ -22,17 +22,17 @@ pub record GotBack (mine : Waiter) (p : Polled) (had has : Bool) (old new : ℕ)
   -- its words are left once, or not at all
   pub once : (new ≡ old) ⊎ (new ≡ old + 1)
   -- words of an earlier poll come only out of the slot
-  pub before : IsSome p.before → (had ≡ false) × CameOut had old p.before
+  pub before : IsSome p.before → (had ≡ false) × WasTakenBack had old p.before
   -- where none come out and none are left, the slot is as it was
   pub same : new ≡ old → p.before ≡ None → has ≡ had
   -- what is replaced there comes out
-  pub came : new ≡ old + 1 → CameBack had p.before × CameOut had old p.before
+  pub came : new ≡ old + 1 → CameBack had p.before × WasTakenBack had old p.before
   -- words that were not left come back
   pub kept : new ≡ old → p.mine ≡ Some mine
   -- and no others are left
-  pub left : new ≡ old + 1 → WerePut new mine
+  pub left : new ≡ old + 1 → WasPut new mine
   -- words that were left come back only out of the slot
-  pub back : new ≡ old + 1 → IsSome p.mine → (has ≡ true) × CameOut false new p.mine
+  pub back : new ≡ old + 1 → IsSome p.mine → (has ≡ true) × WasTakenBack false new p.mine
   -- and those that came out of it come back
   pub out : new ≡ old + 1 → p.mine ≡ None → has ≡ false
   -- they are left only where the outcome reports it
@@ -49,7 +49,7 @@ pub record IsTold (polled : Polled) (p : PiperPolled) : Type 0 where
 pub record Took (taken : Option Waiter) (old new : ℕ) : Type 0 where
   pub none : taken ≡ None → new ≡ old
   pub some : IsSome taken → old < new
-  pub words : IsSome taken → WereTaken old new taken
+  pub words : IsSome taken → WasTaken old new taken
 
 -- C got the words that came of such a check
 pub record HandedOut (wake : PiperWords) (old new : ℕ) : Type 0 where
@@ -60,7 +60,7 @@ pub record HandedOut (wake : PiperWords) (old new : ℕ) : Type 0 where
 -- a side that closes the pipe or leaves it takes its own words back: whether it had the place of
 -- its words, and how often it had registered
 pub record TookBack (mine : Option Waiter) (names : Names) (had : Bool) (tickets : ℕ) : Type 0 where
-  pub some : IsSome mine → (had ≡ false) × CameOut had tickets mine
+  pub some : IsSome mine → (had ≡ false) × WasTakenBack had tickets mine
   pub none : mine ≡ None → IsUnregistered names had
 
 -- C got the words that were taken back so

@@ -46,10 +46,10 @@ impl WriteHalf {
     /// Lends at most `max` bytes of the room, in one piece, in place of what was lent before.
     fn lend(&mut self, max: usize) -> &mut [u8]
         ensures* writes { sem 𝓛 (lends_half self.entry result) }
-        ensures length { Lendable self.old.end max (length result.now) }
-        ensures some { self.old.end.shut ≡ false → 0 < self.old.end.room → 0 < max →
+        ensures length { Lendable self.old.side.end max (length result.now) }
+        ensures some { self.old.side.end.shut ≡ false → 0 < self.old.side.end.room → 0 < max →
             0 < length result.now }
     {
-        self.end.write_buf(max)
+        self.side.write_buf(max)
     }
 }

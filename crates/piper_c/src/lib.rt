@@ -7,7 +7,6 @@ mod handles;
 mod lending;
 mod opening;
 mod outcome;
-mod places;
 mod reader;
 mod reading;
 mod words;

@@ -6,7 +6,7 @@ ghost use Rattle.piper_c.specs.Opened.{ArePair, IsFreshReader, IsFreshWriter, Is
 
 use crate::halves::{ReadHalf, WriteHalf};
 use crate::handles::{PiperReader, PiperWriter};
-use piper_ring::{OutOfMemory, Slotted, open_with_slots};
+use piper_ring::{OutOfMemory, open_with_slots};
 use std::alloc::{AllocError, Global};
 
 /// The most bytes that a pipe can hold.
@@ -77,23 +77,6 @@ fn open_halves(alloc: Global, capacity: usize) -> Result<(ReadHalf, WriteHalf), 
     ensures writer { IfOk result (λ (_, w). IsFreshWriter capacity w) }
     ensures refused { IfErr result HasFailed }
 {
-    let Slotted {
-        reader,
-        writer,
-        read_slots,
-        write_slots,
-        read_cells,
-        write_cells,
-    } = open_with_slots(alloc, capacity)?;
-    let read = ReadHalf {
-        end: reader,
-        slots: read_slots,
-        places: read_cells,
-    };
-    let write = WriteHalf {
-        end: writer,
-        slots: write_slots,
-        places: write_cells,
-    };
-    Ok((read, write))
+    let (read, write) = open_with_slots(alloc, capacity)?;
+    Ok((ReadHalf { side: read }, WriteHalf { side: write }))
 }

@@ -64,7 +64,7 @@ pub extern "C" fn piper_reader_look(
     let outcome = half.look();
     let len = match outcome {
         Outcome::Ready => {
-            let known = half.end.peek_buf();
+            let known = half.side.end.peek_buf();
             *at = address(known);
             known.len()
         }
@@ -122,10 +122,11 @@ pub extern "C" fn piper_reader_read(
 #[unsafe(no_mangle)]
 pub extern "C" fn piper_reader_len(alloc: Global, reader: &mut PiperReader) -> usize
     requires { IsSome reader.old.half }
-    ensures { HoldsOn reader.old.half reader.new.half (λ a b. (b ≡ a) × MayBeUnread a.end result) }
+    ensures { HoldsOn reader.old.half reader.new.half (λ a b.
+        (b ≡ a) × MayBeUnread a.side.end result) }
 {
     let half = reader.take(alloc);
-    let len = half.end.len();
+    let len = half.side.end.len();
     reader.put(half);
     len
 }
@@ -135,10 +136,10 @@ pub extern "C" fn piper_reader_len(alloc: Global, reader: &mut PiperReader) -> u
 pub extern "C" fn piper_reader_capacity(alloc: Global, reader: &mut PiperReader) -> usize
     requires { IsSome reader.old.half }
     ensures { HoldsOn reader.old.half reader.new.half (λ a b.
-        (b ≡ a) × (result ≡ a.end.capacity)) }
+        (b ≡ a) × (result ≡ a.side.end.capacity)) }
 {
     let half = reader.take(alloc);
-    let capacity = half.end.capacity();
+    let capacity = half.side.end.capacity();
     reader.put(half);
     capacity
 }
@@ -162,9 +163,9 @@ pub extern "C" fn piper_reader_drop(alloc: Global, reader: &mut PiperReader) -> 
     ensures dropped { reader.new.half ≡ None }
     ensures left { Holds reader.old.half (Leaves LeftReading result) }
     ensures mine { Holds reader.old.half (λ a.
-        HandedBack result.mine a.slots.names a.slots.owns a.slots.tickets) }
+        HandedBack result.mine a.side.slots.names a.side.slots.owns a.side.slots.tickets) }
     ensures nobody { Holds reader.old.half (λ a.
-        result.wake.vtable ≡ 0 → FoundWaiter a.end.ring.names 0) }
+        result.wake.vtable ≡ 0 → FoundWaiter a.side.end.ring.names 0) }
 {
     let half = Box::into_inner(reader.take(alloc));
     let (wake, mine, _left) = half.leave();
@@ -184,10 +185,10 @@ pub extern "C" fn piper_reader_peek(
 ) -> usize
     requires { IsSome reader.old.half }
     ensures { HoldsOn reader.old.half reader.new.half (λ a b.
-        (b ≡ a) × (result ≡ in_one_piece a.end)) }
+        (b ≡ a) × (result ≡ in_one_piece a.side.end)) }
 {
     let half = reader.take(alloc);
-    *at = address(half.end.peek_buf());
+    *at = address(half.side.end.peek_buf());
     let len = half.peek_len();
     reader.put(half);
     len

@@ -90,11 +90,11 @@ pub extern "C" fn piper_writer_write(
 pub extern "C" fn piper_writer_len(alloc: Global, writer: &mut PiperWriter) -> usize
     requires { IsWholeWriter writer.old.half writer.old.lent }
     ensures on { HoldsOn writer.old.half writer.new.half (λ a b.
-        (b ≡ a) × MayBeUnread a.end result) }
+        (b ≡ a) × MayBeUnread a.side.end result) }
     ensures whole { IsWholeWriter writer.new.half writer.new.lent }
 {
     let half = writer.take(alloc);
-    let len = half.end.len();
+    let len = half.side.end.len();
     writer.put(half);
     len
 }
@@ -104,11 +104,11 @@ pub extern "C" fn piper_writer_len(alloc: Global, writer: &mut PiperWriter) -> u
 pub extern "C" fn piper_writer_capacity(alloc: Global, writer: &mut PiperWriter) -> usize
     requires { IsWholeWriter writer.old.half writer.old.lent }
     ensures on { HoldsOn writer.old.half writer.new.half (λ a b.
-        (b ≡ a) × (result ≡ a.end.capacity)) }
+        (b ≡ a) × (result ≡ a.side.end.capacity)) }
     ensures whole { IsWholeWriter writer.new.half writer.new.lent }
 {
     let half = writer.take(alloc);
-    let capacity = half.end.capacity();
+    let capacity = half.side.end.capacity();
     writer.put(half);
     capacity
 }
@@ -149,9 +149,9 @@ pub extern "C" fn piper_writer_drop(alloc: Global, writer: &mut PiperWriter) -> 
     ensures dropped { writer.new.half ≡ None }
     ensures left { Holds writer.old.half (Leaves LeftWriting result) }
     ensures mine { Holds writer.old.half (λ a.
-        HandedBack result.mine a.slots.names a.slots.owns a.slots.tickets) }
+        HandedBack result.mine a.side.slots.names a.side.slots.owns a.side.slots.tickets) }
     ensures nobody { Holds writer.old.half (λ a.
-        result.wake.vtable ≡ 0 → FoundWaiter a.end.ring.names 0) }
+        result.wake.vtable ≡ 0 → FoundWaiter a.side.end.ring.names 0) }
 {
     let half = Box::into_inner(writer.take(alloc));
     let (wake, mine, _left) = half.leave();

@@ -23,8 +23,8 @@ pub record IsNewPipe (cap seed : ℕ) (reader : Reader) (writer : Writer) : Type
 -- up what was published, first in, first out, room and known bytes make up the capacity, and what
 -- else `Reader::meet` ensures
 pub record HaveMet (r0 r1 : Reader) (w0 w1 : Writer) : Type 0 where
-  pub fifo : r1.end.taken ++ r1.end.known ≡ w1.end.sent
-  pub room : w1.end.room + length r1.end.known ≡ r1.end.capacity
+  pub fifo : r1.side.end.taken ++ r1.side.end.known ≡ w1.side.end.sent
+  pub room : w1.side.end.room + length r1.side.end.known ≡ r1.side.end.capacity
   pub more : MeetMore r0 r1 w0 w1
   pub closed : MeetClosed r1 w1
   pub reader_woken : MeetReader r0 r1 w0

@@ -53,7 +53,7 @@ module _ {W S : Type 0} (sent : W → List ℕ) (saw : W → Bool) (woken : W �
 pub same_then : (a b c : Writer) → SameWriterButMoved a b → SameWriterButMoved b c → SameWriterButMoved a c
 same_then a b c first second =
     record {
-      slots = second.slots ∙ first.slots;
+      slots = (second.slots.0 ∙ first.slots.0, second.slots.1 ∙ first.slots.1);
       end =
           record {
             end = record { ring = second.end.end.ring ∙ first.end.end.ring; capacity = second.end.end.capacity ∙ first.end.end.capacity; told = second.end.end.told ∙ first.end.end.told };

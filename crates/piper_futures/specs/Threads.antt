@@ -59,8 +59,8 @@ module _ {S : Type 0} (remaining : S → Option (List ℕ)) where
     pub saw : Bool
     pub seen : HadSeen left.told saw
     pub moved :
-        FillsOn (remaining s) (remaining left.source) w.end.sent left.told.bytes
-        w.end.saw saw
+        FillsOn (remaining s) (remaining left.source) w.side.end.sent left.told.bytes
+        w.side.end.saw saw
     pub closed : left.told.shut ≡ true
 
   -- by what is left: the thread's own wait failed; or its fill did, for want of memory for a waker,
@@ -81,7 +81,7 @@ module _ {D : Type 0} (contents : D → Option (List ℕ)) where
   -- all that was taken since was written, in order
   pub record DrainedTo (r : OwnedReader) (d : D) (left : Drained D) : Type 0 where
     pub moved : List ℕ
-    pub count : left.told.consumed.count ≡ length (r.end.taken ++ moved)
+    pub count : left.told.consumed.count ≡ length (r.side.end.taken ++ moved)
     pub written : Appends (contents d) (contents left.dest) moved
 
   -- likewise
@@ -94,7 +94,7 @@ module _ {D : Type 0} (contents : D → Option (List ℕ)) where
   abbrev pub DrainedOrClosed : OwnedReader → D
       → Result (OwnedReader × D) (Failed (Option (Drained D))) → Type 0
   DrainedOrClosed r d (Ok done) =
-      DrainsOn r.end.taken done.0.end.taken (contents d) (contents done.1)
-      × AtEnd done.0.end.known done.0.end.saw
+      DrainsOn r.side.end.taken done.0.side.end.taken (contents d) (contents done.1)
+      × AtEnd done.0.side.end.known done.0.side.end.saw
       × (NotifiesWriter r → NotifiesWriter done.0)
   DrainedOrClosed r d (Err failed) = LeftByDrain r d failed.left failed.error

@@ -3,12 +3,19 @@
 use Rattle.std.specs.Prelude.{ℕ, List}
 use Rattle.std.specs.Borrow.{Fml, MutBor, Array, Lends}
 use denote.Builtin.{u8}
+use denote.RattleType.{RattleType}
 use Rattle.piper_ring.specs.Lends.{written}
 use Rattle.piper_ring.specs.WriteView.{WriteView, write_view}
 use Rattle.piper_ring.specs.contracts.ends.writer.WriteEnd.{the_row}
+use Rattle.piper_ring.specs.contracts.ends.slots.writer.WriteSide.{the_row as side_row}
+use Rattle.piper_ring.specs.declared.ends.slots.writer.WriteSide.{WriteSide}
 
 abbrev pub with_lent : WriteView → List ℕ → List ℕ → WriteView
 with_lent w xs ws = write_view w.ring w.capacity w.sent w.room (written xs ws) w.shut w.told w.saw
 
 abbrev pub lends_buffer : MutBor WriteView → MutBor (List ℕ) → Fml
 lends_buffer w r = Lends the_row (Array u8 0) w r (with_lent w.now r.now)
+
+abbrev pub lends_side : (R : RattleType) → MutBor (WriteSide R.Denot) → MutBor (List ℕ) → Fml
+lends_side R w r =
+    Lends (side_row R) (Array u8 0) w r (λ ws. record w.now { end = with_lent w.now.end r.now ws })

@@ -1,7 +1,7 @@
 -- What a load of one of the ring's words found, and what lay in a side's place. Of these definitions
 -- those with a lemma below are sealed: no proof looks into them, and only those of the loads in
--- src/ring/seats.rt, slots.rt and remains.rt, and of `reclaim_waker`, use the lemmas. So what a clause
--- says of one of them came from such a call.
+-- src/ring/seats.rt, slots.rt and remains.rt, and of the calls in src/ends/slots, use the lemmas. So
+-- what a clause says of one of them came from such a call.
 use Rattle.std.specs.Prelude.{◌≡◌, ◌⊎◌, ⊤, ℕ, Bool, true, Option}
 use Rattle.piper_ring.specs.Shared.{Names}
 
@@ -41,6 +41,20 @@ IsAway names = FoundBack names 0 × FoundFlag names 0
 pub CameBack : {T : Type 0} → Bool → Option T → Type 0
 CameBack had waker = ⊤
 
+-- a side registered under this ticket, and this waker lay in its place then
+pub WasPut : {T : Type 0} → ℕ → T → Type 0
+WasPut ticket waker = ⊤
+
+-- a side that had its place or not, and had registered so often, took back what lay there: this
+-- waker, or none
+pub WasTakenBack : {T : Type 0} → Bool → ℕ → Option T → Type 0
+WasTakenBack had tickets waker = ⊤
+
+-- a check of the other side's slot took the ticket `new`, where the last one was `old`, and got this
+-- waker with it, or none
+pub WasTaken : {T : Type 0} → ℕ → ℕ → Option T → Type 0
+WasTaken old new waker = ⊤
+
 -- an end left: the word of leaving, which it swapped, was so: 1 where the other end had left
 pub FoundGone : Names → ℕ → Type 0
 FoundGone names gone = ⊤
@@ -64,6 +78,19 @@ as_closed names closed = tt
 pub as_back : {T : Type 0} (had : Bool) (waker : Option T) → CameBack had waker
 unfolding CameBack
 as_back had waker = tt
+
+pub as_put : {T : Type 0} (ticket : ℕ) (waker : T) → WasPut ticket waker
+unfolding WasPut
+as_put ticket waker = tt
+
+pub as_taken_back : {T : Type 0} (had : Bool) (tickets : ℕ) (waker : Option T)
+    → WasTakenBack had tickets waker
+unfolding WasTakenBack
+as_taken_back had tickets waker = tt
+
+pub as_taken : {T : Type 0} (old new : ℕ) (waker : Option T) → WasTaken old new waker
+unfolding WasTaken
+as_taken old new waker = tt
 
 pub as_gone : (names : Names) (gone : ℕ) → FoundGone names gone
 unfolding FoundGone

@@ -1,7 +1,8 @@
-//! The two ends of the ring, without wakers. Every call returns, waits for nobody and takes no
+//! The two ends of the ring, and its sides, which can wait. Every call returns, waits for nobody and takes no
 //! lock.
 
 pub(crate) mod cells;
+pub(crate) mod finished;
 pub(crate) mod leaving;
 pub(crate) mod opening;
 pub(crate) mod reader;

@@ -5,11 +5,13 @@
 mod ends;
 mod ring;
 
-pub use ends::cells::{LeftWakers, WakerCells};
-pub use ends::opening::{Slotted, open_ring, open_with_slots};
+pub use ends::cells::LeftWakers;
+pub use ends::finished::{Finished, FinishedReader, FinishedWriter};
+pub use ends::opening::{open_ring, open_with_slots};
 pub use ends::reader::ReadEnd;
+pub use ends::slots::reader::ReadSide;
+pub use ends::slots::writer::WriteSide;
 pub use ends::slots::{Away, ReadRegistrations, WriteRegistrations};
 pub use ends::writer::WriteEnd;
-pub use lent_space::Placed;
 pub use piper_protocol::memory::OutOfMemory;
 pub use ring::marks::{LastReadMark, ReadMark, WriteMark};

@@ -1,14 +1,10 @@
 //! That a side which waits at its slot is found there by the other's next look, with what it left
 //! in its place: held by one thread, and on two threads.
-ghost use Rattle.std.specs.Prelude.{◌≡◌, ◌<◌, ◌^◌, ◌*◌};
-ghost use Rattle.piper_ring.specs.Cells.{AreCellsOf};
+ghost use Rattle.std.specs.Prelude.{◌<◌, ◌^◌, ◌*◌};
 
 use crate::acts::{receive_due, send, send_due};
 use crate::compare::same;
-use piper_ring::{
-    Placed, ReadEnd, ReadRegistrations, Slotted, WakerCells, WriteEnd, WriteRegistrations,
-    open_with_slots,
-};
+use piper_ring::{Finished, ReadSide, WriteSide, open_with_slots};
 use std::alloc::AllocGlobal;
 use std::process::Abort;
 use std::sync::atomic::{AtomicU64, Ordering};
@@ -21,81 +17,51 @@ const MOST_TURNS: u32 = 20_000_000;
 /// What a side leaves while it waits: a number, and the same again, since a place has two words.
 type Left = (u64, u64);
 
-/// An end that reads, with what it has of the slots.
+/// The side that reads.
 #[derive(Drop)]
 struct Reading {
-    end: ReadEnd,
-    slots: ReadRegistrations,
-    places: Placed<WakerCells<Left>>,
-    ghost of_one_ring: { slots.names ≡ end.ring.names },
-    ghost held: { AreCellsOf slots.names places },
+    side: ReadSide<Left>,
 }
 
-/// An end that writes, with what it has of the slots.
+/// The side that writes.
 #[derive(Drop)]
 struct Writing {
-    end: WriteEnd,
-    slots: WriteRegistrations,
-    places: Placed<WakerCells<Left>>,
-    ghost of_one_ring: { slots.names ≡ end.ring.names },
-    ghost held: { AreCellsOf slots.names places },
+    side: WriteSide<Left>,
 }
 
-/// Both ends of a new ring. Ends the test where memory is refused.
+/// Both sides of a new ring. Ends the test where memory is refused.
 fn both(rt: &(impl Abort + AllocGlobal), capacity: usize) -> (Reading, Writing)
     requires { (0 < capacity) × (2 * capacity < 2 ^ 64) }
 {
-    let Slotted {
-        reader,
-        writer,
-        read_slots,
-        write_slots,
-        read_cells,
-        write_cells,
-    } = open_with_slots(rt.alloc(), capacity).expect(rt, "a ring");
-    let reading = Reading {
-        end: reader,
-        slots: read_slots,
-        places: read_cells,
-    };
-    let writing = Writing {
-        end: writer,
-        slots: write_slots,
-        places: write_cells,
-    };
-    (reading, writing)
+    let (read, write) = open_with_slots(rt.alloc(), capacity).expect(rt, "a ring");
+    (Reading { side: read }, Writing { side: write })
 }
 
 impl Reading {
     /// Registers with `number` in its place, and looks once more: whether it waits now. It is no end
     /// to wait where it knows of a byte.
     fn waits(&mut self, number: u64) -> bool {
-        if !self.end.knows_none() {
+        let side = &mut self.side;
+        if !side.end.knows_none() || side.reclaim_waker().is_err() {
             return false;
         }
-        let before = self.end.reclaim_waker(&mut self.slots, &self.places);
-        if before.is_err() {
-            return false;
-        }
-        self.end
-            .publish_waker(&mut self.slots, &self.places, (number, number));
-        self.end.reload_after(&self.slots);
-        !self.end.look_closed_after(&self.slots) && self.end.knows_none()
+        side.publish_waker((number, number));
+        side.reload();
+        !side.look_closed() && side.end.knows_none()
     }
 
     fn wakes(&mut self) -> bool {
-        !self.end.nobody_waits(&mut self.slots)
-            && self.end.take(&mut self.slots, &self.places).is_some()
+        !self.side.nobody_waits() && self.side.take().is_some()
     }
 
     fn sees_the_end(&mut self) -> bool {
-        self.end.look_closed()
+        self.side.end.look_closed()
     }
 
     /// Consumes what is due after the first `received`. Returns how much, or none where it is not
     /// that.
     fn receives_due(&mut self, received: usize) -> Option<usize> {
-        receive_due(&mut self.end, received, 3)
+        receive_due(&mut self.side.end, received, 3)
     }
 }
 
@@ -103,8 +69,8 @@ impl Writing {
     /// Publishes what is due, and takes out what a reader that waits has left. The answer is how
     /// much, and that.
     fn sends_due(&mut self, sent: usize, most: usize) -> (usize, Option<u64>) {
-        let n = send_due(&mut self.end, sent, most);
-        let left = self.end.take(&mut self.slots, &self.places);
+        let n = send_due(&mut self.side.end, sent, most);
+        let left = self.side.take();
         (n, left.map(|(number, _)| number))
     }
 }
@@ -126,12 +92,12 @@ fn who_waits_is_found_once(rt: HostRuntime) {
 #[test]
 fn the_last_end_gets_what_lies_in_a_place(rt: HostRuntime) {
     let (mut reading, writing) = both(&rt, 4);
-    let Writing {
-        end,
-        mut slots,
-        places,
-    } = writing;
-    let (_, taken, left) = end.finish_waking(&mut slots, &places);
+    let Writing { side } = writing;
+    let Finished {
+        side: _,
+        taken,
+        left,
+    } = side.finish();
     same(&rt, &"nobody waited", taken.is_some(), false);
     same(&rt, &"is not the last", left.reader.is_some(), false);
     same(
@@ -140,12 +106,12 @@ fn the_last_end_gets_what_lies_in_a_place(rt: HostRuntime) {
         reading.waits(5),
         false,
     );
-    let Reading {
-        end,
-        mut slots,
-        places,
-    } = reading;
-    let (_, taken, left) = end.finish_waking(&mut slots, &places);
+    let Reading { side } = reading;
+    let Finished {
+        side: _,
+        taken,
+        left,
+    } = side.finish();
     same(&rt, &"nobody waits", taken.is_some(), false);
     same(
         &rt,
@@ -176,12 +142,12 @@ fn send_all(rt: &impl Wait, mut writing: Writing, total: usize, found: &AtomicU6
             thread::yield_now();
         }
     }
-    let Writing {
-        end,
-        mut slots,
-        places,
-    } = writing;
-    let (_, taken, _) = end.finish_waking(&mut slots, &places);
+    let Writing { side } = writing;
+    let Finished {
+        side: _,
+        taken,
+        left: _,
+    } = side.finish();
     if taken.is_some() {
         found.fetch_add(1, Ordering::SeqCst);
     }

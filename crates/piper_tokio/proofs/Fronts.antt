@@ -14,7 +14,7 @@ none_lost n m xs same =
     let few : length (take n xs) ≤ m = omega (arith, length-take n xs) in
     drop_of_length-le (take n xs) few
 
-pub gave_front : (a b : Writer) (n : ℕ) (xs : List ℕ) → Filled n a b xs → (a.end.saw ≡ true → n ≡ 0) → SameWriterButMoved a b → Gave a (take n xs) b
+pub gave_front : (a b : Writer) (n : ℕ) (xs : List ℕ) → Filled n a b xs → (a.side.end.saw ≡ true → n ≡ 0) → SameWriterButMoved a b → Gave a (take n xs) b
 gave_front a b n xs filled over same =
     let m : ℕ = filled.front.0 in
     record {
@@ -22,7 +22,7 @@ gave_front a b n xs filled over same =
       lost = drop m (take n xs);
       given = counted n m xs filled.front.1;
       sent = filled.front.2;
-      all = λ unseen. none_lost n m xs (as_many a.end.sent b.end.sent xs m n filled.front.1 filled.count filled.front.2 (filled.all unseen));
+      all = λ unseen. none_lost n m xs (as_many a.side.end.sent b.side.end.sent xs m n filled.front.1 filled.count filled.front.2 (filled.all unseen));
       over = λ seen. let none : n ≡ 0 = over seen in let zero : m ≡ 0 = omega (arith, filled.front.1) in ap (λ k. take k xs) zero;
       saw = same.end.saw;
       end = same.end.end;

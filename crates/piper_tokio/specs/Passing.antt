@@ -18,10 +18,10 @@ use Rattle.piper.specs.declared.handles.Writer.{Writer}
 -- the reader a took the bytes xs, in this order, and is b now:
 -- an end of the same pipe, and what it saw of closed it keeps
 pub record Took (a : Reader) (xs : List ℕ) (b : Reader) : Type 0 where
-  pub taken : b.end.taken ≡ a.end.taken ++ xs
-  pub saw : flag a.end.saw ≤ flag b.end.saw
-  pub end : SameReadEnd a.end b.end
-  pub slots : b.slots ≡ a.slots
+  pub taken : b.side.end.taken ≡ a.side.end.taken ++ xs
+  pub saw : flag a.side.end.saw ≤ flag b.side.end.saw
+  pub end : SameReadEnd a.side.end b.side.end
+  pub slots : (b.side.cells ≡ a.side.cells) × (b.source ≡ a.source)
 
 -- the writer a was given the bytes xs, in this order, and is b now:
 -- an end of the same pipe. What it published of them is their front,
@@ -30,12 +30,12 @@ pub record Gave (a : Writer) (xs : List ℕ) (b : Writer) : Type 0 where
   pub published : List ℕ
   pub lost : List ℕ
   pub given : xs ≡ published ++ lost
-  pub sent : b.end.sent ≡ a.end.sent ++ published
-  pub all : b.end.saw ≡ false → lost ≡ []
-  pub over : a.end.saw ≡ true → published ≡ []
-  pub saw : flag a.end.saw ≤ flag b.end.saw
-  pub end : SameWriteEnd a.end b.end
-  pub slots : b.slots ≡ a.slots
+  pub sent : b.side.end.sent ≡ a.side.end.sent ++ published
+  pub all : b.side.end.saw ≡ false → lost ≡ []
+  pub over : a.side.end.saw ≡ true → published ≡ []
+  pub saw : flag a.side.end.saw ≤ flag b.side.end.saw
+  pub end : SameWriteEnd a.side.end b.side.end
+  pub slots : (b.side.cells ≡ a.side.cells) × (b.source ≡ a.source)
 
 -- want of memory, since no waker could be made
 abbrev pub WantsMemory : Context → Error → Type 0

@@ -44,20 +44,20 @@ joined_on us vs ws xs ys p q = q ∙ ap (λ zs. zs ++ ys) p ∙ append_assoc us 
 pub took_nothing : (a : Reader) → Took a [] a
 took_nothing a =
     record {
-      taken = sym (append-nil a.end.taken);
-      saw = le_refl (flag a.end.saw);
+      taken = sym (append-nil a.side.end.taken);
+      saw = le_refl (flag a.side.end.saw);
       end = record { ring = refl; capacity = refl; told = refl; told_shut = refl };
-      slots = refl;
+      slots = (refl, refl);
     }
 
 pub took_in_order : (a : Reader) (xs : List ℕ) (b : Reader) (ys : List ℕ) (c : Reader)
     → Took a xs b → Took b ys c → Took a (xs ++ ys) c
 took_in_order a xs b ys c p q =
     record {
-      taken = joined_on a.end.taken b.end.taken c.end.taken xs ys p.taken q.taken;
+      taken = joined_on a.side.end.taken b.side.end.taken c.side.end.taken xs ys p.taken q.taken;
       saw = le_trans p.saw q.saw;
-      end = same_read_end a.end b.end c.end p.end q.end;
-      slots = q.slots ∙ p.slots;
+      end = same_read_end a.side.end b.side.end c.side.end p.end q.end;
+      slots = (q.slots.0 ∙ p.slots.0, q.slots.1 ∙ p.slots.1);
     }
 
 pub gave_nothing : (a : Writer) → Gave a [] a
@@ -66,12 +66,12 @@ gave_nothing a =
       published = [];
       lost = [];
       given = refl;
-      sent = sym (append-nil a.end.sent);
+      sent = sym (append-nil a.side.end.sent);
       all = λ _. refl;
       over = λ _. refl;
-      saw = le_refl (flag a.end.saw);
+      saw = le_refl (flag a.side.end.saw);
       end = record { ring = refl; capacity = refl; told = refl };
-      slots = refl;
+      slots = (refl, refl);
     }
 
 -- two pieces were given: of the first nothing was lost, or of the second nothing was published
@@ -100,16 +100,16 @@ gave_in_order a xs b ys c p q =
       published = p.published ++ q.published;
       lost = p.lost ++ q.lost;
       given =
-          given_on b.end.saw xs ys p.published p.lost q.published q.lost
+          given_on b.side.end.saw xs ys p.published p.lost q.published q.lost
           p.given q.given p.all q.over;
-      sent = joined_on a.end.sent b.end.sent c.end.sent p.published q.published p.sent q.sent;
+      sent = joined_on a.side.end.sent b.side.end.sent c.side.end.sent p.published q.published p.sent q.sent;
       all = λ unseen.
-          both_nil p.lost q.lost (p.all (unseen_before b.end.saw c.end.saw q.saw unseen))
+          both_nil p.lost q.lost (p.all (unseen_before b.side.end.saw c.side.end.saw q.saw unseen))
           (q.all unseen);
       over = λ seen.
           both_nil p.published q.published (p.over seen)
-          (q.over (seen_on a.end.saw b.end.saw p.saw seen));
+          (q.over (seen_on a.side.end.saw b.side.end.saw p.saw seen));
       saw = le_trans p.saw q.saw;
-      end = same_write_end a.end b.end c.end p.end q.end;
-      slots = q.slots ∙ p.slots;
+      end = same_write_end a.side.end b.side.end c.side.end p.end q.end;
+      slots = (q.slots.0 ∙ p.slots.0, q.slots.1 ∙ p.slots.1);
     }

@@ -14,7 +14,7 @@ pub struct CompatReader {
     reader: Reader,
     // `tokio` asks that `buffer` shows what is left of one piece and no more, until the next fill.
     shown: usize,
-    ghost within: { shown ≤ in_one_piece reader.end },
+    ghost within: { shown ≤ in_one_piece reader.side.end },
 }
 
 impl Drop for CompatReader {

@@ -12,13 +12,13 @@ use Rattle.piper_transfer.specs.declared.error.TransferError.TheVariants.{Read, 
 
 pub reader_still : (a b : Reader) (cx : Context) → ReaderPends a b cx → IsStill cx
 reader_still a b cx pends = elim pends.registered [
-  | inl waits ↦ inl (a.registrations.owns, waits.calm)
+  | inl waits ↦ inl (a.side.slots.owns, waits.calm)
   | inr away ↦ inr (away.0, inl (a, b, away.1))
 ]
 
 pub writer_still : (a b : Writer) (cx : Context) → WriterPends a b cx → IsStill cx
 writer_still a b cx pends = elim pends.registered [
-  | inl waits ↦ inl (a.registrations.owns, waits.calm)
+  | inl waits ↦ inl (a.side.slots.owns, waits.calm)
   | inr away ↦ inr (away.0, inr (a, b, away.1))
 ]
 

@@ -95,9 +95,11 @@ fn open<R>(rt: &R, sizes: Sizes) -> Result<(Input, Output), TransferError>
 where
     R: Wait + RandomSource + AllocGlobal + Clone + Drop,
     ensures refused { IfErr result IsOfMemory }
-    ensures ring { IfOk result (λ (input, output). input.writer.end.ring ≡ output.reader.end.ring) }
-    ensures input { IfOk result (λ (input, _). FreshWriteEnd sizes.capacity input.writer.end) }
-    ensures output { IfOk result (λ (_, output). FreshReadEnd sizes.capacity output.reader.end) }
+    ensures ring { IfOk result (λ (input, output).
+        input.writer.side.end.ring ≡ output.reader.side.end.ring) }
+    ensures input { IfOk result (λ (input, _). FreshWriteEnd sizes.capacity input.writer.side.end) }
+    ensures output { IfOk result (λ (_, output).
+        FreshReadEnd sizes.capacity output.reader.side.end) }
 {
     let input_turns = Turns::new(rt).map_err(TransferError::Turns)?;
     let output_turns = Turns::new(rt).map_err(TransferError::Turns)?;
@@ -146,17 +148,17 @@ where
     S: Source + Send,
     D: Destination,
     requires chunk { 0 < chunk }
-    requires is_open { IsOpen input.old.writer.end }
-    requires pair { input.old.writer.end.ring ≡ output.old.reader.end.ring }
-    requires some { 0 < output.old.reader.end.capacity }
+    requires is_open { IsOpen input.old.writer.side.end }
+    requires pair { input.old.writer.side.end.ring ≡ output.old.reader.side.end.ring }
+    requires some { 0 < output.old.reader.side.end.capacity }
     ensures fed { Fed (S.remaining source.old) (S.remaining source.new)
-        input.old.writer.end input.new.writer.end }
+        input.old.writer.side.end input.new.writer.side.end }
     ensures input_ended { IfOk result (λ filled. OnOk filled (IsAtEnd (S.remaining source.new))) }
     ensures poured { Poured D.contents D.took dest.old dest.new
-        output.old.reader.end output.new.reader.end }
+        output.old.reader.side.end output.new.reader.side.end }
     ensures all { OnOk result (PouredAll D.contents D.took dest.old dest.new
-        output.old.reader.end output.new.reader.end) }
-    ensures drained { OnOk result (IsDrained output.new.reader.end input.new.writer.end) }
+        output.old.reader.side.end output.new.reader.side.end) }
+    ensures drained { OnOk result (IsDrained output.new.reader.side.end input.new.writer.side.end) }
     ensures input_told { IfOk result (λ filled. IfErr filled (IsOfSource (S.fails source.new))) }
     ensures reported { IfErr result (IsOfDestination (D.fails dest.new) (D.full dest.new)) }
     ensures threads { IsSpread }
@@ -213,22 +215,22 @@ where
     requires name { name.name.value ≡ N.name }
     requires fails { OutputHasFailed D.fails D.full → N.failed }
     requires chunk { 0 < chunk }
-    requires is_open { IsOpen writer.old.end }
+    requires is_open { IsOpen writer.old.side.end }
     ensures fed { Fed (S.remaining source.old) (S.remaining source.new)
-        writer.old.end writer.new.end }
+        writer.old.side.end writer.new.side.end }
     ensures input_ended { IfSome result.0 (λ r. OnOk r (IsAtEnd (S.remaining source.new))) }
-    ensures fill_left { IfNone result.0 (writer.new.end.shut ≡ false) }
+    ensures fill_left { IfNone result.0 (writer.new.side.end.shut ≡ false) }
     ensures poured { Poured D.contents D.took dest.old dest.new
-        output.old.reader.end output.new.reader.end }
+        output.old.reader.side.end output.new.reader.side.end }
     ensures all { IfSome result.1 (λ r. OnOk r (PouredAll D.contents D.took dest.old dest.new
-        output.old.reader.end output.new.reader.end)) }
-    ensures drained { IfSome result.1 (λ r. OnOk r (IsEnded output.new.reader.end)) }
+        output.old.reader.side.end output.new.reader.side.end)) }
+    ensures drained { IfSome result.1 (λ r. OnOk r (IsEnded output.new.reader.side.end)) }
     ensures input_told { IfSome result.0 (λ r. IfErr r (IsOfSource (S.fails source.new))) }
     ensures reported { IfSome result.1 (λ r. IfErr r
         (IsOfDestination (D.fails dest.new) (D.full dest.new))) }
     ensures drain_given_up { IfNone result.1
         ((output.new ≡ output.old) × (dest.new ≡ dest.old)) }
-    ensures input_closed { IfSome result.0 (λ r. Closes r writer.new.end) }
+    ensures input_closed { IfSome result.0 (λ r. Closes r writer.new.side.end) }
     ensures told { IfSome result.1 (λ r. OnErr r (IsTold N.name)) }
     ensures begun { IfSome result.1 (λ _. HasTwoThreads N.name) }
     ensures drain_late { IfNone result.1 (IsLate N.name) }

@@ -42,10 +42,10 @@ where
     requires chunk { 0 < chunk }
     requires fails { OutputHasFailed D.fails D.full → N.failed }
     ensures poured { Poured D.contents D.took dest.old dest.new
-        output.old.reader.end output.new.reader.end }
+        output.old.reader.side.end output.new.reader.side.end }
     ensures all { IfSome result (λ r. OnOk r (PouredAll D.contents D.took dest.old dest.new
-        output.old.reader.end output.new.reader.end)) }
-    ensures ended { IfSome result (λ r. OnOk r (IsEnded output.new.reader.end)) }
+        output.old.reader.side.end output.new.reader.side.end)) }
+    ensures ended { IfSome result (λ r. OnOk r (IsEnded output.new.reader.side.end)) }
     ensures reported { IfSome result (λ r. IfErr r
         (IsOfDestination (D.fails dest.new) (D.full dest.new))) }
     ensures given_up { IfNone result
@@ -79,10 +79,10 @@ where
     requires chunk { 0 < chunk }
     requires fails { OutputHasFailed D.fails D.full → N.failed }
     ensures poured { Poured D.contents D.took dest.old dest.new
-        output.old.reader.end output.new.reader.end }
+        output.old.reader.side.end output.new.reader.side.end }
     ensures all { OnOk result (PouredAll D.contents D.took dest.old dest.new
-        output.old.reader.end output.new.reader.end) }
-    ensures ended { OnOk result (IsEnded output.new.reader.end) }
+        output.old.reader.side.end output.new.reader.side.end) }
+    ensures ended { OnOk result (IsEnded output.new.reader.side.end) }
     ensures reported { IfErr result (IsOfDestination (D.fails dest.new) (D.full dest.new)) }
     ensures told { OnErr result (IsTold N.name) }
 {
@@ -106,8 +106,8 @@ where
     D: Destination,
     requires chunk { 0 < chunk }
     ensures poured { PouredAll D.contents D.took dest.old dest.new
-        output.old.reader.end output.new.reader.end }
-    ensures ended { OnOk result (IsEnded output.new.reader.end) }
+        output.old.reader.side.end output.new.reader.side.end }
+    ensures ended { OnOk result (IsEnded output.new.reader.side.end) }
     ensures reported { IfErr result (IsOfDestination (D.fails dest.new) (D.full dest.new)) }
 {
     let first = output.turns.first();
@@ -126,9 +126,10 @@ fn give_up<D: Destination, N: Naming>(
     requires failed { IsOfDestination (D.fails _dest.now) (D.full _dest.now) _error.now }
     requires fails { OutputHasFailed D.fails D.full → N.failed }
     ensures told { IsTold N.name }
-    ensures taken { (lost : List ℕ) × (reader.new.end.taken ≡ reader.old.end.taken ++ lost) }
-    ensures ring { reader.new.end.ring ≡ reader.old.end.ring }
-    ensures capacity { reader.new.end.capacity ≡ reader.old.end.capacity }
+    ensures taken { (lost : List ℕ)
+        × (reader.new.side.end.taken ≡ reader.old.side.end.taken ++ lost) }
+    ensures ring { reader.new.side.end.ring ≡ reader.old.side.end.ring }
+    ensures capacity { reader.new.side.end.capacity ≡ reader.old.side.end.capacity }
 {
     over.end_output();
     let known = reader.peek_buf().len();
@@ -150,8 +151,8 @@ where
     D: Destination,
     requires chunk { 0 < chunk }
     ensures poured { PouredAll D.contents D.took dest.old dest.new
-        reader.old.end reader.new.end }
-    ensures ended { OnOk result (IsEnded reader.new.end) }
+        reader.old.side.end reader.new.side.end }
+    ensures ended { OnOk result (IsEnded reader.new.side.end) }
     ensures reported { IfErr result (IsOfDestination (D.fails dest.new) (D.full dest.new)) }
 {
     let mut still = first;
@@ -184,8 +185,8 @@ where
     D: Destination,
     requires chunk { 0 < chunk }
     ensures poured { PouredAll D.contents D.took dest.old dest.new
-        reader.old.end reader.new.end }
-    ensures ended { IfReady result (λ r. OnOk r (IsEnded reader.new.end)) }
+        reader.old.side.end reader.new.side.end }
+    ensures ended { IfReady result (λ r. OnOk r (IsEnded reader.new.side.end)) }
     ensures reported { IfReady result (λ r. IfErr r
         (IsOfDestination (D.fails dest.new) (D.full dest.new))) }
     ensures armed { OnPending result (IsArmed cx.new) }
@@ -220,13 +221,13 @@ where
     R: Wait + Clock,
     D: Destination,
     requires chunk { 0 < chunk }
-    requires some { 0 < length reader.old.end.known }
+    requires some { 0 < length reader.old.side.end.known }
     ensures poured { PouredAll D.contents D.took dest.old dest.new
-        reader.old.end reader.new.end }
-    ensures known { StaysKnown reader.old.end reader.new.end }
+        reader.old.side.end reader.new.side.end }
+    ensures known { StaysKnown reader.old.side.end reader.new.side.end }
     ensures reported { IfErr result (IsOfDestination (D.fails dest.new) (D.full dest.new)) }
     ensures counted { OnOk result
-        (HasCounted (length reader.new.end.taken - length reader.old.end.taken)) }
+        (HasCounted (length reader.new.side.end.taken - length reader.old.side.end.taken)) }
 {
     match write_chunk(rt, reader, dest, chunk) {
         Ok(0) => Err(TransferError::Full),
@@ -244,12 +245,12 @@ where
     R: Wait + Clock,
     D: Destination,
     requires chunk { 0 < chunk }
-    requires some { 0 < length reader.old.end.known }
+    requires some { 0 < length reader.old.side.end.known }
     ensures poured { PouredAll D.contents D.took dest.old dest.new
-        reader.old.end reader.new.end }
-    ensures known { StaysKnown reader.old.end reader.new.end }
+        reader.old.side.end reader.new.side.end }
+    ensures known { StaysKnown reader.old.side.end reader.new.side.end }
     ensures count { IfOk result (λ n.
-        n ≡ length reader.new.end.taken - length reader.old.end.taken) }
+        n ≡ length reader.new.side.end.taken - length reader.old.side.end.taken) }
     ensures full { result ≡ Ok 0 → D.full dest.new }
     ensures error { IfErr result (D.fails dest.new) }
     ensures lasting { IfErr result IsLasting }

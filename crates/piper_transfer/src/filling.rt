@@ -39,16 +39,16 @@ where
     S: Source,
     N: Naming,
     requires chunk { 0 < chunk }
-    requires is_open { IsOpen writer.old.end }
+    requires is_open { IsOpen writer.old.side.end }
     ensures fed { Fed (S.remaining source.old) (S.remaining source.new)
-        writer.old.end writer.new.end }
+        writer.old.side.end writer.new.side.end }
     ensures ended { IfSome result (λ r. OnOk r (IsAtEnd (S.remaining source.new))) }
     ensures reported { IfSome result (λ r. IfErr r (IsOfSource (S.fails source.new))) }
-    ensures closed { IfSome result (λ r. Closes r writer.new.end) }
+    ensures closed { IfSome result (λ r. Closes r writer.new.side.end) }
     ensures asked { IfSome result (λ r. OnOk r (WasAsked N.name)) }
-    ensures left { IfNone result (writer.new.end.shut ≡ false) }
+    ensures left { IfNone result (writer.new.side.end.shut ≡ false) }
     ensures told { IfNone result
-        (IsLate N.name ⊎ (N.failed ⊎ (writer.new.end.saw ≡ true))) }
+        (IsLate N.name ⊎ (N.failed ⊎ (writer.new.side.end.saw ≡ true))) }
 {
     if !start.begin(rt, second) {
         return None;
@@ -78,13 +78,13 @@ where
     S: Source,
     H: Hears,
     requires chunk { 0 < chunk }
-    requires is_open { IsOpen writer.old.end }
+    requires is_open { IsOpen writer.old.side.end }
     ensures fed { Fed (S.remaining source.old) (S.remaining source.new)
-        writer.old.end writer.new.end }
+        writer.old.side.end writer.new.side.end }
     ensures ended { OnOk result (IsAtEnd (S.remaining source.new)) }
     ensures stopped { IfErr result
-        (StopsSource (S.fails source.new) (IsLeft H.failed writer.new.end)) }
-    ensures closed { StopsClosed result writer.new.end }
+        (StopsSource (S.fails source.new) (IsLeft H.failed writer.new.side.end)) }
+    ensures closed { StopsClosed result writer.new.side.end }
     ensures asked { OnOk result H.asked }
 {
     let mut still = first;
@@ -120,15 +120,15 @@ where
     S: Source,
     H: Hears,
     requires chunk { 0 < chunk }
-    requires is_open { IsOpen writer.old.end }
+    requires is_open { IsOpen writer.old.side.end }
     ensures fed { Fed (S.remaining source.old) (S.remaining source.new)
-        writer.old.end writer.new.end }
+        writer.old.side.end writer.new.side.end }
     ensures ended { IfReady result (λ r. OnOk r (IsAtEnd (S.remaining source.new))) }
     ensures stopped { IfReady result (λ r. IfErr r
-        (StopsSource (S.fails source.new) (IsLeft H.failed writer.new.end))) }
-    ensures closed { IfReady result (λ r. StopsClosed r writer.new.end) }
+        (StopsSource (S.fails source.new) (IsLeft H.failed writer.new.side.end))) }
+    ensures closed { IfReady result (λ r. StopsClosed r writer.new.side.end) }
     ensures asked { H.asked }
-    ensures is_open { OnPending result (IsOpen writer.new.end) }
+    ensures is_open { OnPending result (IsOpen writer.new.side.end) }
     ensures armed { OnPending result (IsArmed cx.new) }
     ensures still { OnPending result (IsStill cx.new) }
 {
@@ -174,13 +174,13 @@ where
     S: Source,
     H: Hears,
     requires most { 0 < most }
-    requires room { 0 < writer.old.end.room }
-    requires is_open { IsOpen writer.old.end }
+    requires room { 0 < writer.old.side.end.room }
+    requires is_open { IsOpen writer.old.side.end }
     ensures fed { Fed (S.remaining source.old) (S.remaining source.new)
-        writer.old.end writer.new.end }
+        writer.old.side.end writer.new.side.end }
     ensures ended { result ≡ Ok 0 → IsAtEnd (S.remaining source.new) }
     ensures stopped { IfErr result (StopsSource (S.fails source.new) H.failed) }
-    ensures is_open { IsOpen writer.new.end }
+    ensures is_open { IsOpen writer.new.side.end }
     ensures counted { IfOk result HasCounted }
 {
     let count = read_patiently(rt, source, writer.write_buf(most), over)?;
@@ -196,9 +196,9 @@ fn close(
     ended: Result<(), Stop>,
 ) -> Poll<Result<(), Stop>>
     ensures answer { result ≡ Poll.Ready ended }
-    ensures sent { writer.new.end.sent ≡ writer.old.end.sent }
-    ensures ring { writer.new.end.ring ≡ writer.old.end.ring }
-    ensures shut { writer.new.end.shut ≡ true }
+    ensures sent { writer.new.side.end.sent ≡ writer.old.side.end.sent }
+    ensures ring { writer.new.side.end.ring ≡ writer.old.side.end.ring }
+    ensures shut { writer.new.side.end.shut ≡ true }
 {
     let _closed = writer.poll_close(cx);
     Poll::Ready(ended)

@@ -45,7 +45,7 @@ impl Level {
         R: Wait + Clock,
         ensures level { IfSome result.held (λ held.
             (self.now.bytes ≤ held) × MayBeUnread reader.now held) }
-        ensures closed { IfNone result.held (FoundClosed reader.now.end.ring.names true) }
+        ensures closed { IfNone result.held (FoundClosed reader.now.side.end.ring.names true) }
     {
         for _ in rt.forever() {
             let held = reader.len();

@@ -34,15 +34,15 @@ where
     S: Source,
     D: Destination,
     requires chunk { 0 < chunk }
-    requires is_open { IsOpen writer.old.end }
-    requires pair { writer.old.end.ring ≡ reader.old.end.ring }
-    requires some { 0 < reader.old.end.capacity }
+    requires is_open { IsOpen writer.old.side.end }
+    requires pair { writer.old.side.end.ring ≡ reader.old.side.end.ring }
+    requires some { 0 < reader.old.side.end.capacity }
     ensures fed { Fed (S.remaining source.old) (S.remaining source.new)
-        writer.old.end writer.new.end }
+        writer.old.side.end writer.new.side.end }
     ensures input_ended { IfOk result (λ filled. OnOk filled (IsAtEnd (S.remaining source.new))) }
     ensures poured { PouredAll D.contents D.took dest.old dest.new
-        reader.old.end reader.new.end }
-    ensures all { OnOk result (reader.new.end.taken ≡ writer.new.end.sent) }
+        reader.old.side.end reader.new.side.end }
+    ensures all { OnOk result (reader.new.side.end.taken ≡ writer.new.side.end.sent) }
     ensures input_told { IfOk result (λ filled. IfErr filled (IsOfSource (S.fails source.new))) }
     ensures reported { IfErr result (IsOfDestination (D.fails dest.new) (D.full dest.new)) }
 {
@@ -82,15 +82,15 @@ where
     S: Source,
     D: Destination,
     requires chunk { 0 < chunk }
-    requires left { writer.old.end.shut ≡ false }
-    requires pair { writer.old.end.ring ≡ reader.old.end.ring }
-    requires some { 0 < reader.old.end.capacity }
+    requires left { writer.old.side.end.shut ≡ false }
+    requires pair { writer.old.side.end.ring ≡ reader.old.side.end.ring }
+    requires some { 0 < reader.old.side.end.capacity }
     ensures fed { Fed (S.remaining source.old) (S.remaining source.new)
-        writer.old.end writer.new.end }
+        writer.old.side.end writer.new.side.end }
     ensures input_ended { IfOk result (λ filled. OnOk filled (IsAtEnd (S.remaining source.new))) }
     ensures poured { PouredAll D.contents D.took dest.old dest.new
-        reader.old.end reader.new.end }
-    ensures all { OnOk result (reader.new.end.taken ≡ writer.new.end.sent) }
+        reader.old.side.end reader.new.side.end }
+    ensures all { OnOk result (reader.new.side.end.taken ≡ writer.new.side.end.sent) }
     ensures input_told { IfOk result (λ filled. IfErr filled (IsOfSource (S.fails source.new))) }
     ensures reported { IfErr result (IsOfDestination (D.fails dest.new) (D.full dest.new)) }
 {
@@ -113,12 +113,12 @@ where
     R: Wait + Clock,
     D: Destination,
     requires chunk { 0 < chunk }
-    requires pair { writer.old.end.ring ≡ reader.old.end.ring }
-    requires some { 0 < reader.old.end.capacity }
-    ensures writer { WriterRefreshed writer.old.end writer.new.end }
+    requires pair { writer.old.side.end.ring ≡ reader.old.side.end.ring }
+    requires some { 0 < reader.old.side.end.capacity }
+    ensures writer { WriterRefreshed writer.old.side.end writer.new.side.end }
     ensures poured { PouredAll D.contents D.took dest.old dest.new
-        reader.old.end reader.new.end }
-    ensures room { OnOk result (0 < writer.new.end.room) }
+        reader.old.side.end reader.new.side.end }
+    ensures room { OnOk result (0 < writer.new.side.end.room) }
     ensures reported { IfErr result (IsOfDestination (D.fails dest.new) (D.full dest.new)) }
 {
     reader.meet(writer);
@@ -141,13 +141,13 @@ where
     R: Wait + Clock,
     D: Destination,
     requires chunk { 0 < chunk }
-    requires pair { writer.old.end.ring ≡ reader.old.end.ring }
-    requires some { 0 < reader.old.end.capacity }
-    ensures writer { WriterRefreshed writer.old.end writer.new.end }
+    requires pair { writer.old.side.end.ring ≡ reader.old.side.end.ring }
+    requires some { 0 < reader.old.side.end.capacity }
+    ensures writer { WriterRefreshed writer.old.side.end writer.new.side.end }
     ensures poured { PouredAll D.contents D.took dest.old dest.new
-        reader.old.end reader.new.end }
-    ensures all { OnOk result (reader.new.end.taken ≡ writer.new.end.sent) }
-    ensures room { OnOk result (0 < writer.new.end.room) }
+        reader.old.side.end reader.new.side.end }
+    ensures all { OnOk result (reader.new.side.end.taken ≡ writer.new.side.end.sent) }
+    ensures room { OnOk result (0 < writer.new.side.end.room) }
     ensures reported { IfErr result (IsOfDestination (D.fails dest.new) (D.full dest.new)) }
 {
     reader.meet(writer);
@@ -169,9 +169,9 @@ where
     D: Destination,
     requires chunk { 0 < chunk }
     ensures poured { PouredAll D.contents D.took dest.old dest.new
-        reader.old.end reader.new.end }
-    ensures known { StaysKnown reader.old.end reader.new.end }
-    ensures all { OnOk result (reader.new.end.known ≡ []) }
+        reader.old.side.end reader.new.side.end }
+    ensures known { StaysKnown reader.old.side.end reader.new.side.end }
+    ensures all { OnOk result (reader.new.side.end.known ≡ []) }
     ensures reported { IfErr result (IsOfDestination (D.fails dest.new) (D.full dest.new)) }
 {
     for _ in rt.forever() {

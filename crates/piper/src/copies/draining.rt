@@ -140,13 +140,14 @@ impl Reader {
         ensures drained { DrainsLike W.takes W.is_full W.fails result
             self.old self.new dest.old dest.new }
         ensures failures { CountsFailure result (W.failures dest.old) (W.failures dest.new) }
-        ensures ended { EndIsTrue result self.old.end self.new.end }
-        ensures all { KnowsEnd self.old.end → self.new.end.all ≡ self.old.end.all }
-        ensures stays { IsEnded self.old.end → IsEnded self.new.end }
-        ensures unseen { EndIsUnseen result self.old.end self.new.end }
+        ensures ended { EndIsTrue result self.old.side.end self.new.side.end }
+        ensures all { KnowsEnd self.old.side.end → self.new.side.end.all ≡ self.old.side.end.all }
+        ensures stays { IsEnded self.old.side.end → IsEnded self.new.side.end }
+        ensures unseen { EndIsUnseen result self.old.side.end self.new.side.end }
         ensures waiting { DrainsWaiting result self.old self.new cx.old cx.new }
         ensures woken { WakesWriter self.old self.new }
-        ensures slots { self.new.slots ≡ self.old.slots }
+        ensures slots { (self.new.side.cells ≡ self.old.side.cells)
+            × (self.new.source ≡ self.old.source) }
     {
         let call = match self.look_first(OfCopy) {
             Ok(call) => call,
@@ -172,11 +173,11 @@ impl Reader {
         ensures drained { DrainsLike W.takes W.is_full W.fails result
             self.old self.new dest.old dest.new }
         ensures failures { CountsFailure result (W.failures dest.old) (W.failures dest.new) }
-        ensures ended { EndIsTrue result self.old.end self.new.end }
-        ensures all { KnowsEnd self.old.end → self.new.end.all ≡ self.old.end.all }
-        ensures stays { IsEnded self.old.end → IsEnded self.new.end }
-        ensures waits { OnPending result (found_len self.old.end self.new.end ≡ 0) }
-        ensures unseen { EndIsUnseen result self.old.end self.new.end }
+        ensures ended { EndIsTrue result self.old.side.end self.new.side.end }
+        ensures all { KnowsEnd self.old.side.end → self.new.side.end.all ≡ self.old.side.end.all }
+        ensures stays { IsEnded self.old.side.end → IsEnded self.new.side.end }
+        ensures waits { OnPending result (found_len self.old.side.end self.new.side.end ≡ 0) }
+        ensures unseen { EndIsUnseen result self.old.side.end self.new.side.end }
         ensures granted { OnMemory result ⊥ }
         ensures woken { WakesWriter self.old self.new }
         ensures rest { SameReaderButWoke self.old self.new }
@@ -199,10 +200,10 @@ impl Reader {
     ) -> Poll<Result<usize, Inner<W::Error>>>
         requires { moved_by call ≡ 0 }
         ensures drained { DrainRounds W.takes W.is_full W.fails result
-            self.old.end self.new.end dest.old dest.new }
+            self.old.side.end self.new.side.end dest.old dest.new }
         ensures failures { CountsFailure result (W.failures dest.old) (W.failures dest.new) }
         ensures ready { IsAtOnce result }
-        ensures all { self.new.end.all ≡ self.old.end.all }
+        ensures all { self.new.side.end.all ≡ self.old.side.end.all }
         ensures woke { WakesWriter self.old self.new }
         ensures rest { SameReaderButWoke self.old self.new }
     {
@@ -231,10 +232,10 @@ impl Reader {
     // One call of the destination, on known bytes in one piece.
     #[inline(always)]
     fn drain_round<W: WriteLike>(&self, dest: &mut W) -> Result<usize, W::Error>
-        ensures bound { IfOk result (λ n. n ≤ in_one_piece self.now.end) }
+        ensures bound { IfOk result (λ n. n ≤ in_one_piece self.now.side.end) }
         ensures most { IfOk result (λ n. n ≤ MOST_A_ROUND) }
-        ensures bytes { W.takes dest.old (passed result self.now.end.known) dest.new }
-        ensures full { result ≡ Ok 0 → (self.now.end.known ≡ []) ⊎ W.is_full dest.new }
+        ensures bytes { W.takes dest.old (passed result self.now.side.end.known) dest.new }
+        ensures full { result ≡ Ok 0 → (self.now.side.end.known ≡ []) ⊎ W.is_full dest.new }
         ensures error { IfErr result (λ e. W.fails dest.old e dest.new) }
         ensures failures { Counts result (W.failures dest.old) (W.failures dest.new) }
     {

@@ -157,7 +157,8 @@ impl Writer {
         ensures end { FillsEnd result self.old self.new }
         ensures waiting { FillsWaiting result self.old self.new cx.old cx.new }
         ensures woken { WakesReader self.old self.new }
-        ensures slots { self.new.slots ≡ self.old.slots }
+        ensures slots { (self.new.side.cells ≡ self.old.side.cells)
+            × (self.new.source ≡ self.old.source) }
     {
         let call = match self.poll_inner(cx) {
             Ok(call) => call,
@@ -181,7 +182,7 @@ impl Writer {
             self.old self.new source.old source.new }
         ensures failures { CountsFailure result (R.failures source.old) (R.failures source.new) }
         ensures end { FillsEnd result self.old self.new }
-        ensures waits { OnPending result (self.new.end.room ≡ 0) }
+        ensures waits { OnPending result (self.new.side.end.room ≡ 0) }
         ensures granted { OnMemory result ⊥ }
         ensures woken { WakesReader self.old self.new }
         ensures rest { SameWriterButWoke self.old self.new }
@@ -203,13 +204,13 @@ impl Writer {
         source: &mut R,
     ) -> Poll<Result<usize, Inner<R::Error>>>
         requires begins { moved_by call ≡ 0 }
-        requires is_open { (self.old.end.shut ≡ false) × (self.old.end.saw ≡ false) }
-        requires some { 0 < self.old.end.room }
+        requires is_open { (self.old.side.end.shut ≡ false) × (self.old.side.end.saw ≡ false) }
+        requires some { 0 < self.old.side.end.room }
         ensures filled { FillRounds R.gives R.is_dry R.fails result
-            self.old.end self.new.end source.old source.new }
+            self.old.side.end self.new.side.end source.old source.new }
         ensures failures { CountsFailure result (R.failures source.old) (R.failures source.new) }
-        ensures open { OnNoCount result (self.new.end.saw ≡ false) }
-        ensures found { FoundRoom result self.new.end }
+        ensures open { OnNoCount result (self.new.side.end.saw ≡ false) }
+        ensures found { FoundRoom result self.new.side.end }
         ensures ready { IsAtOnce result }
         ensures woke { WakesReader self.old self.new }
         ensures rest { SameWriterButWoke self.old self.new }
@@ -244,15 +245,15 @@ impl Writer {
     // One call of the source, on room that is lent to it in one piece, no more than it asks for.
     #[inline(always)]
     fn fill_round<R: ReadLike>(&mut self, asks: usize, source: &mut R) -> Result<usize, R::Error>
-        requires is_open { self.old.end.shut ≡ false }
+        requires is_open { self.old.side.end.shut ≡ false }
         requires some { 0 < asks }
-        ensures bound { IfOk result (λ n. n ≤ length self.new.end.lent) }
-        ensures most { IfOk result (λ n. n ≤ most_of_round self.new.end) }
-        ensures bytes { R.gives source.old (passed result self.new.end.lent) source.new }
-        ensures dry { result ≡ Ok 0 → (self.new.end.room ≡ 0) ⊎ R.is_dry source.new }
+        ensures bound { IfOk result (λ n. n ≤ length self.new.side.end.lent) }
+        ensures most { IfOk result (λ n. n ≤ most_of_round self.new.side.end) }
+        ensures bytes { R.gives source.old (passed result self.new.side.end.lent) source.new }
+        ensures dry { result ≡ Ok 0 → (self.new.side.end.room ≡ 0) ⊎ R.is_dry source.new }
         ensures error { IfErr result (λ e. R.fails source.old e source.new) }
         ensures failures { Counts result (R.failures source.old) (R.failures source.new) }
-        ensures end { WriterRelent self.old.end self.new.end }
+        ensures end { WriterRelent self.old.side.end self.new.side.end }
         ensures rest { SameWriter self.old self.new }
     {
         source.read(self.write_buf(asks.min(MOST_A_ROUND)))

@@ -19,13 +19,13 @@ impl AsyncRead for Reader {
     ghost use Rattle.piper.specs.Polls.{IfReadyErr};
     ghost use Rattle.piper.specs.ReaderCalls.{DrainPends, DrainsEnd, DrainsSlice, DrawsToYield, SameReaderButMoved, WakesWriter};
 
-    ghost taken = { λ r. r.end.taken };
+    ghost taken = { λ r. r.side.end.taken };
 
-    ghost saw = { λ r. r.end.saw };
+    ghost saw = { λ r. r.side.end.saw };
 
-    ghost told = { λ r. r.end.told_shut };
+    ghost told = { λ r. r.side.end.told_shut };
 
-    ghost ended = { λ r. IsEnded r.end };
+    ghost ended = { λ r. IsEnded r.side.end };
 
     ghost needs = { λ r s. s ≡ read_source r };
 
@@ -60,17 +60,17 @@ impl AsyncBufRead for Reader {
     ghost use Rattle.piper.specs.ReaderCalls.{AtEnd, LendsPiece, PollsPiece, SameReaderButConsumed};
     ghost use Rattle.piper.specs.contracts.handles.Reader.{the_row};
 
-    ghost known = { λ r. r.end.known };
+    ghost known = { λ r. r.side.end.known };
 
-    ghost piece = { λ r. in_one_piece r.end };
+    ghost piece = { λ r. in_one_piece r.side.end };
 
-    ghost taken = { λ r. r.end.taken };
+    ghost taken = { λ r. r.side.end.taken };
 
-    ghost saw = { λ r. r.end.saw };
+    ghost saw = { λ r. r.side.end.saw };
 
-    ghost told = { λ r. r.end.told_shut };
+    ghost told = { λ r. r.side.end.told_shut };
 
-    ghost ended = { λ r. IsEnded r.end };
+    ghost ended = { λ r. IsEnded r.side.end };
 
     ghost needs = { λ r s. s ≡ read_source r };
 
@@ -114,9 +114,9 @@ impl AsyncWrite for Writer {
     ghost use Rattle.piper.specs.CopyAnswers.{inner_of};
     ghost use Rattle.piper.specs.WriterCalls.{DrawsToYield, FillPends, FillsEnd, FillsSlice, SameWriterButMoved, SameWriterButShut, WakesReader};
 
-    ghost sent = { λ w. w.end.sent };
+    ghost sent = { λ w. w.side.end.sent };
 
-    ghost saw = { λ w. w.end.saw };
+    ghost saw = { λ w. w.side.end.saw };
 
     ghost needs = { λ w s. s ≡ write_source w };
 

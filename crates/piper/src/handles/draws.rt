@@ -16,11 +16,12 @@ impl Reader {
         ensures draw { IsTrue result ↔ DrawsYield self.old.rng }
         ensures rng { self.new.rng ≡ drawn_from self.old.rng }
         ensures leaves { ReaderLeavesNone self.new }
-        ensures slots { self.new.slots ≡ self.old.slots }
-        ensures looks { SameReaderLooks self.old.registrations self.new.registrations }
-        ensures end { self.new.end ≡ self.old.end }
+        ensures slots { (self.new.side.cells ≡ self.old.side.cells)
+            × (self.new.source ≡ self.old.source) }
+        ensures looks { SameReaderLooks self.old.side.slots self.new.side.slots }
+        ensures end { self.new.side.end ≡ self.old.side.end }
     {
-        if self.registrations.maybe_registered() {
+        if self.side.slots.maybe_registered() {
             self.let_own_go();
         }
         draw(&mut self.rng)
@@ -35,11 +36,12 @@ impl Writer {
         ensures draw { IsTrue result ↔ DrawsYield self.old.rng }
         ensures rng { self.new.rng ≡ drawn_from self.old.rng }
         ensures leaves { WriterLeavesNone self.new }
-        ensures slots { self.new.slots ≡ self.old.slots }
-        ensures looks { SameWriterLooks self.old.registrations self.new.registrations }
-        ensures end { self.new.end ≡ self.old.end }
+        ensures slots { (self.new.side.cells ≡ self.old.side.cells)
+            × (self.new.source ≡ self.old.source) }
+        ensures looks { SameWriterLooks self.old.side.slots self.new.side.slots }
+        ensures end { self.new.side.end ≡ self.old.side.end }
     {
-        if self.registrations.maybe_registered() {
+        if self.side.slots.maybe_registered() {
             self.let_own_go();
         }
         draw(&mut self.rng)

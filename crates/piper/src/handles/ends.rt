@@ -5,8 +5,9 @@ ghost use Rattle.piper_ring.specs.ReadView.{Agree};
 ghost use Rattle.piper_ring.specs.WriteView.{either};
 
 use super::{Reader, Writer};
-use crate::finished::{FinishedReader, FinishedWriter};
-use piper_ring::{LastReadMark, ReadEnd, ReadMark, WriteEnd, WriteMark};
+use piper_ring::{
+    FinishedReader, FinishedWriter, LastReadMark, ReadEnd, ReadMark, WriteEnd, WriteMark,
+};
 
 impl Reader {
     ghost use Rattle.piper.specs.OfReader.{end_of, ring, capacity, taken, known, told, told_shut};
@@ -17,7 +18,7 @@ impl Reader {
     pub fn end(&self) -> &ReadEnd
         ensures { result.now ≡ end_of self.now }
     {
-        &self.end
+        &self.side.end
     }
 
     /// From now on it knows what the mark reports: a look finds at least the bytes that were
@@ -33,7 +34,7 @@ impl Reader {
         ensures all { KeepsAll self.old self.new }
         ensures rest { SameReaderButTold self.old self.new }
     {
-        self.end.heed(mark);
+        self.side.end.heed(mark);
     }
 
     /// Is called where one thread holds both handles of a pipe. After it the reader knows of all
@@ -54,12 +55,8 @@ impl Reader {
         ensures writer_woken { MeetWriter other.old other.new self.old }
         ensures rest { MeetSame self.old self.new other.old other.new }
     {
-        self.end.meet_slots(
-            &mut self.registrations,
-            &other.end,
-            &mut other.registrations,
-        );
-        self.end.meet(&mut other.end);
+        self.side.meet_slots(&mut other.side);
+        self.side.end.meet(&mut other.side.end);
     }
 
     /// Heeds the last mark of the writer that was dropped; its bytes become known at the next look.
@@ -75,9 +72,8 @@ impl Reader {
         ensures rest { SameReaderButTold self.old self.new }
         ensures kept { left.new ≡ left.old }
     {
-        self.end
-            .meet_finished(&mut self.registrations, &mut left.registrations);
-        self.end.heed(&left.told);
+        self.side.meet_slot(&mut left.slots);
+        self.side.end.heed(&left.told);
     }
 }
 
@@ -90,7 +86,7 @@ impl Writer {
     pub fn end(&self) -> &WriteEnd
         ensures { result.now ≡ end_of self.now }
     {
-        &self.end
+        &self.side.end
     }
 
     /// From now on it knows what the mark reports: a look finds at least the room that was given
@@ -100,7 +96,7 @@ impl Writer {
         ensures told { told self.new ≡ max (told self.old) mark.now.count }
         ensures rest { SameWriterButTold self.old self.new }
     {
-        self.end.heed(mark);
+        self.side.end.heed(mark);
     }
 
     /// From now on it knows that the reader was dropped: the pipe counts as seen closed, so polls
@@ -111,7 +107,7 @@ impl Writer {
         ensures told { told self.new ≡ max (told self.old) mark.now.consumed.count }
         ensures rest { SameWriterButLast self.old self.new }
     {
-        self.end.heed_last(mark);
+        self.side.end.heed_last(mark);
     }
 
     /// Heeds the last mark of the reader that was dropped (`heed_last`). And the writer was not
@@ -125,9 +121,8 @@ impl Writer {
         ensures rest { SameWriterButLast self.old self.new }
         ensures kept { left.new ≡ left.old }
     {
-        self.end
-            .meet_finished(&mut self.registrations, &mut left.registrations);
-        self.end.heed_last(&left.told);
+        self.side.meet_slot(&mut left.slots);
+        self.side.end.heed_last(&left.told);
     }
 
     /// Lends at most `max` bytes of the known room, in one piece, to be written: at least one where
@@ -142,6 +137,6 @@ impl Writer {
         ensures length { MayLend self.old max (length result.now) }
         ensures some { MustLend self.old max → 0 < length result.now }
     {
-        self.end.write_buf(max)
+        self.side.write_buf(max)
     }
 }

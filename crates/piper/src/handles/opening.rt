@@ -4,8 +4,8 @@ ghost use Rattle.piper_protocol.specs.Reported.{HasFailed};
 ghost use Rattle.piper.specs.Handles.{AreFresh, ArePair, DrawFrom};
 
 use super::{Reader, Writer};
-use crate::slots::Slots;
-use piper_ring::{OutOfMemory, Slotted, open_with_slots};
+use futures::task::Source;
+use piper_ring::{OutOfMemory, open_with_slots};
 use rand_core::SeedableRng;
 use rand_pcg::Pcg32;
 use std::alloc::Global;
@@ -23,24 +23,15 @@ pub fn pipe(alloc: Global, cap: usize, seed: u64) -> Result<(Reader, Writer), Ou
     ensures draws { IfOk result (λ (reader, writer). DrawFrom seed reader writer) }
     ensures refused { IfErr result HasFailed }
 {
-    let Slotted {
-        reader,
-        writer,
-        read_slots,
-        write_slots,
-        read_cells,
-        write_cells,
-    } = open_with_slots(alloc, cap)?;
+    let (read, write) = open_with_slots(alloc, cap)?;
     let reader = Reader {
-        end: reader,
-        registrations: read_slots,
-        slots: Slots::new(read_cells),
+        side: read,
+        source: Source::new(),
         rng: Pcg32::seed_from_u64(seed),
     };
     let writer = Writer {
-        end: writer,
-        registrations: write_slots,
-        slots: Slots::new(write_cells),
+        side: write,
+        source: Source::new(),
         rng: Pcg32::seed_from_u64(seed ^ 1),
     };
     Ok((reader, writer))

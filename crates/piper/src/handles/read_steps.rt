@@ -13,12 +13,11 @@ ghost use Rattle.piper.specs.Slots.{found_in, waker_in};
 ghost use Rattle.piper.specs.Ends.{HasAll, IsEnded, ReaderIsUpToDate, ReaderRefreshed, ReaderSaw, ReaderConsumed};
 
 use super::Reader;
-use crate::finished::FinishedReader;
 use crate::slots::Taken;
 use futures::task::{Context, Poll, Waker};
 use piper_protocol::memory::OutOfMemory;
 use piper_protocol::steps::{HasWork, OfPoll, Store, StoreClosed, TakeOther};
-use piper_ring::{Away, LastReadMark, ReadMark};
+use piper_ring::{Away, Finished, FinishedReader, LastReadMark, ReadMark};
 
 impl Reader {
     ghost use Rattle.piper.specs.Handles.{NotifiesWriter, SameReader, SameReaderButWaits, SameReaderButWoke, read_source};
@@ -26,31 +25,31 @@ impl Reader {
 
     /// Loads the tail where no byte is known, and reports whether none is known even now.
     pub(crate) fn load_tail(&mut self) -> bool
-        requires none { length self.old.end.known ≡ 0 }
-        ensures none { IsTrue result ↔ (length self.new.end.known ≡ 0) }
-        ensures after { length self.old.registrations.bytes
-            ≤ length (self.new.end.taken ++ self.new.end.known) }
-        ensures fresh { ReaderIsUpToDate self.new.end }
-        ensures all { KnowsEnd self.old.end → HasAll self.old.end self.new.end }
-        ensures stays { IsEnded self.old.end → IsEnded self.new.end }
-        ensures end { ReaderRefreshed self.old.end self.new.end }
+        requires none { length self.old.side.end.known ≡ 0 }
+        ensures none { IsTrue result ↔ (length self.new.side.end.known ≡ 0) }
+        ensures after { length self.old.side.slots.bytes
+            ≤ length (self.new.side.end.taken ++ self.new.side.end.known) }
+        ensures fresh { ReaderIsUpToDate self.new.side.end }
+        ensures all { KnowsEnd self.old.side.end → HasAll self.old.side.end self.new.side.end }
+        ensures stays { IsEnded self.old.side.end → IsEnded self.new.side.end }
+        ensures end { ReaderRefreshed self.old.side.end self.new.side.end }
         ensures rest { SameReader self.old self.new }
     {
-        self.end.reload_after(&self.registrations);
-        self.end.knows_none()
+        self.side.reload();
+        self.side.end.knows_none()
     }
 
     /// Loads closed, and reports what the flag was.
     pub(crate) fn load_closed(&mut self) -> bool
-        ensures saw { result ≡ self.new.end.saw }
-        ensures after { flag self.old.registrations.shut ≤ flag self.new.end.saw }
-        ensures told { flag self.old.end.told_shut ≤ flag self.new.end.saw }
-        ensures all { KnowsEnd self.old.end → self.new.end.all ≡ self.old.end.all }
-        ensures stays { IsEnded self.old.end → IsEnded self.new.end }
-        ensures end { ReaderSaw self.old.end self.new.end }
+        ensures saw { result ≡ self.new.side.end.saw }
+        ensures after { flag self.old.side.slots.shut ≤ flag self.new.side.end.saw }
+        ensures told { flag self.old.side.end.told_shut ≤ flag self.new.side.end.saw }
+        ensures all { KnowsEnd self.old.side.end → self.new.side.end.all ≡ self.old.side.end.all }
+        ensures stays { IsEnded self.old.side.end → IsEnded self.new.side.end }
+        ensures end { ReaderSaw self.old.side.end self.new.side.end }
         ensures rest { SameReader self.old self.new }
     {
-        self.end.look_closed_after(&self.registrations)
+        self.side.look_closed()
     }
 
     /// Registers in the reader's slot, and reports whether a waker was granted. Where the writer
@@ -59,12 +58,12 @@ impl Reader {
     pub(crate) fn register(&mut self, cx: &mut Context<'_>) -> bool
         ensures covered { Covers cx.new (λ s. s ≡ read_source self.old) }
         ensures registered { IsTrue result →
-            (Registers self.old.registrations self.new.registrations
-            × IsCalm self.old.registrations.owns cx.new)
+            (Registers self.old.side.slots self.new.side.slots
+            × IsCalm self.old.side.slots.owns cx.new)
             ⊎ (AsksAgain cx.new × ReaderIsAway self.old self.new) }
         ensures refused { IsFalse result → cx.new.lacks_waker ≡ true }
         ensures kept { Keeps cx.old cx.new }
-        ensures end { self.new.end ≡ self.old.end }
+        ensures end { self.new.side.end ≡ self.old.side.end }
         ensures rest { SameReaderButWaits self.old self.new }
     {
         self.register_or_yield(cx).is_ok()
@@ -76,13 +75,13 @@ impl Reader {
     fn register_or_yield(&mut self, cx: &mut Context<'_>) -> Result<Option<Away>, OutOfMemory>
         ensures covered { Covers cx.new (λ s. s ≡ read_source self.old) }
         ensures registered { IfOk result (λ away. away ≡ None →
-            Registers self.old.registrations self.new.registrations
-            × IsCalm self.old.registrations.owns cx.new) }
+            Registers self.old.side.slots self.new.side.slots
+            × IsCalm self.old.side.slots.owns cx.new) }
         ensures away { IfOk result (λ away. IsSome away →
             AsksAgain cx.new × ReaderIsAway self.old self.new) }
         ensures refused { IfErr result (λ _. cx.new.lacks_waker ≡ true) }
         ensures kept { Keeps cx.old cx.new }
-        ensures end { self.new.end ≡ self.old.end }
+        ensures end { self.new.side.end ≡ self.old.side.end }
         ensures rest { SameReaderButWaits self.old self.new }
     {
         let held = match self.reclaim_own() {
@@ -92,10 +91,8 @@ impl Reader {
                 return Ok(Some(away));
             }
         };
-        let slots = &self.slots;
-        let waker = slots.grant(cx, held)?;
-        self.end
-            .publish_waker(&mut self.registrations, &slots.cells, waker);
+        let waker = held.grant(&self.source, cx)?;
+        self.side.publish_waker(waker);
         Ok(None)
     }
 
@@ -103,19 +100,16 @@ impl Reader {
     /// one is. It fails where the writer has the place just now.
     #[inline(always)]
     fn reclaim_own(&mut self) -> Result<Taken, Away>
-        ensures owns { IfOk result (λ _. self.new.registrations
-            ≡ record self.old.registrations { owns = true; maybe_registered = false }) }
+        ensures owns { IfOk result (λ _. self.new.side.slots
+            ≡ record self.old.side.slots { owns = true; maybe_registered = false }) }
         ensures back { IfOk result (λ own.
-            CameBack self.old.registrations.owns (waker_in own)) }
+            CameBack self.old.side.slots.owns (waker_in own)) }
         ensures away { IfErr result (λ _. ReaderIsAway self.old self.new) }
         ensures leaves { ReaderLeavesNone self.new }
-        ensures end { self.new.end ≡ self.old.end }
+        ensures end { self.new.side.end ≡ self.old.side.end }
         ensures rest { SameReaderButWaits self.old self.new }
     {
-        match self
-            .end
-            .reclaim_waker(&mut self.registrations, &self.slots.cells)
-        {
+        match self.side.reclaim_waker() {
             Ok(waker) => Ok(Taken::new(waker)),
             Err(away) => Err(away),
         }
@@ -124,10 +118,10 @@ impl Reader {
     /// Empties the reader's slot after the look of a poll, unless its place is known to be empty.
     pub(crate) fn take_own(&mut self, call: HasWork<OfPoll>)
         ensures leaves { ReaderLeavesNone self.new }
-        ensures end { self.new.end ≡ self.old.end }
+        ensures end { self.new.side.end ≡ self.old.side.end }
         ensures rest { SameReaderButWaits self.old self.new }
     {
-        if self.registrations.maybe_registered() {
+        if self.side.slots.maybe_registered() {
             self.let_own_go();
         }
         call.took_own();
@@ -139,10 +133,10 @@ impl Reader {
     #[inline(never)]
     pub(crate) fn let_own_go(&mut self)
         ensures leaves { ReaderLeavesNone self.new }
-        ensures end { self.new.end ≡ self.old.end }
+        ensures end { self.new.side.end ≡ self.old.side.end }
         ensures rest { SameReaderButWaits self.old self.new }
     {
-        if !self.end.is_registered(&mut self.registrations) {
+        if !self.side.is_registered() {
             return;
         }
         match self.reclaim_own() {
@@ -153,16 +147,16 @@ impl Reader {
 
     /// Stores the head.
     pub(crate) fn store_head<T>(&mut self, call: Store<T>) -> TakeOther<T>
-        requires there { stores call ≤ in_one_piece self.old.end }
+        requires there { stores call ≤ in_one_piece self.old.side.end }
         ensures then { after_take result ≡ after_store call }
-        ensures taken { self.new.end.taken
-            ≡ self.old.end.taken ++ take (stores call) self.old.end.known }
-        ensures known { self.new.end.known ≡ drop (stores call) self.old.end.known }
-        ensures all { self.new.end.all ≡ self.old.end.all }
-        ensures end { ReaderConsumed self.old.end self.new.end }
+        ensures taken { self.new.side.end.taken
+            ≡ self.old.side.end.taken ++ take (stores call) self.old.side.end.known }
+        ensures known { self.new.side.end.known ≡ drop (stores call) self.old.side.end.known }
+        ensures all { self.new.side.end.all ≡ self.old.side.end.all }
+        ensures end { ReaderConsumed self.old.side.end self.new.side.end }
         ensures rest { SameReader self.old self.new }
     {
-        self.end.consume(call.count());
+        self.side.end.consume(call.count());
         call.stored()
     }
 
@@ -174,10 +168,10 @@ impl Reader {
         ensures then { IfOk result (λ then. then ≡ after_take call) }
         ensures back { IfErr result (λ back. back ≡ call) }
         ensures woke { OnOk result (NotifiesWriter self.new) }
-        ensures end { self.new.end ≡ self.old.end }
+        ensures end { self.new.side.end ≡ self.old.side.end }
         ensures rest { SameReaderButWoke self.old self.new }
     {
-        if self.end.nobody_waits(&mut self.registrations) {
+        if self.side.nobody_waits() {
             return Ok(call.took_none());
         }
         Err(call)
@@ -189,7 +183,7 @@ impl Reader {
     pub(crate) fn wake_writer<T>(&mut self, call: TakeOther<T>) -> T
         ensures then { result ≡ after_take call }
         ensures woke { NotifiesWriter self.new }
-        ensures end { self.new.end ≡ self.old.end }
+        ensures end { self.new.side.end ≡ self.old.side.end }
         ensures rest { SameReaderButWoke self.old self.new }
     {
         match self.check_writer(call) {
@@ -203,7 +197,7 @@ impl Reader {
     pub(crate) fn take_and_wake_writer<T>(&mut self, call: TakeOther<T>) -> T
         ensures then { result ≡ after_take call }
         ensures woke { NotifiesWriter self.new }
-        ensures end { self.new.end ≡ self.old.end }
+        ensures end { self.new.side.end ≡ self.old.side.end }
         ensures rest { SameReaderButWoke self.old self.new }
     {
         self.take_writer().wakes(call)
@@ -215,35 +209,33 @@ impl Reader {
     #[inline(never)]
     fn take_writer(&mut self) -> Taken
         ensures none { found_in result ≡ false →
-            self.new.registrations.taken ≡ self.old.registrations.taken }
+            self.new.side.slots.taken ≡ self.old.side.slots.taken }
         ensures some { found_in result ≡ true →
-            self.old.registrations.taken < self.new.registrations.taken }
+            self.old.side.slots.taken < self.new.side.slots.taken }
         ensures woke { NotifiesWriter self.new }
-        ensures end { self.new.end ≡ self.old.end }
+        ensures end { self.new.side.end ≡ self.old.side.end }
         ensures rest { SameReaderButWoke self.old self.new }
     {
-        let waker = self.end.take(&mut self.registrations, &self.slots.cells);
-        Taken::new(waker)
+        Taken::new(self.side.take())
     }
 
     /// Stores closed as it drops the end, and takes whoever is registered in the writer's slot, in
     /// one, since between these two steps there is no handle; then it calls that waker. What is
     /// left of the reader comes back.
     pub(crate) fn leave(self, call: StoreClosed<()>) -> FinishedReader
-        ensures ring { result.told.consumed.names ≡ self.end.ring.names }
-        ensures count { result.told.consumed.count ≡ length self.end.taken }
-        ensures woke { result.registrations.count ≡ length self.end.taken }
+        ensures ring { result.told.consumed.names ≡ self.side.end.ring.names }
+        ensures count { result.told.consumed.count ≡ length self.side.end.taken }
+        ensures woke { result.slots.count ≡ length self.side.end.taken }
         ensures left { HasDropped self }
     {
         let Reader {
-            end,
-            mut registrations,
-            slots,
+            side,
+            source: _,
             rng: _,
         } = self;
-        let (last, waker, left) = end.finish_waking(&mut registrations, &slots.cells);
+        let Finished { side, taken, left } = side.finish();
         drop(left);
-        Taken::new(waker).wakes(call.stored());
-        FinishedReader::new(last, registrations)
+        Taken::new(taken).wakes(call.stored());
+        side
     }
 }

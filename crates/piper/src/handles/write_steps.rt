@@ -12,13 +12,12 @@ ghost use Rattle.piper.specs.Slots.{found_in, waker_in};
 ghost use Rattle.piper.specs.Ends.{WriterIsUpToDate, WriterRefreshed, WriterSaw, WriterPublished, WriterUnlent, WriterShut};
 
 use super::Writer;
-use crate::finished::FinishedWriter;
 use crate::slots::Taken;
 use futures::task::{Context, Poll, Waker};
 use piper_protocol::memory::OutOfMemory;
 use piper_protocol::steps::{HasWork, OfPoll, Store, StoreClosed, TakeOther};
 use piper_protocol::write_steps::TakeOwn;
-use piper_ring::{Away, WriteMark};
+use piper_ring::{Away, Finished, FinishedWriter, WriteMark};
 
 impl Writer {
     ghost use Rattle.piper.specs.Handles.{NotifiesReader, SameWriter, SameWriterButWaits, SameWriterButWoke, write_source};
@@ -27,39 +26,39 @@ impl Writer {
     /// Loads closed where a look begins, and reports what the flag was. A pipe that the writer
     /// closed is closed.
     pub(crate) fn look_closed(&mut self) -> bool
-        ensures saw { result ≡ self.new.end.saw }
-        ensures shut { self.new.end.shut ≡ true → self.new.end.saw ≡ true }
-        ensures end { WriterSaw self.old.end self.new.end }
+        ensures saw { result ≡ self.new.side.end.saw }
+        ensures shut { self.new.side.end.shut ≡ true → self.new.side.end.saw ≡ true }
+        ensures end { WriterSaw self.old.side.end self.new.side.end }
         ensures rest { SameWriter self.old self.new }
     {
-        self.end.look_closed()
+        self.side.end.look_closed()
     }
 
     /// Loads closed at the end of a look or in a round, and reports what the flag was. A pipe that
     /// the writer closed is closed.
     pub(crate) fn load_closed(&mut self) -> bool
-        requires open { self.old.end.saw ≡ false }
-        ensures saw { result ≡ self.new.end.saw }
-        ensures after { flag self.old.registrations.over ≤ flag self.new.end.saw }
-        ensures shut { self.new.end.shut ≡ true → self.new.end.saw ≡ true }
-        ensures end { WriterSaw self.old.end self.new.end }
+        requires open { self.old.side.end.saw ≡ false }
+        ensures saw { result ≡ self.new.side.end.saw }
+        ensures after { flag self.old.side.slots.over ≤ flag self.new.side.end.saw }
+        ensures shut { self.new.side.end.shut ≡ true → self.new.side.end.saw ≡ true }
+        ensures end { WriterSaw self.old.side.end self.new.side.end }
         ensures rest { SameWriter self.old self.new }
     {
-        self.end.look_closed_after(&self.registrations)
+        self.side.look_closed()
     }
 
     /// Loads the head where no room is known, and reports whether none is known even now.
     pub(crate) fn load_head(&mut self) -> bool
-        requires none { self.old.end.room ≡ 0 }
-        ensures none { IsTrue result ↔ (self.new.end.room ≡ 0) }
-        ensures after { self.old.registrations.count + self.old.end.capacity
-            ≤ length self.new.end.sent + self.new.end.room }
-        ensures fresh { WriterIsUpToDate self.new.end }
-        ensures end { WriterRefreshed self.old.end self.new.end }
+        requires none { self.old.side.end.room ≡ 0 }
+        ensures none { IsTrue result ↔ (self.new.side.end.room ≡ 0) }
+        ensures after { self.old.side.slots.count + self.old.side.end.capacity
+            ≤ length self.new.side.end.sent + self.new.side.end.room }
+        ensures fresh { WriterIsUpToDate self.new.side.end }
+        ensures end { WriterRefreshed self.old.side.end self.new.side.end }
         ensures rest { SameWriter self.old self.new }
     {
-        self.end.reload_after(&self.registrations);
-        self.end.knows_none()
+        self.side.reload();
+        self.side.end.knows_none()
     }
 
     /// Registers in the writer's slot, and reports whether a waker was granted. Where the reader
@@ -68,12 +67,12 @@ impl Writer {
     pub(crate) fn register(&mut self, cx: &mut Context<'_>) -> bool
         ensures covered { Covers cx.new (λ s. s ≡ write_source self.old) }
         ensures registered { IsTrue result →
-            (WriterRegisters self.old.registrations self.new.registrations
-            × IsCalm self.old.registrations.owns cx.new)
+            (WriterRegisters self.old.side.slots self.new.side.slots
+            × IsCalm self.old.side.slots.owns cx.new)
             ⊎ (AsksAgain cx.new × WriterIsAway self.old self.new) }
         ensures refused { IsFalse result → cx.new.lacks_waker ≡ true }
         ensures kept { Keeps cx.old cx.new }
-        ensures end { self.new.end ≡ self.old.end }
+        ensures end { self.new.side.end ≡ self.old.side.end }
         ensures rest { SameWriterButWaits self.old self.new }
     {
         self.register_or_yield(cx).is_ok()
@@ -85,13 +84,13 @@ impl Writer {
     fn register_or_yield(&mut self, cx: &mut Context<'_>) -> Result<Option<Away>, OutOfMemory>
         ensures covered { Covers cx.new (λ s. s ≡ write_source self.old) }
         ensures registered { IfOk result (λ away. away ≡ None →
-            WriterRegisters self.old.registrations self.new.registrations
-            × IsCalm self.old.registrations.owns cx.new) }
+            WriterRegisters self.old.side.slots self.new.side.slots
+            × IsCalm self.old.side.slots.owns cx.new) }
         ensures away { IfOk result (λ away. IsSome away →
             AsksAgain cx.new × WriterIsAway self.old self.new) }
         ensures refused { IfErr result (λ _. cx.new.lacks_waker ≡ true) }
         ensures kept { Keeps cx.old cx.new }
-        ensures end { self.new.end ≡ self.old.end }
+        ensures end { self.new.side.end ≡ self.old.side.end }
         ensures rest { SameWriterButWaits self.old self.new }
     {
         let held = match self.reclaim_own() {
@@ -101,10 +100,8 @@ impl Writer {
                 return Ok(Some(away));
             }
         };
-        let slots = &self.slots;
-        let waker = slots.grant(cx, held)?;
-        self.end
-            .publish_waker(&mut self.registrations, &slots.cells, waker);
+        let waker = held.grant(&self.source, cx)?;
+        self.side.publish_waker(waker);
         Ok(None)
     }
 
@@ -112,19 +109,16 @@ impl Writer {
     /// one is. It fails where the reader has the place just now.
     #[inline(always)]
     fn reclaim_own(&mut self) -> Result<Taken, Away>
-        ensures owns { IfOk result (λ _. self.new.registrations
-            ≡ record self.old.registrations { owns = true; maybe_registered = false }) }
+        ensures owns { IfOk result (λ _. self.new.side.slots
+            ≡ record self.old.side.slots { owns = true; maybe_registered = false }) }
         ensures back { IfOk result (λ own.
-            CameBack self.old.registrations.owns (waker_in own)) }
+            CameBack self.old.side.slots.owns (waker_in own)) }
         ensures away { IfErr result (λ _. WriterIsAway self.old self.new) }
         ensures leaves { WriterLeavesNone self.new }
-        ensures end { self.new.end ≡ self.old.end }
+        ensures end { self.new.side.end ≡ self.old.side.end }
         ensures rest { SameWriterButWaits self.old self.new }
     {
-        match self
-            .end
-            .reclaim_waker(&mut self.registrations, &self.slots.cells)
-        {
+        match self.side.reclaim_waker() {
             Ok(waker) => Ok(Taken::new(waker)),
             Err(away) => Err(away),
         }
@@ -133,10 +127,10 @@ impl Writer {
     /// Empties the writer's slot after the look of a poll, unless its place is known to be empty.
     pub(crate) fn take_own(&mut self, call: HasWork<OfPoll>)
         ensures leaves { WriterLeavesNone self.new }
-        ensures end { self.new.end ≡ self.old.end }
+        ensures end { self.new.side.end ≡ self.old.side.end }
         ensures rest { SameWriterButWaits self.old self.new }
     {
-        if self.registrations.maybe_registered() {
+        if self.side.slots.maybe_registered() {
             self.let_own_go();
         }
         call.took_own();
@@ -148,10 +142,10 @@ impl Writer {
     #[inline(never)]
     pub(crate) fn let_own_go(&mut self)
         ensures leaves { WriterLeavesNone self.new }
-        ensures end { self.new.end ≡ self.old.end }
+        ensures end { self.new.side.end ≡ self.old.side.end }
         ensures rest { SameWriterButWaits self.old self.new }
     {
-        if !self.end.is_registered(&mut self.registrations) {
+        if !self.side.is_registered() {
             return;
         }
         match self.reclaim_own() {
@@ -163,7 +157,7 @@ impl Writer {
     /// Takes whoever is registered in the writer's own slot, in a close, and calls its waker.
     pub(crate) fn take_and_wake_own(&mut self, call: TakeOwn)
         ensures leaves { WriterLeavesNone self.new }
-        ensures end { self.new.end ≡ self.old.end }
+        ensures end { self.new.side.end ≡ self.old.side.end }
         ensures rest { SameWriterButWaits self.old self.new }
     {
         match self.reclaim_own() {
@@ -175,33 +169,33 @@ impl Writer {
     /// Takes back what is lent, where a fill ends. It is no step of the table.
     #[inline(always)]
     pub(crate) fn unlend(&mut self)
-        ensures end { WriterUnlent self.old.end self.new.end }
+        ensures end { WriterUnlent self.old.side.end self.new.side.end }
         ensures rest { SameWriter self.old self.new }
     {
-        self.end.unlend();
+        self.side.end.unlend();
     }
 
     /// Stores the tail.
     pub(crate) fn store_tail<T>(&mut self, call: Store<T>) -> TakeOther<T>
-        requires there { stores call ≤ length self.old.end.lent }
+        requires there { stores call ≤ length self.old.side.end.lent }
         ensures then { after_take result ≡ after_store call }
-        ensures sent { self.new.end.sent
-            ≡ self.old.end.sent ++ take (stores call) self.old.end.lent }
-        ensures lent { self.new.end.lent ≡ drop (stores call) self.old.end.lent }
-        ensures room { self.new.end.room + stores call ≡ self.old.end.room }
-        ensures end { WriterPublished self.old.end self.new.end }
+        ensures sent { self.new.side.end.sent
+            ≡ self.old.side.end.sent ++ take (stores call) self.old.side.end.lent }
+        ensures lent { self.new.side.end.lent ≡ drop (stores call) self.old.side.end.lent }
+        ensures room { self.new.side.end.room + stores call ≡ self.old.side.end.room }
+        ensures end { WriterPublished self.old.side.end self.new.side.end }
         ensures rest { SameWriter self.old self.new }
     {
-        self.end.produce(call.count());
+        self.side.end.produce(call.count());
         call.stored()
     }
 
     /// Stores closed, for good: nothing is lent any more.
     pub(crate) fn shut(&mut self, call: StoreClosed<TakeOwn>) -> TakeOther<TakeOwn>
-        ensures end { WriterShut self.old.end self.new.end }
+        ensures end { WriterShut self.old.side.end self.new.side.end }
         ensures rest { SameWriter self.old self.new }
     {
-        self.end.shut();
+        self.side.end.shut();
         call.stored()
     }
 
@@ -213,10 +207,10 @@ impl Writer {
         ensures then { IfOk result (λ then. then ≡ after_take call) }
         ensures back { IfErr result (λ back. back ≡ call) }
         ensures woke { OnOk result (NotifiesReader self.new) }
-        ensures end { self.new.end ≡ self.old.end }
+        ensures end { self.new.side.end ≡ self.old.side.end }
         ensures rest { SameWriterButWoke self.old self.new }
     {
-        if self.end.nobody_waits(&mut self.registrations) {
+        if self.side.nobody_waits() {
             return Ok(call.took_none());
         }
         Err(call)
@@ -228,7 +222,7 @@ impl Writer {
     pub(crate) fn wake_reader<T>(&mut self, call: TakeOther<T>) -> T
         ensures then { result ≡ after_take call }
         ensures woke { NotifiesReader self.new }
-        ensures end { self.new.end ≡ self.old.end }
+        ensures end { self.new.side.end ≡ self.old.side.end }
         ensures rest { SameWriterButWoke self.old self.new }
     {
         match self.check_reader(call) {
@@ -242,7 +236,7 @@ impl Writer {
     pub(crate) fn take_and_wake_reader<T>(&mut self, call: TakeOther<T>) -> T
         ensures then { result ≡ after_take call }
         ensures woke { NotifiesReader self.new }
-        ensures end { self.new.end ≡ self.old.end }
+        ensures end { self.new.side.end ≡ self.old.side.end }
         ensures rest { SameWriterButWoke self.old self.new }
     {
         self.take_reader().wakes(call)
@@ -254,36 +248,34 @@ impl Writer {
     #[inline(never)]
     fn take_reader(&mut self) -> Taken
         ensures none { found_in result ≡ false →
-            self.new.registrations.taken ≡ self.old.registrations.taken }
+            self.new.side.slots.taken ≡ self.old.side.slots.taken }
         ensures some { found_in result ≡ true →
-            self.old.registrations.taken < self.new.registrations.taken }
+            self.old.side.slots.taken < self.new.side.slots.taken }
         ensures woke { NotifiesReader self.new }
-        ensures end { self.new.end ≡ self.old.end }
+        ensures end { self.new.side.end ≡ self.old.side.end }
         ensures rest { SameWriterButWoke self.old self.new }
     {
-        let waker = self.end.take(&mut self.registrations, &self.slots.cells);
-        Taken::new(waker)
+        Taken::new(self.side.take())
     }
 
     /// Stores closed as it drops the end, and takes whoever is registered in the reader's slot, in
     /// one, since between these two steps there is no handle; then it calls that waker. What is
     /// left of the writer comes back.
     pub(crate) fn leave(self, call: StoreClosed<()>) -> FinishedWriter
-        ensures ring { result.told.names ≡ self.end.ring.names }
-        ensures bytes { result.told.bytes ≡ self.end.sent }
+        ensures ring { result.told.names ≡ self.side.end.ring.names }
+        ensures bytes { result.told.bytes ≡ self.side.end.sent }
         ensures shut { result.told.shut ≡ true }
-        ensures woke { result.registrations.bytes ≡ self.end.sent }
+        ensures woke { result.slots.bytes ≡ self.side.end.sent }
         ensures left { HasDropped self }
     {
         let Writer {
-            end,
-            mut registrations,
-            slots,
+            side,
+            source: _,
             rng: _,
         } = self;
-        let (last, waker, left) = end.finish_waking(&mut registrations, &slots.cells);
+        let Finished { side, taken, left } = side.finish();
         drop(left);
-        Taken::new(waker).wakes(call.stored());
-        FinishedWriter::new(last, registrations)
+        Taken::new(taken).wakes(call.stored());
+        side
     }
 }

@@ -22,14 +22,14 @@ impl Reader {
         call: NoByte<P>,
         cx: &mut Context<'_>,
     ) -> Result<HasWork<P>, NoWork>
-        requires none { length self.old.end.known ≡ 0 }
-        requires fresh { ReaderIsUpToDate self.old.end }
-        ensures answer { ReaderLookedFor result self.new.end }
+        requires none { length self.old.side.end.known ≡ 0 }
+        requires fresh { ReaderIsUpToDate self.old.side.end }
+        ensures answer { ReaderLookedFor result self.new.side.end }
         ensures pending { IfPending result (ReaderPends self.old self.new cx.new) }
         ensures refused { IfRefused result (cx.new.lacks_waker ≡ true) }
-        ensures looked { ReaderLooked self.old.end self.new.end }
-        ensures all { KnowsEnd self.old.end → self.new.end.all ≡ self.old.end.all }
-        ensures stays { IsEnded self.old.end → IsEnded self.new.end }
+        ensures looked { ReaderLooked self.old.side.end self.new.side.end }
+        ensures all { KnowsEnd self.old.side.end → self.new.side.end.all ≡ self.old.side.end.all }
+        ensures stays { IsEnded self.old.side.end → IsEnded self.new.side.end }
         ensures rest { SameReaderButWaits self.old self.new }
         ensures kept { Keeps cx.old cx.new }
     {
@@ -42,11 +42,11 @@ impl Reader {
 
     /// The look of a copy that doesn't wait.
     pub(crate) fn try_inner(&mut self) -> Result<HasWork<OfTry>, NoWork>
-        ensures answer { ReaderLookedFor result self.new.end }
+        ensures answer { ReaderLookedFor result self.new.side.end }
         ensures granted { IfRefused result ⊥ }
-        ensures looked { ReaderLooked self.old.end self.new.end }
-        ensures all { KnowsEnd self.old.end → self.new.end.all ≡ self.old.end.all }
-        ensures stays { IsEnded self.old.end → IsEnded self.new.end }
+        ensures looked { ReaderLooked self.old.side.end self.new.side.end }
+        ensures all { KnowsEnd self.old.side.end → self.new.side.end.all ≡ self.old.side.end.all }
+        ensures stays { IsEnded self.old.side.end → IsEnded self.new.side.end }
         ensures rest { SameReader self.old self.new }
     {
         match self.look_first(OfTry) {
@@ -57,12 +57,12 @@ impl Reader {
 
     /// Looks for a byte that is known, or else for one that was published since.
     pub(crate) fn look_first<P: Look>(&mut self, purpose: P) -> Result<HasWork<P>, NoByte<P>>
-        ensures some { IfOk result (λ _. 0 < length self.new.end.known) }
-        ensures none { IfErr result (λ _. length self.new.end.known ≡ 0) }
-        ensures fresh { IfErr result (λ _. ReaderIsUpToDate self.new.end) }
-        ensures looked { ReaderLooked self.old.end self.new.end }
-        ensures all { KnowsEnd self.old.end → self.new.end.all ≡ self.old.end.all }
-        ensures stays { IsEnded self.old.end → IsEnded self.new.end }
+        ensures some { IfOk result (λ _. 0 < length self.new.side.end.known) }
+        ensures none { IfErr result (λ _. length self.new.side.end.known ≡ 0) }
+        ensures fresh { IfErr result (λ _. ReaderIsUpToDate self.new.side.end) }
+        ensures looked { ReaderLooked self.old.side.end self.new.side.end }
+        ensures all { KnowsEnd self.old.side.end → self.new.side.end.all ≡ self.old.side.end.all }
+        ensures stays { IsEnded self.old.side.end → IsEnded self.new.side.end }
         ensures rest { SameReader self.old self.new }
     {
         if !self.end().knows_none() {
@@ -78,15 +78,15 @@ impl Reader {
     // Looks once more, after the waker was registered where the call waits. Closed is loaded before
     // the tail: then what was published before the pipe was closed is found.
     fn look_again<P: Look>(&mut self, call: LookClosed<P>) -> Result<HasWork<P>, NoWork>
-        requires none { length self.old.end.known ≡ 0 }
-        ensures answer { ReaderLookedFor result self.new.end }
+        requires none { length self.old.side.end.known ≡ 0 }
+        ensures answer { ReaderLookedFor result self.new.side.end }
         ensures granted { IfRefused result ⊥ }
-        ensures bytes { length self.old.registrations.bytes
-            ≤ length (self.new.end.taken ++ self.new.end.known) }
-        ensures shut { flag self.old.registrations.shut ≤ flag self.new.end.saw }
-        ensures looked { ReaderLooked self.old.end self.new.end }
-        ensures all { KnowsEnd self.old.end → self.new.end.all ≡ self.old.end.all }
-        ensures stays { IsEnded self.old.end → IsEnded self.new.end }
+        ensures bytes { length self.old.side.slots.bytes
+            ≤ length (self.new.side.end.taken ++ self.new.side.end.known) }
+        ensures shut { flag self.old.side.slots.shut ≤ flag self.new.side.end.saw }
+        ensures looked { ReaderLooked self.old.side.end self.new.side.end }
+        ensures all { KnowsEnd self.old.side.end → self.new.side.end.all ≡ self.old.side.end.all }
+        ensures stays { IsEnded self.old.side.end → IsEnded self.new.side.end }
         ensures rest { SameReader self.old self.new }
     {
         let call = call.loaded(self.load_closed());

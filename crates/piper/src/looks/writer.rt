@@ -17,10 +17,10 @@ impl Writer {
     /// The look of a copy that waits.
     #[inline(always)]
     pub(crate) fn poll_inner(&mut self, cx: &mut Context<'_>) -> Result<HasWork<OfCopy>, NoWork>
-        ensures answer { WriterLookedFor result self.new.end }
+        ensures answer { WriterLookedFor result self.new.side.end }
         ensures pending { IfPending result (WriterPends self.old self.new cx.new) }
         ensures refused { IfRefused result (cx.new.lacks_waker ≡ true) }
-        ensures looked { WriterLooked self.old.end self.new.end }
+        ensures looked { WriterLooked self.old.side.end self.new.side.end }
         ensures rest { SameWriterButWaits self.old self.new }
         ensures kept { Keeps cx.old cx.new }
     {
@@ -39,13 +39,13 @@ impl Writer {
         call: NoRoom<P>,
         cx: &mut Context<'_>,
     ) -> Result<HasWork<P>, NoWork>
-        requires none { self.old.end.room ≡ 0 }
-        requires open { (self.old.end.saw ≡ false) × (self.old.end.shut ≡ false) }
-        requires fresh { WriterIsUpToDate self.old.end }
-        ensures answer { WriterLookedFor result self.new.end }
+        requires none { self.old.side.end.room ≡ 0 }
+        requires open { (self.old.side.end.saw ≡ false) × (self.old.side.end.shut ≡ false) }
+        requires fresh { WriterIsUpToDate self.old.side.end }
+        ensures answer { WriterLookedFor result self.new.side.end }
         ensures pending { IfPending result (WriterPends self.old self.new cx.new) }
         ensures refused { IfRefused result (cx.new.lacks_waker ≡ true) }
-        ensures looked { WriterLooked self.old.end self.new.end }
+        ensures looked { WriterLooked self.old.side.end self.new.side.end }
         ensures rest { SameWriterButWaits self.old self.new }
         ensures kept { Keeps cx.old cx.new }
     {
@@ -58,9 +58,9 @@ impl Writer {
 
     /// The look of a copy that doesn't wait.
     pub(crate) fn try_inner(&mut self) -> Result<HasWork<OfTry>, NoWork>
-        ensures answer { WriterLookedFor result self.new.end }
+        ensures answer { WriterLookedFor result self.new.side.end }
         ensures granted { IfRefused result ⊥ }
-        ensures looked { WriterLooked self.old.end self.new.end }
+        ensures looked { WriterLooked self.old.side.end self.new.side.end }
         ensures rest { SameWriter self.old self.new }
     {
         match self.look_first(OfTry) {
@@ -73,8 +73,8 @@ impl Writer {
     /// Looks whether the pipe is closed, and if it is not, for room that is known, or else for room
     /// that was given back since.
     pub(crate) fn look_first<P: Look>(&mut self, purpose: P) -> FirstLook<P>
-        ensures found { WriterFoundFirst result self.new.end }
-        ensures looked { WriterLooked self.old.end self.new.end }
+        ensures found { WriterFoundFirst result self.new.side.end }
+        ensures looked { WriterLooked self.old.side.end self.new.side.end }
         ensures rest { SameWriter self.old self.new }
     {
         let call = looking(purpose);
@@ -94,14 +94,14 @@ impl Writer {
 
     // Looks once more, after the waker was registered where the call waits.
     fn look_again<P: Look>(&mut self, call: LookHeadAgain<P>) -> Result<HasWork<P>, NoWork>
-        requires none { self.old.end.room ≡ 0 }
-        requires open { (self.old.end.saw ≡ false) × (self.old.end.shut ≡ false) }
-        ensures answer { WriterLookedFor result self.new.end }
+        requires none { self.old.side.end.room ≡ 0 }
+        requires open { (self.old.side.end.saw ≡ false) × (self.old.side.end.shut ≡ false) }
+        ensures answer { WriterLookedFor result self.new.side.end }
         ensures granted { IfRefused result ⊥ }
-        ensures count { self.old.registrations.count + self.old.end.capacity
-            ≤ length self.new.end.sent + self.new.end.room }
-        ensures over { IfPending result (self.old.registrations.over ≡ false) }
-        ensures looked { WriterLooked self.old.end self.new.end }
+        ensures count { self.old.side.slots.count + self.old.side.end.capacity
+            ≤ length self.new.side.end.sent + self.new.side.end.room }
+        ensures over { IfPending result (self.old.side.slots.over ≡ false) }
+        ensures looked { WriterLooked self.old.side.end self.new.side.end }
         ensures rest { SameWriter self.old self.new }
     {
         if !self.load_head() {

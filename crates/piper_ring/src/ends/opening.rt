@@ -3,18 +3,19 @@ ghost use Rattle.std.specs.Prelude.{◌≡◌, ℕ, ◌*◌, ◌<◌, ◌^◌, [
 ghost use Rattle.piper_protocol.specs.Reported.{HasFailed};
 ghost use Rattle.lent_space.specs.Space.{Fits};
 ghost use Rattle.piper_ring.specs.Block.{size_of_block, space_of, space_words};
-ghost use Rattle.piper_ring.specs.Cells.{AreCellsOf};
 ghost use Rattle.piper_ring.specs.contracts.ends.cells.WakerCells.{the_row as cells_row};
 ghost use Rattle.piper_ring.specs.Opened.{FreshReadEnd, FreshReadSlots, FreshWriteEnd, FreshWriteSlots};
 
 use crate::ends::cells::WakerCells;
 use crate::ends::reader::{ReadEnd, ReadParts};
 use crate::ends::room::Room;
+use crate::ends::slots::reader::ReadSide;
+use crate::ends::slots::writer::WriteSide;
 use crate::ends::slots::{ReadRegistrations, ReadSlotParts, WriteRegistrations, WriteSlotParts};
 use crate::ends::writer::{WriteEnd, WriteParts};
 use crate::ring::memory::{Memory, Parts, block_size};
 use crate::ring::seats::open;
-use lent_space::{Lease, Lender, Placed};
+use lent_space::{Lease, Lender};
 use piper_protocol::memory::OutOfMemory;
 use piper_protocol::read_indices::ReadIndices;
 use piper_protocol::write_indices::WriteIndices;
@@ -46,27 +47,28 @@ pub fn open_ring(alloc: Global, capacity: usize) -> Result<(ReadEnd, WriteEnd), 
     Ok((reader, writer))
 }
 
-/// The two ends of a new ring for `capacity` bytes, what each has of its slots, in which nobody
-/// waits yet, and for each the places of both sides' wakers. Where memory is refused, all that was
-/// got is given back.
+/// The two sides of a new ring for `capacity` bytes, in whose slots nobody waits yet. Where memory
+/// is refused, all that was got is given back.
 ///
-/// Both places lie between the words of the ring, so they take 48 bytes.
-pub fn open_with_slots<T>(alloc: Global, capacity: usize) -> Result<Slotted<T>, OutOfMemory>
+/// The places of both sides' wakers lie between the words of the ring, so they take 48 bytes.
+pub fn open_with_slots<T>(
+    alloc: Global,
+    capacity: usize,
+) -> Result<(ReadSide<T>, WriteSide<T>), OutOfMemory>
     requires capacity { (0 < capacity) × (2 * capacity < 2 ^ 64) }
     requires fits { Fits space_words (cells_row T.row) }
-    ensures pair { IfOk result (λ r. r.writer.ring ≡ r.reader.ring) }
-    ensures reader { IfOk result (λ r. FreshReadEnd capacity r.reader) }
-    ensures writer { IfOk result (λ r. FreshWriteEnd capacity r.writer) }
-    ensures read_slots { IfOk result (λ r. FreshReadSlots r.reader.ring.names r.read_slots) }
-    ensures write_slots { IfOk result (λ r. FreshWriteSlots r.reader.ring.names r.write_slots) }
-    ensures cells { IfOk result (λ r. AreCellsOf r.reader.ring.names r.read_cells
-        × (r.write_cells ≡ r.read_cells)) }
+    ensures pair { IfOk result (λ (r, w). (w.end.ring ≡ r.end.ring) × (w.cells ≡ r.cells)) }
+    ensures reader { IfOk result (λ (r, _). FreshReadEnd capacity r.end) }
+    ensures writer { IfOk result (λ (_, w). FreshWriteEnd capacity w.end) }
+    ensures read_slots { IfOk result (λ (r, _). FreshReadSlots r.end.ring.names r.slots) }
+    ensures write_slots { IfOk result (λ (_, w). FreshWriteSlots w.end.ring.names w.slots) }
     ensures refused { IfErr result HasFailed }
 {
     let (parts, space) = claim(&alloc, capacity)?.part(capacity);
     let (space, lender, first, second) = space.lend();
     let (cells, reader_token, writer_token) = WakerCells::empty();
     let (read_cells, first) = space.place(first, cells);
+    let write_cells = read_cells.again();
     let (reader, writer, read_slots, write_slots) = open_ends(
         alloc,
         capacity,
@@ -77,25 +79,17 @@ pub fn open_with_slots<T>(alloc: Global, capacity: usize) -> Result<Slotted<T>, 
         reader_token,
         writer_token,
     );
-    let write_cells = read_cells.again();
-    Ok(Slotted {
-        reader,
-        writer,
-        read_slots,
-        write_slots,
-        read_cells,
-        write_cells,
-    })
-}
-
-/// A new ring whose sides can wait.
-pub struct Slotted<T> {
-    pub reader: ReadEnd,
-    pub writer: WriteEnd,
-    pub read_slots: ReadRegistrations,
-    pub write_slots: WriteRegistrations,
-    pub read_cells: Placed<WakerCells<T>>,
-    pub write_cells: Placed<WakerCells<T>>,
+    let reader = ReadSide {
+        end: reader,
+        slots: read_slots,
+        cells: read_cells,
+    };
+    let writer = WriteSide {
+        end: writer,
+        slots: write_slots,
+        cells: write_cells,
+    };
+    Ok((reader, writer))
 }
 
 // The two ends of a new ring in this block, and what each has of its slots.

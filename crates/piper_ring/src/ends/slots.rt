@@ -3,8 +3,8 @@
 //! place, and the right to it is one side's at each moment, or the slot's.
 ghost use Rattle.std.specs.Prelude.{◌≡◌, true, IsFalse};
 
-mod reader;
-mod writer;
+pub(crate) mod reader;
+pub(crate) mod writer;
 
 use crate::ring::marks::{ReadMark, Saw, WriteMark};
 use crate::ring::slots::{Waits, Wakes};

@@ -85,7 +85,7 @@ lend_out_spec 𝓤 𝓛 𝓜 𝓡 wired =
     nothing ! $ move ! (3 ∷ 0 ∷ []) $ join ! $ join ! $ nothing ! $ move ! (1 ∷ 0 ∷ []) $ use2 𝓛 (raw (G.pre z)) (id⊢ 𝓤 _) $
     -- [what the call asks for; the way back; the right to free; the tokens]
     calls_at_last ! (fm 𝓛 𝓜 𝓡) G (met 𝓤 𝓛 𝓜 𝓡 (code.calls-piper_c::halves::WriteHalf::lend 𝓡.env wired)) z (and_then ! (get ! refl) (and_then ! (get ! refl) (no_more !))) (λ v.
-    let Most : ℕ → Type 0 = λ k. Lendable x.end n k in let Some' : ℕ → Type 0 = λ k. x.end.shut ≡ false → 0 < x.end.room → 0 < n → 0 < k in
+    let Most : ℕ → Type 0 = λ k. Lendable x.side.end n k in let Some' : ℕ → Type 0 = λ k. x.side.end.shut ≡ false → 0 < x.side.end.room → 0 < n → 0 < k in
     use1 𝓛 (later (some (λ (r : MutBor (List ℕ)). ((‵ (flft κ full_share) ⊛ ‵ ftrue) ⊛ ‵ ((MutSlice (named 0) κ u8).own_val r (v ∷ []))) ⊛
     some (λ (ws : Lasts callee.ended (κ, tt) z.0.3). ‵ (lasts callee.ended (κ, tt) z.0.3 ws) ⊛ (‵ (lends_half r₀ r) ⊛ (raw (fact 𝓤 (Most (length r.now))) ⊛ raw (fact 𝓤 (Some' (length r.now))))))))) (id⊢ 𝓤 _) $
     await ! tt $ pick ! (λ r. split ! $ split ! $ move ! (2 ∷ []) $ pick ! (λ ws. split ! $ drop ! $ split ! $ move ! (1 ∷ []) $ split ! $

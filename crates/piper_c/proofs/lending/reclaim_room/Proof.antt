@@ -52,7 +52,7 @@ reclaim_room_spec 𝓤 𝓛 𝓜 𝓡 wired =
     split ! $ move ! (1 ∷ []) $ fsplit ! $ fsplit ! $ drop ! $ move ! (1 ∷ []) $ fsplit ! $ fsplit ! $ drop ! $ move ! (2 ∷ 0 ∷ []) $
     loan_out p ! d.half d.lent q e.bytes asked (λ w ws same done'. let new = with_room w ws in
     enter ! 𝓣.C 𝓣.Λ fn (handle_val p ∷ handle_val q ∷ []) Post $ alloc_all ! (λ l. pass_all ! refl (word-Good [] p, (word-Good [] q, tt)) $
-    move ! (1 ∷ []) $ nothing ! $ fpack ! (length ws ≡ length w.end.lent) (λ _. ftrue) same $ fjoin ! $
+    move ! (1 ∷ []) $ nothing ! $ fpack ! (length ws ≡ length w.side.end.lent) (λ _. ftrue) same $ fjoin ! $
     use2 𝓛 (later (‵ (box_owns heap_token R p new))) (room_in 𝓛 p q w ws) $ await ! tt $
     in_a_block ! p (λ r. box_owns heap_token R r new) (fst∗ 𝓤 (never 𝓤) (sem 𝓛 (heap_token (bare (lone R.mir)) null_ptr))) (λ b o at.
     -- [the box; nothing; the tokens]

@@ -1,30 +1,29 @@
-//! How the writer's end waits in its slot, and wakes whoever waits in the reader's.
+//! The writer's side: how it waits in its slot, and wakes whoever waits in the reader's.
 ghost use Rattle.std.specs.Prelude.{◌≡◌, ◌+◌, ◌<◌, ◌≤◌, length, None, IsSome, IfOk, IfErr, true, false, IsTrue, IsFalse};
+ghost use Rattle.std.specs.Borrow.{sem};
+ghost use Rattle.piper_ring.specs.Cells.{AreCellsOf};
 
-use crate::ends::cells::{LeftWakers, WakerCells};
+use crate::ends::cells::WakerCells;
+use crate::ends::finished::{Finished, FinishedWriter};
 use crate::ends::slots::{Away, ReadRegistrations, WriteRegistrations};
 use crate::ends::writer::WriteEnd;
-use crate::ring::marks::WriteMark;
 use crate::ring::memory::{READER_BACK, READER_FLAG, WRITER_BACK, WRITER_FLAG};
 use crate::ring::slots::SlotWords;
 use lent_space::Placed;
 
-impl WriteEnd {
-    ghost use Rattle.piper_ring.specs.Cells.{AreCellsOf, GetsLeft};
-    ghost use Rattle.piper_ring.specs.Loads.{CameBack, FoundBack, FoundFlag, FoundWaiter, IsAway, IsUnregistered};
-    ghost use Rattle.piper_ring.specs.Shared.{flag};
-    ghost use Rattle.piper_ring.specs.Slots.{as_stored};
-    ghost use Rattle.piper_ring.specs.WriteView.{HasLoadedHead, HasMoreRoom, SameButSaw};
-    ghost use Rattle.piper_ring.specs.SlotsView.{WriterRegisters, IsWriterPending, IsAtRest, SameWriterPlace, HasRoomNews};
+/// The writer's side of a ring whose sides can wait.
+#[derive(Drop)]
+pub struct WriteSide<T> {
+    pub end: WriteEnd,
+    /// How it waits in its slot, and what it had stored when it last checked the reader's.
+    pub slots: WriteRegistrations,
+    pub(crate) cells: Placed<WakerCells<T>>,
+    ghost of_one_ring: { slots.names ≡ end.ring.names },
+    ghost places: { AreCellsOf slots.names cells },
+}
 
-    // The places of both sides' wakers.
-    #[inline(always)]
-    fn cells<'a, T>(&'a self, cells: &'a Placed<WakerCells<T>>) -> &'a WakerCells<T>
-        requires { cells.now.life ≡ self.now.ring.names.life }
-        ensures { result.now ≡ cells.now.value }
-    {
-        cells.get(&self.parts.lease)
-    }
+impl WriteEnd {
+    ghost use Rattle.piper_ring.specs.Slots.{as_stored};
 
     // The words of both slots.
     #[inline(always)]
@@ -36,47 +35,64 @@ impl WriteEnd {
         self.parts.seat.slot_words()
     }
 
-    /// Takes its waker back, where it is still registered in this end's slot.
-    pub fn cancel<T>(
-        &self,
-        slots: &mut WriteRegistrations,
-        cells: &Placed<WakerCells<T>>,
-    ) -> Option<T>
-        requires ring { slots.old.names ≡ self.now.ring.names }
-        requires cells { AreCellsOf slots.old.names cells.now }
-        ensures back { IsSome result → slots.old.owns ≡ false }
-        ensures owns { IsSome result →
-            slots.new ≡ record slots.old { owns = true; maybe_registered = false } }
-        ensures none { result ≡ None → slots.new ≡ record slots.old { maybe_registered = false } }
-        ensures found { result ≡ None → IsUnregistered slots.old.names slots.old.owns }
+    // The places of both sides' wakers.
+    #[inline(always)]
+    fn places<'a, T>(&'a self, cells: &'a Placed<WakerCells<T>>) -> &'a WakerCells<T>
+        requires { cells.now.life ≡ self.now.ring.names.life }
+        ensures { result.now ≡ cells.now.value }
     {
-        let parts = &mut slots.parts;
+        cells.get(&self.parts.lease)
+    }
+}
+
+impl<T> WriteSide<T> {
+    ghost use Rattle.piper_ring.specs.Cells.{GetsLeft};
+    ghost use Rattle.piper_ring.specs.Loads.{CameBack, FoundBack, FoundFlag, FoundWaiter, IsAway, IsUnregistered, WasPut, WasTaken, WasTakenBack};
+    ghost use Rattle.piper_ring.specs.Shared.{flag};
+    ghost use Rattle.piper_ring.specs.SlotsView.{WriterRegisters, IsWriterPending, IsAtRest, SameWriterPlace, HasRoomNews};
+    ghost use Rattle.piper_ring.specs.LendsBuffer.{lends_side};
+    ghost use Rattle.piper_ring.specs.WriteView.{HasLoadedHead, HasMoreRoom, Lendable, SameButSaw};
+
+    /// Takes its waker back, where it is still registered in this side's slot.
+    pub fn cancel(&mut self) -> Option<T>
+        ensures back { IsSome result → self.old.slots.owns ≡ false }
+        ensures owns { IsSome result →
+            self.new.slots ≡ record self.old.slots { owns = true; maybe_registered = false } }
+        ensures none { result ≡ None →
+            self.new.slots ≡ record self.old.slots { maybe_registered = false } }
+        ensures out { WasTakenBack self.old.slots.owns self.old.slots.tickets result }
+        ensures found { result ≡ None → IsUnregistered self.old.slots.names self.old.slots.owns }
+        ensures rest { (self.new.end ≡ self.old.end) × (self.new.cells ≡ self.old.cells) }
+    {
+        let parts = &mut self.slots.parts;
         if parts.right.is_some() {
             return None;
         }
-        let (found, mut right) = self.slot_words().cancel(&mut parts.waits, WRITER_FLAG);
+        let words = self.end.slot_words();
+        let (found, mut right) = words.cancel(&mut parts.waits, WRITER_FLAG);
         parts.maybe_registered = false;
         if found == 0 {
             return None;
         }
-        let waker = self.cells(cells).writer.take(&mut right);
+        let waker = self.end.places(&self.cells).writer.take(&mut right);
         parts.right = Some(right);
         Some(waker)
     }
 
-    /// Takes back a place that the reader handed back, where this end doesn't have it.
-    fn reclaim(&self, slots: &mut WriteRegistrations) -> bool
-        requires { slots.old.names ≡ self.now.ring.names }
+    /// Takes back a place that the reader handed back, where this side doesn't have it.
+    fn reclaim(&mut self) -> bool
         ensures owns { IsTrue result →
-            slots.new ≡ record slots.old { owns = true; maybe_registered = false } }
-        ensures refused { IsFalse result → (slots.old.owns ≡ false) × (slots.new ≡ slots.old) }
-        ensures found { IsFalse result → FoundBack slots.old.names 0 }
+            self.new.slots ≡ record self.old.slots { owns = true; maybe_registered = false } }
+        ensures refused { IsFalse result →
+            (self.old.slots.owns ≡ false) × (self.new.slots ≡ self.old.slots) }
+        ensures found { IsFalse result → FoundBack self.old.slots.names 0 }
+        ensures rest { (self.new.end ≡ self.old.end) × (self.new.cells ≡ self.old.cells) }
     {
-        let parts = &mut slots.parts;
+        let parts = &mut self.slots.parts;
         if parts.right.is_some() {
             return true;
         }
-        let (found, right) = self.slot_words().reclaim(&mut parts.waits, WRITER_BACK);
+        let (found, right) = self.end.slot_words().reclaim(&mut parts.waits, WRITER_BACK);
         if found == 0 {
             return false;
         }
@@ -87,42 +103,39 @@ impl WriteEnd {
 
     /// Takes the place of its waker back, with the waker that is still registered there, if one is.
     /// It fails where the reader has the place just now.
-    pub fn reclaim_waker<T>(
-        &self,
-        slots: &mut WriteRegistrations,
-        cells: &Placed<WakerCells<T>>,
-    ) -> Result<Option<T>, Away>
-        requires ring { slots.old.names ≡ self.now.ring.names }
-        requires cells { AreCellsOf slots.old.names cells.now }
+    pub fn reclaim_waker(&mut self) -> Result<Option<T>, Away>
         ensures owns { IfOk result (λ _.
-            slots.new ≡ record slots.old { owns = true; maybe_registered = false }) }
-        ensures found { IfOk result (λ waker. IsSome waker → slots.old.owns ≡ false) }
-        ensures back { IfOk result (CameBack slots.old.owns) }
-        ensures away { IfErr result (λ _. (slots.old.owns ≡ false) × IsAway slots.old.names) }
+            self.new.slots ≡ record self.old.slots { owns = true; maybe_registered = false }) }
+        ensures found { IfOk result (λ waker. IsSome waker → self.old.slots.owns ≡ false) }
+        ensures back { IfOk result (CameBack self.old.slots.owns) }
+        ensures out { IfOk result (WasTakenBack self.old.slots.owns self.old.slots.tickets) }
+        ensures away { IfErr result (λ _.
+            (self.old.slots.owns ≡ false) × IsAway self.old.slots.names) }
         ensures none { IfErr result (λ _.
-            slots.new ≡ record slots.old { maybe_registered = false }) }
+            self.new.slots ≡ record self.old.slots { maybe_registered = false }) }
+        ensures rest { (self.new.end ≡ self.old.end) × (self.new.cells ≡ self.old.cells) }
     {
         // Who was woken finds the place handed back: so that is asked first.
-        if self.reclaim(slots) {
+        if self.reclaim() {
             return Ok(None);
         }
-        match self.cancel(slots, cells) {
+        match self.cancel() {
             Some(waker) => Ok(Some(waker)),
             None => Err(Away),
         }
     }
 
-    /// Whether this end's waker is still registered in its slot.
-    pub fn is_registered(&self, slots: &mut WriteRegistrations) -> bool
-        requires { slots.old.names ≡ self.now.ring.names }
+    /// Whether this side's waker is still registered in its slot.
+    pub fn is_registered(&mut self) -> bool
         ensures registered { IsTrue result →
-            (slots.old.owns ≡ false) × FoundFlag slots.old.names 1 }
-        ensures none { IsFalse result → IsUnregistered slots.old.names slots.old.owns }
-        ensures kept { slots.new ≡ record slots.old { maybe_registered = result } }
+            (self.old.slots.owns ≡ false) × FoundFlag self.old.slots.names 1 }
+        ensures none { IsFalse result → IsUnregistered self.old.slots.names self.old.slots.owns }
+        ensures kept { self.new.slots ≡ record self.old.slots { maybe_registered = result } }
+        ensures rest { (self.new.end ≡ self.old.end) × (self.new.cells ≡ self.old.cells) }
     {
-        let parts = &mut slots.parts;
+        let parts = &mut self.slots.parts;
         let waits = &mut parts.waits;
-        if parts.right.is_some() || self.slot_words().is_registered(waits, WRITER_FLAG) == 0 {
+        if parts.right.is_some() || self.end.slot_words().is_registered(waits, WRITER_FLAG) == 0 {
             parts.maybe_registered = false;
             return false;
         }
@@ -130,142 +143,151 @@ impl WriteEnd {
         true
     }
 
-    /// Registers: puts `waker` in its place and publishes it in this end's slot, where the reader's
-    /// next look finds it.
-    pub fn publish_waker<T>(
-        &self,
-        slots: &mut WriteRegistrations,
-        cells: &Placed<WakerCells<T>>,
-        waker: T,
-    )
-        requires ring { slots.old.names ≡ self.now.ring.names }
-        requires cells { AreCellsOf slots.old.names cells.now }
-        requires owned { slots.old.owns ≡ true }
-        ensures { WriterRegisters slots.old slots.new }
+    /// Registers: puts `waker` in its place and publishes it in this side's slot, where the
+    /// writer's next look finds it.
+    pub fn publish_waker(&mut self, waker: T)
+        requires { self.old.slots.owns ≡ true }
+        ensures put { WasPut self.new.slots.tickets waker }
+        ensures registered { WriterRegisters self.old.slots self.new.slots }
+        ensures rest { (self.new.end ≡ self.old.end) × (self.new.cells ≡ self.old.cells) }
     {
-        let parts = &mut slots.parts;
+        let parts = &mut self.slots.parts;
         let Some(mut right) = parts.right.take() else {
             unreachable!()
         };
-        self.cells(cells).writer.put(&mut right, waker);
+        self.end.places(&self.cells).writer.put(&mut right, waker);
         parts.maybe_registered = true;
-        let (heard, saw) = self.parts.seat.publish_waker(&mut parts.waits, right);
+        let (heard, saw) = self.end.parts.seat.publish_waker(&mut parts.waits, right);
         parts.heard = heard;
         parts.saw = saw;
     }
 
-    /// `reload`, by an end that has registered: it finds all the room that the reader had given
-    /// back before its last check of the slot ahead of the registration.
-    #[inline(always)]
-    pub fn reload_after(&mut self, slots: &WriteRegistrations)
-        requires ring { slots.now.names ≡ self.old.ring.names }
-        requires none { self.old.room ≡ 0 }
-        ensures after { slots.now.count + self.old.capacity
-            ≤ length self.new.sent + self.new.room }
-        ensures fresh { self.old.told + self.old.capacity ≤ length self.new.sent + self.new.room }
-        ensures found { HasLoadedHead self.new }
-        ensures kept { HasMoreRoom self.old self.new }
-    {
-        self.reload_knowing(&slots.parts.heard);
-    }
-
-    /// `look_closed`, by an end that has registered and has not seen the pipe closed: it finds a
-    /// close that the reader had stored before its last check of the slot ahead of the
+    /// Checks for room that was given back, as `reload` of its end. Once it has registered it finds
+    /// all that the reader had given back before its last check of the slot ahead of the
     /// registration.
     #[inline(always)]
-    pub fn look_closed_after(&mut self, slots: &WriteRegistrations) -> bool
-        requires ring { slots.now.names ≡ self.old.ring.names }
-        requires open { self.old.saw ≡ false }
-        ensures after { flag slots.now.over ≤ flag self.new.saw }
-        ensures saw { result ≡ self.new.saw }
-        ensures shut { self.new.shut ≡ false }
-        ensures kept { SameButSaw self.old self.new }
+    pub fn reload(&mut self)
+        requires { self.old.end.room ≡ 0 }
+        ensures after { self.old.slots.count + self.old.end.capacity
+            ≤ length self.new.end.sent + self.new.end.room }
+        ensures fresh { self.old.end.told + self.old.end.capacity
+            ≤ length self.new.end.sent + self.new.end.room }
+        ensures found { HasLoadedHead self.new.end }
+        ensures kept { HasMoreRoom self.old.end self.new.end }
+        ensures rest { (self.new.slots ≡ self.old.slots) × (self.new.cells ≡ self.old.cells) }
     {
-        self.look_closed_knowing(&slots.parts.saw)
+        self.end.reload_knowing(&self.slots.parts.heard);
     }
 
-    /// Checks after all that this end stored whether the reader is registered in its slot. Returns
-    /// `true` where it isn't.
+    /// Checks whether the pipe is closed, as `look_closed` of its end, where it has not seen it
+    /// closed. Once it has registered it finds a close that the reader had stored before its last
+    /// check of the slot ahead of the registration.
     #[inline(always)]
-    pub fn nobody_waits(&self, slots: &mut WriteRegistrations) -> bool
-        requires { slots.old.names ≡ self.now.ring.names }
-        ensures rests { IsTrue result → IsAtRest self.now slots.new }
-        ensures found { IsFalse result → (slots.new ≡ slots.old) × FoundWaiter slots.old.names 1 }
-        ensures none { slots.new.taken ≡ slots.old.taken }
-        ensures own { SameWriterPlace slots.old slots.new }
+    pub fn look_closed(&mut self) -> bool
+        requires { self.old.end.saw ≡ false }
+        ensures after { flag self.old.slots.over ≤ flag self.new.end.saw }
+        ensures saw { result ≡ self.new.end.saw }
+        ensures shut { self.new.end.shut ≡ false }
+        ensures kept { SameButSaw self.old.end self.new.end }
+        ensures rest { (self.new.slots ≡ self.old.slots) × (self.new.cells ≡ self.old.cells) }
     {
-        let wakes = &mut slots.parts.wakes;
-        self.slot_words().look_flag(wakes, READER_FLAG) == 0
+        self.end.look_closed_knowing(&self.slots.parts.saw)
     }
 
-    /// After all that this end stored, takes the reader's ticket where it is registered in its
-    /// slot. Returns the waker that it put there, and its place is handed back.
-    pub fn take<T>(
-        &self,
-        slots: &mut WriteRegistrations,
-        cells: &Placed<WakerCells<T>>,
-    ) -> Option<T>
-        requires ring { slots.old.names ≡ self.now.ring.names }
-        requires cells { AreCellsOf slots.old.names cells.now }
-        ensures rests { IsAtRest self.now slots.new }
-        ensures none { result ≡ None → slots.new.taken ≡ slots.old.taken }
-        ensures some { IsSome result → slots.old.taken < slots.new.taken }
-        ensures found { result ≡ None → FoundWaiter slots.old.names 0 }
-        ensures own { SameWriterPlace slots.old slots.new }
+    /// `write_buf` of its end: a part of the end can't be lent out of a side by other means.
+    #[inline(always)]
+    pub fn write_buf(&mut self, max: usize) -> &mut [u8]
+        ensures* writes { sem 𝓛 (lends_side T.row self.entry result) }
+        ensures length { Lendable self.old.end max (length result.now) }
+        ensures some { self.old.end.shut ≡ false → 0 < self.old.end.room → 0 < max →
+            0 < length result.now }
     {
-        let wakes = &mut slots.parts.wakes;
-        let (found, mut right) = self.slot_words().take_waker(wakes, READER_FLAG);
+        self.end.write_buf(max)
+    }
+
+    /// Checks after all that this side stored whether the reader is registered in its slot.
+    /// Returns `true` where it isn't.
+    #[inline(always)]
+    pub fn nobody_waits(&mut self) -> bool
+        ensures rests { IsTrue result → IsAtRest self.new.end self.new.slots }
+        ensures found { IsFalse result →
+            (self.new.slots ≡ self.old.slots) × FoundWaiter self.old.slots.names 1 }
+        ensures none { self.new.slots.taken ≡ self.old.slots.taken }
+        ensures own { SameWriterPlace self.old.slots self.new.slots }
+        ensures rest { (self.new.end ≡ self.old.end) × (self.new.cells ≡ self.old.cells) }
+    {
+        let wakes = &mut self.slots.parts.wakes;
+        self.end.slot_words().look_flag(wakes, READER_FLAG) == 0
+    }
+
+    /// After all that this side stored, takes the reader's ticket where it is registered in its
+    /// slot. Returns the waker that it put there, and its place is handed back.
+    pub fn take(&mut self) -> Option<T>
+        ensures rests { IsAtRest self.new.end self.new.slots }
+        ensures none { result ≡ None → self.new.slots.taken ≡ self.old.slots.taken }
+        ensures some { IsSome result → self.old.slots.taken < self.new.slots.taken }
+        ensures waker { WasTaken self.old.slots.taken self.new.slots.taken result }
+        ensures found { result ≡ None → FoundWaiter self.old.slots.names 0 }
+        ensures own { SameWriterPlace self.old.slots self.new.slots }
+        ensures rest { (self.new.end ≡ self.old.end) × (self.new.cells ≡ self.old.cells) }
+    {
+        let wakes = &mut self.slots.parts.wakes;
+        let (found, mut right) = self.end.slot_words().take_waker(wakes, READER_FLAG);
         if found == 0 {
             return None;
         }
-        let waker = self.cells(cells).reader.take(&mut right);
-        self.slot_words().give_back(wakes, right, READER_BACK);
+        let waker = self.end.places(&self.cells).reader.take(&mut right);
+        self.end.slot_words().give_back(wakes, right, READER_BACK);
         Some(waker)
     }
 
-    /// `finish`, and `take` after its close. With it comes what was left in the places, if the other
-    /// end has left.
-    pub fn finish_waking<T>(
-        self,
-        slots: &mut WriteRegistrations,
-        cells: &Placed<WakerCells<T>>,
-    ) -> (WriteMark, Option<T>, LeftWakers<T>)
-        requires ring { slots.old.names ≡ self.ring.names }
-        requires cells { AreCellsOf slots.old.names cells.now }
-        ensures last { (result.0.names ≡ self.ring.names) × (result.0.bytes ≡ self.sent)
-            × (result.0.shut ≡ true) }
-        ensures left { GetsLeft self.ring.names result.2 }
-        ensures looked { (slots.new.bytes ≡ self.sent) × (slots.new.shut ≡ true) }
-        ensures none { result.1 ≡ None → slots.new.taken ≡ slots.old.taken }
-        ensures some { IsSome result.1 → slots.old.taken < slots.new.taken }
-        ensures found { result.1 ≡ None → FoundWaiter self.ring.names 0 }
-        ensures own { SameWriterPlace slots.old slots.new }
+    /// `finish` of its end, and `take` after its close. With it comes what was left in the places,
+    /// if the other side has left.
+    pub fn finish(self) -> Finished<FinishedWriter, T>
+        ensures last { (result.side.told.names ≡ self.end.ring.names)
+            × (result.side.told.bytes ≡ self.end.sent) × (result.side.told.shut ≡ true) }
+        ensures looked { (result.side.slots.bytes ≡ self.end.sent)
+            × (result.side.slots.shut ≡ true) }
+        ensures none { result.taken ≡ None → result.side.slots.taken ≡ self.slots.taken }
+        ensures some { IsSome result.taken → self.slots.taken < result.side.slots.taken }
+        ensures waker { WasTaken self.slots.taken result.side.slots.taken result.taken }
+        ensures found { result.taken ≡ None → FoundWaiter self.end.ring.names 0 }
+        ensures own { SameWriterPlace self.slots result.side.slots }
+        ensures left { GetsLeft self.end.ring.names result.left }
     {
-        let leaving = self.close();
-        let last = leaving.seat.mark();
+        let WriteSide {
+            end,
+            mut slots,
+            cells,
+        } = self;
+        let leaving = end.close();
+        let told = leaving.seat.mark();
         let wakes = &mut slots.parts.wakes;
         let (found, mut right) = leaving.seat.slot_words().take_waker(wakes, READER_FLAG);
-        if found == 0 {
-            return (last, None, leaving.leave(Some(cells)));
-        }
-        let waker = cells.get(&leaving.lease).reader.take(&mut right);
-        let words = leaving.seat.slot_words();
-        words.give_back(wakes, right, READER_BACK);
-        (last, Some(waker), leaving.leave(Some(cells)))
+        let taken = if found == 0 {
+            None
+        } else {
+            let waker = cells.get(&leaving.lease).reader.take(&mut right);
+            let words = leaving.seat.slot_words();
+            words.give_back(wakes, right, READER_BACK);
+            Some(waker)
+        };
+        let left = leaving.leave(Some(&cells));
+        let side = FinishedWriter { told, slots };
+        Finished { side, taken, left }
     }
 
-    /// With what is left of the reader's slots once its end is gone, and also before: where this
-    /// end waits, and the reader stored something since and checked the slot, its last ticket was
-    /// taken.
-    pub fn meet_finished(&self, slots: &mut WriteRegistrations, left: &mut ReadRegistrations)
-        requires { (slots.old.names ≡ self.now.ring.names)
-            × (left.old.names ≡ self.now.ring.names) }
-        ensures writer { IsWriterPending self.now slots.old → HasRoomNews self.now left.old
-            → left.old.taken ≡ slots.old.tickets }
-        ensures capacity { self.now.capacity ≡ self.now.ring.names.capacity }
-        ensures kept { (slots.new ≡ slots.old) × (left.new ≡ left.old) }
+    /// With what the reader's side has of the slots, or what is left of that once it is gone: where
+    /// this side waits, and the reader stored something since and checked the slot, its last ticket
+    /// was taken.
+    pub fn meet_slot(&mut self, left: &mut ReadRegistrations)
+        requires { left.old.names ≡ self.old.end.ring.names }
+        ensures writer { IsWriterPending self.old.end self.old.slots →
+            HasRoomNews self.old.end left.old → left.old.taken ≡ self.old.slots.tickets }
+        ensures capacity { self.old.end.capacity ≡ self.old.end.ring.names.capacity }
+        ensures kept { (self.new ≡ self.old) × (left.new ≡ left.old) }
     {
-        let words = self.parts.seat.slot_words();
-        words.meet_slot(&mut slots.parts.waits, &mut left.parts.wakes);
+        let words = self.end.parts.seat.slot_words();
+        words.meet_slot(&mut self.slots.parts.waits, &mut left.parts.wakes);
     }
 }

@@ -9,7 +9,7 @@ returns-in-None-Some-Ok-clause-poured g c =
     let contents = g.D.Destination.contents in
     let took = g.D.Destination.took in
     let first : PouredAll contents took c.args.dest.now c.on_two_threads.new.dest
-    c.args.output.now.reader.end c.on_two_threads.new.output.reader.end = search rules in
+    c.args.output.now.reader.side.end c.on_two_threads.new.output.reader.side.end = search rules in
     poured_of_all _ _ _ _ _ _ (poured_more _ _ _ _ _ _ _ _ first c.resume.ensures.poured)
 
 pub returns-in-None-None-clause-fed : goal.returns-in-None-None-clause-fed

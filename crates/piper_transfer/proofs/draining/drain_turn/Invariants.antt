@@ -5,4 +5,4 @@ use Rattle.piper_transfer.proofs.draining.drain_turn.Given as goal
 abbrev pub invariant-loop : goal.invariant-loop
 invariant-loop g l =
     (goal.iterator-loop g).can_next l.iterator' × (goal.iterator-loop g).is_finite l.iterator'
-    × PouredAll g.D.Destination.contents g.D.Destination.took l.initial.dest l.dest l.initial.reader.end l.reader.end
+    × PouredAll g.D.Destination.contents g.D.Destination.took l.initial.dest l.dest l.initial.reader.side.end l.reader.side.end

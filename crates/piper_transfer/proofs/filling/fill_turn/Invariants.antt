@@ -5,5 +5,5 @@ use Rattle.piper_transfer.proofs.filling.fill_turn.Given as goal
 abbrev pub invariant-loop : goal.invariant-loop
 invariant-loop g l =
     (goal.iterator-loop g).can_next l.iterator' × (goal.iterator-loop g).is_finite l.iterator'
-    × Fed (g.S.Source.remaining l.initial.source) (g.S.Source.remaining l.source) l.initial.writer.end l.writer.end
-    × IsOpen l.writer.end
+    × Fed (g.S.Source.remaining l.initial.source) (g.S.Source.remaining l.source) l.initial.writer.side.end l.writer.side.end
+    × IsOpen l.writer.side.end

@@ -6,5 +6,5 @@ use Rattle.piper_transfer.proofs.one_thread.drain_known.Given as goal
 abbrev pub invariant-loop : goal.invariant-loop
 invariant-loop g l =
     (goal.iterator-loop g).can_next l.iterator' × (goal.iterator-loop g).is_finite l.iterator'
-    × PouredAll g.D.Destination.contents g.D.Destination.took l.initial.dest l.dest l.initial.reader.end l.reader.end
-    × StaysKnown l.initial.reader.end l.reader.end
+    × PouredAll g.D.Destination.contents g.D.Destination.took l.initial.dest l.dest l.initial.reader.side.end l.reader.side.end
+    × StaysKnown l.initial.reader.side.end l.reader.side.end

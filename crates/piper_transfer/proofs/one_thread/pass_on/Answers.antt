@@ -8,8 +8,8 @@ returns-clause-room g c =
     let first = c.meet.ensures in
     let second = c.meet-2.ensures in
     let drained = c.drain_known.ensures in
-    room_again c.meet.new.self.end c.drain_known.new.reader.end c.meet-2.new.self.end
-    c.meet.new.other.end c.meet-2.new.other.end
+    room_again c.meet.new.self.side.end c.drain_known.new.reader.side.end c.meet-2.new.self.side.end
+    c.meet.new.other.side.end c.meet-2.new.other.side.end
     first.fifo drained.known (search rules) second.rest.reader.taken second.fifo second.rest.writer.sent
     second.room (search rules)
 
@@ -18,6 +18,6 @@ returns-clause-all g c =
     let first = c.meet.ensures in
     let second = c.meet-2.ensures in
     let drained = c.drain_known.ensures in
-    taken_all c.meet.new.self.end c.drain_known.new.reader.end c.meet-2.new.self.end
-    c.meet.new.other.end c.meet-2.new.other.end
+    taken_all c.meet.new.self.side.end c.drain_known.new.reader.side.end c.meet-2.new.self.side.end
+    c.meet.new.other.side.end c.meet-2.new.other.side.end
     first.fifo drained.known (search rules) second.rest.reader.taken second.rest.writer.sent

@@ -5,8 +5,8 @@ use Rattle.proved_order.proofs.threads.carry_across.Goals as goal
 
 pub returns : goal.returns
 returns g c =
-    let taken = c.heed.new.self.end.taken in
-    let known = c.heed.new.self.end.known in
+    let taken = c.heed.new.self.side.end.taken in
+    let known = c.heed.new.self.side.end.known in
     let rest = (c.heed.ensures.last (search rules)).rest in
     came_first c.receive_all-came.new.place (known ++ rest.0) c.args.bytes.now c.receive_all-came.result c.join-last.ensures.front.0
     c.receive_all-came.ensures.count

@@ -6,5 +6,5 @@ abbrev pub invariant-loop : goal.invariant-loop
 invariant-loop g l =
     (goal.iterator-loop g).can_next l.iterator' × (goal.iterator-loop g).is_finite l.iterator'
     × (l.came ≤ length l.place)
-    × (l.reader.end.ring ≡ l.initial.reader.end.ring)
-    × (l.reader.end.taken ≡ take l.came l.place)
+    × (l.reader.side.end.ring ≡ l.initial.reader.side.end.ring)
+    × (l.reader.side.end.taken ≡ take l.came l.place)

@@ -12,9 +12,9 @@ loop-preserved g c =
       turns = search rules;
       within = search rules;
       ring = search rules;
-      front = front_grows bytes c.loop.writer.end.sent c.try_fill-given.new.self.end.sent c.loop.given n c.loop.writer.end.saw was.within was.front was.all fill.closed fill.filled.front;
+      front = front_grows bytes c.loop.writer.side.end.sent c.try_fill-given.new.self.side.end.sent c.loop.given n c.loop.writer.side.end.saw was.within was.front was.all fill.closed fill.filled.front;
       all = λ unseen.
-          let before : c.loop.writer.end.saw ≡ false = search rules in
+          let before : c.loop.writer.side.end.saw ≡ false = search rules in
           fill.filled.all unseen ∙ ap (λ xs. xs ++ take n (left_after bytes c.loop.given)) (was.all before) ∙ first_and_next bytes c.loop.given n was.within;
     }
 
@@ -24,15 +24,15 @@ returns g c =
     elim c.match-next.branch [
       | in-None w ↦ record {
         ring = search rules;
-        front = (was.front.0, c.drop.ensures.bytes ∙ ap (λ writer. writer.end.sent) w.writer-is ∙ was.front.1);
+        front = (was.front.0, c.drop.ensures.bytes ∙ ap (λ writer. writer.side.end.sent) w.writer-is ∙ was.front.1);
         closed = c.drop.ensures.shut;
       }
       | in-Some+then-given-bytes w ↦
           let fill = w.try_fill-given.ensures in
-          let front = front_grows c.args.bytes.now c.loop.writer.end.sent w.try_fill-given.new.self.end.sent c.loop.given w.try_fill-given.result c.loop.writer.end.saw was.within was.front was.all fill.closed fill.filled.front in
+          let front = front_grows c.args.bytes.now c.loop.writer.side.end.sent w.try_fill-given.new.self.side.end.sent c.loop.given w.try_fill-given.result c.loop.writer.side.end.saw was.within was.front was.all fill.closed fill.filled.front in
           record {
             ring = search rules;
-            front = (front.0, c.drop.ensures.bytes ∙ ap (λ writer. writer.end.sent) w.writer-is ∙ front.1);
+            front = (front.0, c.drop.ensures.bytes ∙ ap (λ writer. writer.side.end.sent) w.writer-is ∙ front.1);
             closed = c.drop.ensures.shut;
           }
     ]

@@ -7,7 +7,7 @@ abbrev pub invariant-loop : goal.invariant-loop
 invariant-loop g l = record {
   turns : (goal.iterator-loop g).can_next l.iterator' × (goal.iterator-loop g).is_finite l.iterator';
   within : l.given ≤ length l.bytes;
-  ring : l.writer.end.ring ≡ l.initial.writer.end.ring;
-  front : (m : ℕ) × (l.writer.end.sent ≡ take m l.bytes);
-  all : l.writer.end.saw ≡ false → l.writer.end.sent ≡ take l.given l.bytes;
+  ring : l.writer.side.end.ring ≡ l.initial.writer.side.end.ring;
+  front : (m : ℕ) × (l.writer.side.end.sent ≡ take m l.bytes);
+  all : l.writer.side.end.saw ≡ false → l.writer.side.end.sent ≡ take l.given l.bytes;
 }

@@ -2,7 +2,7 @@
 use Rattle.std.proofs.Common.{◌≡◌, ◌+◌, ◌%◌, ◌^◌, ◌∙◌, ℕ, Ok, ap, refl, length, length-drop, inr, arith}
 use Rattle.piper_protocol.specs.Steps.{moved_by}
 use Rattle.piper.proofs.RoundsOut.{sum_fits, drain_ended, drain_failed, drained_more, drained_none}
-use Rattle.piper.proofs.SamePlace.{reader_place}
+use Rattle.piper.proofs.SamePlace.{both, reader_place}
 use Rattle.piper.proofs.handles.Reader.drain_rounds.Goals as goal
 
 pub rounds-init : goal.rounds-init
@@ -11,7 +11,7 @@ rounds-init g c =
       drained = rw c.requires (drained_none _ _ _ (g.met.W.WriteLike.takes_nothing c.args.dest.now));
       failures = refl;
       all = refl;
-      rest = record { slots = refl; rng = refl; waits = (refl, refl, refl, refl, refl, refl) };
+      rest = record { slots = (refl, refl); rng = refl; waits = (refl, refl, refl, refl, refl, refl) };
       woke = λ woke. woke;
     }
 
@@ -22,7 +22,7 @@ took-requires-clause-fits g c =
 pub rounds-smaller : goal.rounds-smaller
 rounds-smaller g c =
     let known = rw c.took.ensures.count at c.store_head-round.ensures.known in
-    rw c.wake_writer-call.ensures.end (omega (arith, ap length known, length-drop c.in-Ok.n c.rounds.self.end.known, c.in-Ok.ensures.bound))
+    rw c.wake_writer-call.ensures.end (omega (arith, ap length known, length-drop c.in-Ok.n c.rounds.self.side.end.known, c.in-Ok.ensures.bound))
 
 pub returns-in-Err : goal.returns-in-Err
 returns-in-Err g c =
@@ -77,9 +77,9 @@ rounds-preserved g c =
       failures = c.in-Ok.ensures.failures ∙ c.rounds.invariant.failures;
       all = rw woke.end (stored.all ∙ c.rounds.invariant.all);
       rest = record {
-        slots = woke.rest.slots ∙ stored.rest.slots ∙ c.rounds.invariant.rest.slots;
+        slots = both woke.rest.slots (both stored.rest.slots c.rounds.invariant.rest.slots);
         rng = woke.rest.rng ∙ stored.rest.rng ∙ c.rounds.invariant.rest.rng;
-        waits = reader_place c.args.self.now.registrations c.rounds.self.registrations c.store_head-round.new.self.registrations c.wake_writer-call.new.self.registrations c.rounds.invariant.rest.waits stored.rest.registrations woke.rest.waits;
+        waits = reader_place c.args.self.now.side.slots c.rounds.self.side.slots c.store_head-round.new.self.side.slots c.wake_writer-call.new.self.side.slots c.rounds.invariant.rest.waits stored.rest.registrations woke.rest.waits;
       };
       woke = λ _. woke.woke;
     }

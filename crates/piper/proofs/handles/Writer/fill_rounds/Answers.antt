@@ -2,7 +2,7 @@
 use Rattle.std.proofs.Common.{◌≡◌, ◌+◌, ◌%◌, ◌^◌, ◌∙◌, ℕ, [], Ok, take, refl, sym, ap, subst, inl, inr, arith}
 use Rattle.piper_ring.specs.WriteView.{WriteView}
 use Rattle.piper_protocol.specs.Steps.{moved_by}
-use Rattle.piper.proofs.SamePlace.{writer_place, writer_stays}
+use Rattle.piper.proofs.SamePlace.{both, writer_place, writer_stays}
 use Rattle.piper.proofs.StaysNotified.{reader_stays}
 use Rattle.piper.proofs.RoundsIn.{fill_ended, fill_failed, fill_closed, filled_more}
 use Rattle.piper.proofs.handles.Writer.fill_rounds.Goals as goal
@@ -16,7 +16,7 @@ returns-in-Err g c =
       «open» = round.end.saw ∙ before.open_yet;
       found = tt;
       ready = tt;
-      rest = record { slots = round.rest.slots ∙ before.rest.slots; rng = round.rest.rng ∙ before.rest.rng; waits = writer_stays c.args.self.now.registrations c.rounds.self.registrations c.fill_round.new.self.registrations before.rest.waits round.rest.registrations };
+      rest = record { slots = both round.rest.slots before.rest.slots; rng = round.rest.rng ∙ before.rest.rng; waits = writer_stays c.args.self.now.side.slots c.rounds.self.side.slots c.fill_round.new.self.side.slots before.rest.waits round.rest.registrations };
       woke = λ woke. reader_stays c.rounds.self c.fill_round.new.self round.rest.registrations round.end.sent round.end.shut (before.woke woke);
     }
 
@@ -25,7 +25,7 @@ returns-then-n-eq0 g c =
     let before = c.rounds.invariant in
     let round = c.fill_round.ensures in
     let none : g.R.ReadLike.gives c.rounds.source [] c.fill_round.new.source =
-    subst (λ (m : ℕ). g.R.ReadLike.gives c.rounds.source (take m c.fill_round.new.self.end.lent) c.fill_round.new.source) c.if-n-eq0.true c.in-Ok.ensures.bytes in
+    subst (λ (m : ℕ). g.R.ReadLike.gives c.rounds.source (take m c.fill_round.new.self.side.end.lent) c.fill_round.new.source) c.if-n-eq0.true c.in-Ok.ensures.bytes in
     let dry : c.fill_round.result ≡ Ok 0 = c.in-Ok.is ∙ ap (λ (m : ℕ). Ok m) c.if-n-eq0.true in
     rw c.moved_none-then-n-eq0.ensures.count (record {
       filled = fill_ended _ g.met.R.ReadLike.gives_in_order _ _ _ _ _ _ _ before.filled round.end _ _ none (round.dry dry)
@@ -34,7 +34,7 @@ returns-then-n-eq0 g c =
       «open» = tt;
       found = inr (round.end.saw ∙ before.open_yet);
       ready = tt;
-      rest = record { slots = round.rest.slots ∙ before.rest.slots; rng = round.rest.rng ∙ before.rest.rng; waits = writer_stays c.args.self.now.registrations c.rounds.self.registrations c.fill_round.new.self.registrations before.rest.waits round.rest.registrations };
+      rest = record { slots = both round.rest.slots before.rest.slots; rng = round.rest.rng ∙ before.rest.rng; waits = writer_stays c.args.self.now.side.slots c.rounds.self.side.slots c.fill_round.new.self.side.slots before.rest.waits round.rest.registrations };
       woke = λ woke. reader_stays c.rounds.self c.fill_round.new.self round.rest.registrations round.end.sent round.end.shut (before.woke woke);
     })
 
@@ -67,7 +67,7 @@ returns-then-load_closed g c =
       «open» = tt;
       found = inl (omega (arith, c.if-n-eq0.false));
       ready = tt;
-      rest = record { slots = saw.rest.slots ∙ round.rest.slots ∙ before.rest.slots; rng = saw.rest.rng ∙ round.rest.rng ∙ before.rest.rng; waits = writer_stays c.args.self.now.registrations c.rounds.self.registrations c.load_closed.new.self.registrations before.rest.waits (saw.rest.registrations ∙ round.rest.registrations) };
+      rest = record { slots = both saw.rest.slots (both round.rest.slots before.rest.slots); rng = saw.rest.rng ∙ round.rest.rng ∙ before.rest.rng; waits = writer_stays c.args.self.now.side.slots c.rounds.self.side.slots c.load_closed.new.self.side.slots before.rest.waits (saw.rest.registrations ∙ round.rest.registrations) };
       woke = λ woke. reader_stays c.rounds.self c.load_closed.new.self (saw.rest.registrations ∙ round.rest.registrations) (saw.end.sent ∙ round.end.sent) (saw.end.shut ∙ round.end.shut) (before.woke woke);
     })
 
@@ -88,9 +88,9 @@ rounds-preserved g c =
       open_yet = rw woke.end (stored.end.saw ∙ sym saw.saw ∙ c.if-load_closed.false);
       failures = c.in-Ok.ensures.failures ∙ before.failures;
       rest = record {
-        slots = woke.rest.slots ∙ stored.rest.slots ∙ saw.rest.slots ∙ round.rest.slots ∙ before.rest.slots;
+        slots = both woke.rest.slots (both stored.rest.slots (both saw.rest.slots (both round.rest.slots before.rest.slots)));
         rng = woke.rest.rng ∙ stored.rest.rng ∙ saw.rest.rng ∙ round.rest.rng ∙ before.rest.rng;
-        waits = writer_place c.args.self.now.registrations c.rounds.self.registrations c.store_tail-round.new.self.registrations c.wake_reader-call.new.self.registrations before.rest.waits (stored.rest.registrations ∙ saw.rest.registrations ∙ round.rest.registrations) woke.rest.waits;
+        waits = writer_place c.args.self.now.side.slots c.rounds.self.side.slots c.store_tail-round.new.self.side.slots c.wake_reader-call.new.self.side.slots before.rest.waits (stored.rest.registrations ∙ saw.rest.registrations ∙ round.rest.registrations) woke.rest.waits;
       };
       woke = λ _. woke.woke;
     }

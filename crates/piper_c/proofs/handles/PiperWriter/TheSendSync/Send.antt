@@ -36,7 +36,7 @@ apart : (p at : Ptr) (w : WriteHalf) → Keyless (all_but_room p at w)
 apart p at w l = (
   (λ _. tt),
   (
-    ((slice_send.owned (record { ref_ptr = (block_of at, count_of at); ghost_name = l.1.1; now = w.end.lent }) []).1.1, (tt, tt)),
+    ((slice_send.owned (record { ref_ptr = (block_of at, count_of at); ghost_name = l.1.1; now = w.side.end.lent }) []).1.1, (tt, tt)),
     (
       (
         (lent_send.owned (record { ref_ptr = (block_of p, count_of p); ghost_name = l.1.0; now = w }) []).1.1,

@@ -7,15 +7,15 @@ use Rattle.piper_tokio.proofs.reader.streams.CompatReaderAsyncBufRead.consume.Go
 pub invariant_of-self : goal.invariant_of-self
 invariant_of-self c =
     let s = c.args.self.now in
-    let few : c.args.amount ≤ s.shown = omega (arith, c.requires, length-take s.shown s.reader.end.known) in
-    let shown : s.shown ≤ in_one_piece s.reader.end = s.within in
-    let rest = rest_in_one_piece s.reader.end c.consume.new.self.end c.args.amount (omega arith) c.consume.ensures.rest.end.end.capacity c.consume.ensures.taken c.consume.ensures.known in
+    let few : c.args.amount ≤ s.shown = omega (arith, c.requires, length-take s.shown s.reader.side.end.known) in
+    let shown : s.shown ≤ in_one_piece s.reader.side.end = s.within in
+    let rest = rest_in_one_piece s.reader.side.end c.consume.new.self.side.end c.args.amount (omega arith) c.consume.ensures.rest.end.end.capacity c.consume.ensures.taken c.consume.ensures.known in
     record { within = omega (arith, rest) }
 
 pub returns-clause-rest : goal.returns-clause-rest
 returns-clause-rest c =
     let s = c.args.self.now in
-    let known = s.reader.end.known in
+    let known = s.reader.side.end.known in
     let all : c.args.amount + (s.shown - c.args.amount) ≡ s.shown = omega (arith, c.requires, length-take s.shown known) in
     ap (λ xs. take (s.shown - c.args.amount) xs) c.consume.ensures.known
     ∙ sym (subst (λ n. drop c.args.amount (take n known) ≡ take (s.shown - c.args.amount) (drop c.args.amount known)) all (drop-take c.args.amount (s.shown - c.args.amount) known))

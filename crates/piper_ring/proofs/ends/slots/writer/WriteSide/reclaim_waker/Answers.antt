@@ -1,11 +1,17 @@
 -- What came back of the place is what this function says: nothing, where it was handed back, or the
 -- waker that lay there.
 use Rattle.std.proofs.Common.{None, Some}
-use Rattle.piper_ring.specs.Loads.{as_back}
-use Rattle.piper_ring.proofs.ends.writer.WriteEnd.reclaim_waker.Goals as goal
+use Rattle.piper_ring.specs.Loads.{as_back, as_taken_back}
+use Rattle.piper_ring.proofs.ends.slots.writer.WriteSide.reclaim_waker.Goals as goal
 
 pub returns-then-reclaim-clause-back : goal.returns-then-reclaim-clause-back
 returns-then-reclaim-clause-back g c = as_back _ None
 
 pub returns-in-Some-clause-back : goal.returns-in-Some-clause-back
 returns-in-Some-clause-back g c = as_back _ (Some c.in-Some.waker)
+
+pub returns-then-reclaim-clause-out : goal.returns-then-reclaim-clause-out
+returns-then-reclaim-clause-out g c = as_taken_back _ _ None
+
+pub returns-in-Some-clause-out : goal.returns-in-Some-clause-out
+returns-in-Some-clause-out g c = as_taken_back _ _ (Some c.in-Some.waker)

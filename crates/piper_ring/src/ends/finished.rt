@@ -1,0 +1,38 @@
+//! What is left of a side that has left.
+ghost use Rattle.std.specs.Prelude.{◌≡◌, true};
+
+use crate::ends::cells::LeftWakers;
+use crate::ends::slots::{ReadRegistrations, WriteRegistrations};
+use crate::ring::marks::{LastReadMark, WriteMark};
+
+/// What comes of a side that leaves.
+pub struct Finished<S, T> {
+    /// What is left of it.
+    pub side: S,
+    /// The waker that it took out of the other side's slot after its close, if one was registered.
+    pub taken: Option<T>,
+    /// What lay in the places, if the other side had left before.
+    pub left: LeftWakers<T>,
+}
+
+/// What is left of the reader's side: evidence that it closed the pipe, and that after that it took
+/// whoever was registered in the writer's slot.
+#[derive(Drop)]
+pub struct FinishedReader {
+    /// All that was ever consumed, and that the reader left.
+    pub told: LastReadMark,
+    pub slots: ReadRegistrations,
+    ghost of_one_ring: { slots.names ≡ told.consumed.names },
+    ghost after_its_close: { slots.over ≡ true },
+}
+
+/// What is left of the writer's side: evidence that it closed the pipe, and that after that it took
+/// whoever was registered in the reader's slot.
+#[derive(Drop)]
+pub struct FinishedWriter {
+    /// All that was ever published, and that the pipe is closed.
+    pub told: WriteMark,
+    pub slots: WriteRegistrations,
+    ghost of_one_ring: { slots.names ≡ told.names },
+    ghost after_its_close: { (told.shut ≡ true) × (slots.shut ≡ true) },
+}
