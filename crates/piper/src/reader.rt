@@ -112,7 +112,7 @@ impl Reader {
         let call = self.store_head(storing(amt));
         match self.check_writer(call) {
             Ok(()) => {}
-            Err(call) => self.take_and_wake_writer(call),
+            Err(call) => self.take_writer().wakes(call),
         }
     }
 

@@ -98,7 +98,7 @@ impl Writer {
         let call = self.store_tail(storing(n));
         match self.check_reader(call) {
             Ok(()) => {}
-            Err(call) => self.take_and_wake_reader(call),
+            Err(call) => self.take_reader().wakes(call),
         }
     }
 
@@ -113,7 +113,7 @@ impl Writer {
     {
         let _unused = cx;
         let call = self.shut(closing());
-        let call = self.take_and_wake_reader(call);
+        let call = self.take_reader().wakes(call);
         self.take_and_wake_own(call);
         Poll::Ready(Ok(()))
     }

@@ -16,7 +16,7 @@ use crate::handles::Reader;
 use crate::like::{StdWrite, StdWriter, WriteBytes, WriteLike};
 use crate::looks::NoWork;
 use futures::task::{Context, Poll};
-use piper_protocol::steps::{OfCopy, Rounds};
+use piper_protocol::steps::{OfCopy, OfTry, Rounds};
 use piper_protocol::table::MOST_A_ROUND;
 use piper_ring::OutOfMemory;
 
@@ -182,12 +182,16 @@ impl Reader {
         ensures woken { WakesWriter self.old self.new }
         ensures rest { SameReaderButWoke self.old self.new }
     {
-        match self.try_inner() {
-            Ok(call) => self.drain_rounds(call.begins(), dest),
-            Err(NoWork::Closed) => Poll::Ready(Ok(0)),
-            Err(NoWork::Pending) => Poll::Pending,
-            Err(NoWork::Refused) => unreachable!(),
-        }
+        let call = match self.look_first(OfTry) {
+            Ok(call) => call,
+            Err(call) => match self.look_again(call.goes_on()) {
+                Ok(call) => call,
+                Err(NoWork::Closed) => return Poll::Ready(Ok(0)),
+                Err(NoWork::Pending) => return Poll::Pending,
+                Err(NoWork::Refused) => unreachable!(),
+            },
+        };
+        self.drain_rounds(call.begins(), dest)
     }
 
     // Hands known bytes to the destination in rounds, each in one piece, until none is known or it

@@ -1,10 +1,9 @@
 //! The steps of the writer: one function for each kind, which makes the one access of its end or of
 //! a slot. Those of a look report what they found, and the look takes its open call on; the others
 //! take it on themselves.
-ghost use Rattle.std.specs.Prelude.{◌≡◌, ◌+◌, ◌<◌, ◌≤◌, ◌++◌, ◌↔◌, ◌⊎◌, length, take, drop, None, IsSome, IfOk, IfErr, OnOk, IsTrue, IsFalse, true, false};
+ghost use Rattle.std.specs.Prelude.{◌≡◌, ◌+◌, ◌<◌, ◌≤◌, ◌++◌, ◌↔◌, ◌⊎◌, length, take, drop, IfOk, IfErr, OnOk, IsTrue, IsFalse, true, false};
 ghost use Rattle.futures.specs.Task.{Covers, Keeps};
 ghost use Rattle.piper_protocol.specs.Steps.{after_store, after_take, stores};
-ghost use Rattle.piper_ring.specs.Loads.{CameBack};
 ghost use Rattle.piper_ring.specs.Shared.{flag};
 ghost use Rattle.piper_ring.specs.SlotsView.{WriterRegisters};
 ghost use Rattle.piper.specs.Contexts.{AsksAgain, IsCalm};
@@ -64,6 +63,7 @@ impl Writer {
     /// Registers in the writer's slot, and reports whether a waker was granted. Where the reader
     /// has just taken whoever was registered there, the task asks for another poll in place of
     /// that.
+    #[inline(never)]
     pub(crate) fn register(&mut self, cx: &mut Context<'_>) -> bool
         ensures covered { Covers cx.new (λ s. s ≡ write_source self.old) }
         ensures registered { IsTrue result →
@@ -75,53 +75,18 @@ impl Writer {
         ensures end { self.new.side.end ≡ self.old.side.end }
         ensures rest { SameWriterButWaits self.old self.new }
     {
-        self.register_or_yield(cx).is_ok()
-    }
-
-    /// Registers in the writer's slot, as `register` says. With an `Away` the task has asked for
-    /// another poll in place of that.
-    #[inline(never)]
-    fn register_or_yield(&mut self, cx: &mut Context<'_>) -> Result<Option<Away>, OutOfMemory>
-        ensures covered { Covers cx.new (λ s. s ≡ write_source self.old) }
-        ensures registered { IfOk result (λ away. away ≡ None →
-            WriterRegisters self.old.side.slots self.new.side.slots
-            × IsCalm self.old.side.slots.owns cx.new) }
-        ensures away { IfOk result (λ away. IsSome away →
-            AsksAgain cx.new × WriterIsAway self.old self.new) }
-        ensures refused { IfErr result (λ _. cx.new.lacks_waker ≡ true) }
-        ensures kept { Keeps cx.old cx.new }
-        ensures end { self.new.side.end ≡ self.old.side.end }
-        ensures rest { SameWriterButWaits self.old self.new }
-    {
-        let held = match self.reclaim_own() {
-            Ok(held) => held,
-            Err(away) => {
+        let held = match self.side.reclaim_waker() {
+            Ok(held) => Taken::new(held),
+            Err(Away) => {
                 let _pending: Poll<()> = cx.yield_now();
-                return Ok(Some(away));
+                return true;
             }
         };
-        let waker = held.grant(&self.source, cx)?;
+        let Ok(waker) = held.grant(&self.source, cx) else {
+            return false;
+        };
         self.side.publish_waker(waker);
-        Ok(None)
-    }
-
-    /// Takes the place of the writer's waker back, with the waker that is still registered there, if
-    /// one is. It fails where the reader has the place just now.
-    #[inline(always)]
-    fn reclaim_own(&mut self) -> Result<Taken, Away>
-        ensures owns { IfOk result (λ _. self.new.side.slots
-            ≡ record self.old.side.slots { owns = true; maybe_registered = false }) }
-        ensures back { IfOk result (λ own.
-            CameBack self.old.side.slots.owns (waker_in own)) }
-        ensures away { IfErr result (λ _. WriterIsAway self.old self.new) }
-        ensures leaves { WriterLeavesNone self.new }
-        ensures end { self.new.side.end ≡ self.old.side.end }
-        ensures rest { SameWriterButWaits self.old self.new }
-    {
-        match self.side.reclaim_waker() {
-            Ok(waker) => Ok(Taken::new(waker)),
-            Err(away) => Err(away),
-        }
+        true
     }
 
     /// Empties the writer's slot after the look of a poll, unless its place is known to be empty.
@@ -145,12 +110,8 @@ impl Writer {
         ensures end { self.new.side.end ≡ self.old.side.end }
         ensures rest { SameWriterButWaits self.old self.new }
     {
-        if !self.side.is_registered() {
-            return;
-        }
-        match self.reclaim_own() {
-            Ok(own) => own.let_go(),
-            Err(Away) => {}
+        if self.side.is_registered() {
+            Taken::new(self.side.cancel()).let_go();
         }
     }
 
@@ -160,8 +121,8 @@ impl Writer {
         ensures end { self.new.side.end ≡ self.old.side.end }
         ensures rest { SameWriterButWaits self.old self.new }
     {
-        match self.reclaim_own() {
-            Ok(own) => own.wakes_own(call),
+        match self.side.reclaim_waker() {
+            Ok(own) => Taken::new(own).wakes_own(call),
             Err(Away) => call.took_none(),
         }
     }
@@ -200,7 +161,7 @@ impl Writer {
     }
 
     /// Checks after the store whether the reader is registered in its slot. Where it isn't the call
-    /// goes on; else it is given back, for `take_and_wake_reader`. So `produced` has no call that
+    /// goes on; else it is given back, for `take_reader`. So `produced` has no call that
     /// may wake on the path of a flowing pipe: after one the compiler checks whether it returned.
     #[inline(always)]
     pub(crate) fn check_reader<T>(&mut self, call: TakeOther<T>) -> Result<T, TakeOther<T>>
@@ -227,26 +188,15 @@ impl Writer {
     {
         match self.check_reader(call) {
             Ok(then) => then,
-            Err(call) => self.take_and_wake_reader(call),
+            Err(call) => self.take_reader().wakes(call),
         }
-    }
-
-    /// Takes whoever is registered in the reader's slot, and calls its waker.
-    #[inline(always)]
-    pub(crate) fn take_and_wake_reader<T>(&mut self, call: TakeOther<T>) -> T
-        ensures then { result ≡ after_take call }
-        ensures woke { NotifiesReader self.new }
-        ensures end { self.new.side.end ≡ self.old.side.end }
-        ensures rest { SameWriterButWoke self.old self.new }
-    {
-        self.take_reader().wakes(call)
     }
 
     /// Takes whoever is registered in the reader's slot, after all that was published. It is a
     /// function of its own, so that the path of a flowing pipe stays short.
     #[cold]
     #[inline(never)]
-    fn take_reader(&mut self) -> Taken
+    pub(crate) fn take_reader(&mut self) -> Taken
         ensures none { found_in result ≡ false →
             self.new.side.slots.taken ≡ self.old.side.slots.taken }
         ensures some { found_in result ≡ true →

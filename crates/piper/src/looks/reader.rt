@@ -10,7 +10,7 @@ use super::NoWork;
 use crate::handles::Reader;
 use futures::task::Context;
 use piper_protocol::read_steps::{LookClosed, NoByte, knows_byte, knows_none};
-use piper_protocol::steps::{HasWork, Look, OfTry, Waits};
+use piper_protocol::steps::{HasWork, Look, Waits};
 
 impl Reader {
     ghost use Rattle.piper.specs.Handles.{SameReader, SameReaderButWaits};
@@ -40,21 +40,6 @@ impl Reader {
         self.look_again(call.registered())
     }
 
-    /// The look of a copy that doesn't wait.
-    pub(crate) fn try_inner(&mut self) -> Result<HasWork<OfTry>, NoWork>
-        ensures answer { ReaderLookedFor result self.new.side.end }
-        ensures granted { IfRefused result ⊥ }
-        ensures looked { ReaderLooked self.old.side.end self.new.side.end }
-        ensures all { KnowsEnd self.old.side.end → self.new.side.end.all ≡ self.old.side.end.all }
-        ensures stays { IsEnded self.old.side.end → IsEnded self.new.side.end }
-        ensures rest { SameReader self.old self.new }
-    {
-        match self.look_first(OfTry) {
-            Ok(call) => Ok(call),
-            Err(call) => self.look_again(call.goes_on()),
-        }
-    }
-
     /// Looks for a byte that is known, or else for one that was published since.
     pub(crate) fn look_first<P: Look>(&mut self, purpose: P) -> Result<HasWork<P>, NoByte<P>>
         ensures some { IfOk result (λ _. 0 < length self.new.side.end.known) }
@@ -75,9 +60,9 @@ impl Reader {
         Ok(call.found())
     }
 
-    // Looks once more, after the waker was registered where the call waits. Closed is loaded before
-    // the tail: then what was published before the pipe was closed is found.
-    fn look_again<P: Look>(&mut self, call: LookClosed<P>) -> Result<HasWork<P>, NoWork>
+    /// Looks once more, after the waker was registered where the call waits. Closed is loaded before
+    /// the tail: then what was published before the pipe was closed is found.
+    pub(crate) fn look_again<P: Look>(&mut self, call: LookClosed<P>) -> Result<HasWork<P>, NoWork>
         requires none { length self.old.side.end.known ≡ 0 }
         ensures answer { ReaderLookedFor result self.new.side.end }
         ensures granted { IfRefused result ⊥ }

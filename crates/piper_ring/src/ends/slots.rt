@@ -17,6 +17,7 @@ use token_cell::Token;
 pub struct Away;
 
 /// The parts of what the reader's end has of both slots.
+#[derive(Drop)]
 pub(crate) struct ReadSlotParts {
     pub(crate) waits: Waits,
     /// The right to the place of its waker, where it is not in the slot or with the writer: then
@@ -31,6 +32,7 @@ pub(crate) struct ReadSlotParts {
 
 /// What the reader's end has of both slots: it waits in its own, and wakes whoever waits in the
 /// writer's.
+#[derive(Drop)]
 pub struct ReadRegistrations {
     pub(crate) parts: ReadSlotParts,
 }
@@ -48,6 +50,7 @@ impl Model for ReadRegistrations {
 }
 
 /// The parts of what the writer's end has of both slots.
+#[derive(Drop)]
 pub(crate) struct WriteSlotParts {
     pub(crate) waits: Waits,
     /// The right to the place of its waker, where it is not in the slot or with the reader: then
@@ -63,6 +66,7 @@ pub(crate) struct WriteSlotParts {
 
 /// What the writer's end has of both slots: it waits in its own, and wakes whoever waits in the
 /// reader's.
+#[derive(Drop)]
 pub struct WriteRegistrations {
     pub(crate) parts: WriteSlotParts,
 }
@@ -77,33 +81,6 @@ impl Model for WriteRegistrations {
     ghost view = { λ s. write_slots_view s.parts };
 
     ghost invariant = { λ s. IsWriteSlots s.parts };
-}
-
-impl Drop for ReadRegistrations {
-    fn drop(self) {
-        let Self { parts } = self;
-        let ReadSlotParts {
-            waits: _,
-            right: _,
-            maybe_registered: _,
-            heard: _,
-            wakes: _,
-        } = parts;
-    }
-}
-
-impl Drop for WriteRegistrations {
-    fn drop(self) {
-        let Self { parts } = self;
-        let WriteSlotParts {
-            waits: _,
-            right: _,
-            maybe_registered: _,
-            heard: _,
-            saw: _,
-            wakes: _,
-        } = parts;
-    }
 }
 
 impl ReadRegistrations {

@@ -49,7 +49,7 @@ impl ReadEnd {
 
 impl<T> ReadSide<T> {
     ghost use Rattle.piper_ring.specs.Cells.{GetsLeft};
-    ghost use Rattle.piper_ring.specs.Loads.{CameBack, FoundBack, FoundFlag, FoundWaiter, IsAway, IsUnregistered, WasPut, WasTaken, WasTakenBack};
+    ghost use Rattle.piper_ring.specs.Loads.{CameBack, FoundFlag, FoundWaiter, IsAway, IsUnregistered, WasPut, WasTaken, WasTakenBack};
     ghost use Rattle.piper_ring.specs.ReadView.{HasLoaded, HasTheRest, KnowsEnd, KnowsMore, SameButSaw};
     ghost use Rattle.piper_ring.specs.Shared.{flag};
     ghost use Rattle.piper_ring.specs.SlotsView.{Registers, IsPending, HasNews, IsReaderAtRest, SameReaderPlace, IsWriterPending, HasRoomNews};
@@ -80,28 +80,6 @@ impl<T> ReadSide<T> {
         Some(waker)
     }
 
-    /// Takes back a place that the writer handed back, where this side doesn't have it.
-    fn reclaim(&mut self) -> bool
-        ensures owns { IsTrue result →
-            self.new.slots ≡ record self.old.slots { owns = true; maybe_registered = false } }
-        ensures refused { IsFalse result →
-            (self.old.slots.owns ≡ false) × (self.new.slots ≡ self.old.slots) }
-        ensures found { IsFalse result → FoundBack self.old.slots.names 0 }
-        ensures rest { (self.new.end ≡ self.old.end) × (self.new.cells ≡ self.old.cells) }
-    {
-        let parts = &mut self.slots.parts;
-        if parts.right.is_some() {
-            return true;
-        }
-        let (found, right) = self.end.slot_words().reclaim(&mut parts.waits, READER_BACK);
-        if found == 0 {
-            return false;
-        }
-        parts.right = Some(right);
-        parts.maybe_registered = false;
-        true
-    }
-
     /// Takes the place of its waker back, with the waker that is still registered there, if one is.
     /// It fails where the writer has the place just now.
     pub fn reclaim_waker(&mut self) -> Result<Option<T>, Away>
@@ -116,8 +94,15 @@ impl<T> ReadSide<T> {
             self.new.slots ≡ record self.old.slots { maybe_registered = false }) }
         ensures rest { (self.new.end ≡ self.old.end) × (self.new.cells ≡ self.old.cells) }
     {
+        let parts = &mut self.slots.parts;
+        if parts.right.is_some() {
+            return Ok(None);
+        }
         // Who was woken finds the place handed back: so that is asked first.
-        if self.reclaim() {
+        let (found, right) = self.end.slot_words().reclaim(&mut parts.waits, READER_BACK);
+        if found != 0 {
+            parts.right = Some(right);
+            parts.maybe_registered = false;
             return Ok(None);
         }
         match self.cancel() {

@@ -10,5 +10,5 @@ returns-in-Ok-clause-end c =
 pub returns-in-Err-clause-end : goal.returns-in-Err-clause-end
 returns-in-Err-clause-end c =
     let stored = c.store_head-call.ensures in
-    rw c.take_and_wake_writer.ensures.end
+    rw c.take_writer.ensures.end
     (rw c.check_writer.ensures.end (ended_consumed _ _ _ stored.taken stored.known stored.all stored.end.saw))
