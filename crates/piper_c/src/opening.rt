@@ -45,7 +45,8 @@ pub extern "C" fn piper_open_abi_1(
     }
 }
 
-/// The two sides of a new pipe, each in a box.
+/// The two sides of a new pipe, each in a box. Where memory is refused, all that was got is given
+/// back.
 fn open_boxed(
     alloc: Global,
     capacity: usize,
@@ -56,9 +57,9 @@ fn open_boxed(
     ensures writer { IfOk result (λ (_, w). IsFreshWriter capacity w.value) }
     ensures refused { IfErr result HasFailed }
 {
-    let (read, write) = open_halves(alloc, capacity)?;
-    let read = boxed(alloc, read)?;
-    let write = boxed(alloc, write)?;
+    let (read, write) = open_with_slots(alloc, capacity)?;
+    let read = boxed(alloc, ReadHalf { side: read })?;
+    let write = boxed(alloc, WriteHalf { side: write })?;
     Ok((read, write))
 }
 
@@ -67,16 +68,4 @@ fn boxed<T: Drop>(alloc: Global, value: T) -> Result<Box<T, Global>, OutOfMemory
     ensures refused { IfErr result HasFailed }
 {
     Ok(Box::new(alloc, value).map_err(AllocError::from)?)
-}
-
-/// The two sides of a new pipe. Where memory is refused, all that was got is given back.
-fn open_halves(alloc: Global, capacity: usize) -> Result<(ReadHalf, WriteHalf), OutOfMemory>
-    requires { (0 < capacity) × (2 * capacity < 2 ^ 64) }
-    ensures pair { IfOk result (λ (r, w). ArePair r w) }
-    ensures reader { IfOk result (λ (r, _). IsFreshReader capacity r) }
-    ensures writer { IfOk result (λ (_, w). IsFreshWriter capacity w) }
-    ensures refused { IfErr result HasFailed }
-{
-    let (read, write) = open_with_slots(alloc, capacity)?;
-    Ok((ReadHalf { side: read }, WriteHalf { side: write }))
 }

@@ -6,7 +6,7 @@ use crate::halves::ReadHalf;
 use crate::outcome::{Outcome, Polled};
 use crate::words::{Waiter, for_gone, to_wake};
 use piper_protocol::read_steps::{LookClosed, knows_byte, knows_none};
-use piper_protocol::steps::{HasWork, OfPoll, TakeOther, dropping, storing};
+use piper_protocol::steps::{HasWork, OfPoll, dropping, storing};
 use piper_ring::{Finished, FinishedReader};
 
 impl ReadHalf {
@@ -180,15 +180,7 @@ impl ReadHalf {
     {
         let call = storing(n);
         self.side.end.consume(call.count());
-        self.wake_writer(call.stored())
-    }
-
-    /// Checks, after the store, whether the writer left its words, and takes them if it did.
-    fn wake_writer(&mut self, call: TakeOther<()>) -> Option<Waiter>
-        ensures wake { TookWriter result self.old.side.slots self.new }
-        ensures rest { (self.new.side.end ≡ self.old.side.end)
-            × (self.new.side.cells ≡ self.old.side.cells) }
-    {
+        let call = call.stored();
         if self.side.nobody_waits() {
             call.took_none();
             return None;

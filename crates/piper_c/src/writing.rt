@@ -3,9 +3,9 @@ ghost use Rattle.std.specs.Prelude.{◌≡◌, [], ◌<◌, ◌≤◌, ◌++◌,
 
 use crate::halves::WriteHalf;
 use crate::outcome::{Outcome, Polled};
-use crate::words::{Waiter, for_gone, to_wake};
-use piper_protocol::steps::{HasWork, OfPoll, TakeOther, dropping, storing};
-use piper_protocol::write_steps::{LookHeadAgain, TakeOwn, closing, looking};
+use crate::words::{Waiter, for_gone, to_wake, to_wake_own};
+use piper_protocol::steps::{HasWork, OfPoll, dropping, storing};
+use piper_protocol::write_steps::{LookHeadAgain, closing, looking};
 use piper_ring::{Finished, FinishedWriter};
 
 impl WriteHalf {
@@ -180,7 +180,12 @@ impl WriteHalf {
     {
         let call = storing(n);
         self.side.end.produce(call.count());
-        self.wake_reader(call.stored())
+        let call = call.stored();
+        if self.side.nobody_waits() {
+            call.took_none();
+            return None;
+        }
+        to_wake(call, self.side.take())
     }
 
     /// Checks whether the pipe is closed now, and keeps what it sees.
@@ -188,19 +193,6 @@ impl WriteHalf {
         ensures { WriterAsked result self.old self.new }
     {
         self.side.end.look_closed()
-    }
-
-    /// Checks, after the store, whether the reader left its words, and takes them if it did.
-    fn wake_reader(&mut self, call: TakeOther<()>) -> Option<Waiter>
-        ensures wake { TookReader result self.old.side.slots self.new }
-        ensures rest { (self.new.side.end ≡ self.old.side.end)
-            × (self.new.side.cells ≡ self.old.side.cells) }
-    {
-        if self.side.nobody_waits() {
-            call.took_none();
-            return None;
-        }
-        to_wake(call, self.side.take())
     }
 
     /// Closes the pipe for good. Returns who has to be woken of each side, the reader's first.
@@ -217,29 +209,11 @@ impl WriteHalf {
         self.side.end.shut();
         let call = call.stored();
         match self.side.take() {
-            Some(taken) => (Some(taken), self.reclaim_last(call.took_waker().woke())),
-            None => (None, self.reclaim_last(call.took_none())),
-        }
-    }
-
-    /// Takes its own words back, in a close, if nobody took them.
-    fn reclaim_last(&mut self, call: TakeOwn) -> Option<Waiter>
-        ensures took { TookBack result self.old.side.slots.names self.old.side.slots.owns
-            self.old.side.slots.tickets }
-        ensures kept { self.new.side.slots ≡ record self.old.side.slots
-            { owns = self.new.side.slots.owns; maybe_registered = false } }
-        ensures rest { (self.new.side.end ≡ self.old.side.end)
-            × (self.new.side.cells ≡ self.old.side.cells) }
-    {
-        match self.side.cancel() {
-            Some(mine) => {
-                call.took_waker().woke();
-                Some(mine)
+            Some(taken) => {
+                let call = call.took_waker().woke();
+                (Some(taken), to_wake_own(call, self.side.cancel()))
             }
-            None => {
-                call.took_none();
-                None
-            }
+            None => (None, to_wake_own(call.took_none(), self.side.cancel())),
         }
     }
 

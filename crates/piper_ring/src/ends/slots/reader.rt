@@ -36,15 +36,6 @@ impl ReadEnd {
         let seat = &self.parts.seat;
         seat.slot_words(&seat.unseen())
     }
-
-    // The places of both sides' wakers.
-    #[inline(always)]
-    fn places<'a, T>(&'a self, cells: &'a Placed<WakerCells<T>>) -> &'a WakerCells<T>
-        requires { cells.now.life ≡ self.now.ring.names.life }
-        ensures { result.now ≡ cells.now.value }
-    {
-        cells.get(&self.parts.lease)
-    }
 }
 
 impl<T> ReadSide<T> {
@@ -69,13 +60,13 @@ impl<T> ReadSide<T> {
         if parts.right.is_some() {
             return None;
         }
-        let words = self.end.slot_words();
-        let (found, mut right) = words.cancel(&mut parts.waits, READER_FLAG);
+        let (found, mut right) = self.end.slot_words().cancel(&mut parts.waits, READER_FLAG);
         parts.maybe_registered = false;
         if found == 0 {
             return None;
         }
-        let waker = self.end.places(&self.cells).reader.take(&mut right);
+        let cells = self.cells.get(&self.end.parts.lease);
+        let waker = cells.reader.take(&mut right);
         parts.right = Some(right);
         Some(waker)
     }
@@ -141,7 +132,8 @@ impl<T> ReadSide<T> {
         let Some(mut right) = parts.right.take() else {
             unreachable!()
         };
-        self.end.places(&self.cells).reader.put(&mut right, waker);
+        let cells = self.cells.get(&self.end.parts.lease);
+        cells.reader.put(&mut right, waker);
         parts.maybe_registered = true;
         parts.heard = self.end.parts.seat.publish_waker(&mut parts.waits, right);
     }
@@ -212,7 +204,8 @@ impl<T> ReadSide<T> {
         if found == 0 {
             return None;
         }
-        let waker = self.end.places(&self.cells).writer.take(&mut right);
+        let cells = self.cells.get(&self.end.parts.lease);
+        let waker = cells.writer.take(&mut right);
         self.end.slot_words().give_back(wakes, right, WRITER_BACK);
         Some(waker)
     }

@@ -34,15 +34,6 @@ impl WriteEnd {
     {
         self.parts.seat.slot_words()
     }
-
-    // The places of both sides' wakers.
-    #[inline(always)]
-    fn places<'a, T>(&'a self, cells: &'a Placed<WakerCells<T>>) -> &'a WakerCells<T>
-        requires { cells.now.life ≡ self.now.ring.names.life }
-        ensures { result.now ≡ cells.now.value }
-    {
-        cells.get(&self.parts.lease)
-    }
 }
 
 impl<T> WriteSide<T> {
@@ -68,13 +59,13 @@ impl<T> WriteSide<T> {
         if parts.right.is_some() {
             return None;
         }
-        let words = self.end.slot_words();
-        let (found, mut right) = words.cancel(&mut parts.waits, WRITER_FLAG);
+        let (found, mut right) = self.end.slot_words().cancel(&mut parts.waits, WRITER_FLAG);
         parts.maybe_registered = false;
         if found == 0 {
             return None;
         }
-        let waker = self.end.places(&self.cells).writer.take(&mut right);
+        let cells = self.cells.get(&self.end.parts.lease);
+        let waker = cells.writer.take(&mut right);
         parts.right = Some(right);
         Some(waker)
     }
@@ -140,7 +131,8 @@ impl<T> WriteSide<T> {
         let Some(mut right) = parts.right.take() else {
             unreachable!()
         };
-        self.end.places(&self.cells).writer.put(&mut right, waker);
+        let cells = self.cells.get(&self.end.parts.lease);
+        cells.writer.put(&mut right, waker);
         parts.maybe_registered = true;
         let (heard, saw) = self.end.parts.seat.publish_waker(&mut parts.waits, right);
         parts.heard = heard;
@@ -221,7 +213,8 @@ impl<T> WriteSide<T> {
         if found == 0 {
             return None;
         }
-        let waker = self.end.places(&self.cells).reader.take(&mut right);
+        let cells = self.cells.get(&self.end.parts.lease);
+        let waker = cells.reader.take(&mut right);
         self.end.slot_words().give_back(wakes, right, READER_BACK);
         Some(waker)
     }
