@@ -52,7 +52,8 @@ pub record ReaderLooked (a b : ReadHalf) : Type 0 where
 -- a poll gives back the words that it took out of its slot, and those that it didn't leave; it
 -- leaves none where a byte was known, and none stay there where it found one
 pub record ReaderGotBack (mine : Waiter) (p : Polled) (a b : ReadHalf) : Type 0 where
-  pub words : GotBack mine p a.side.slots.owns b.side.slots.owns a.side.slots.tickets b.side.slots.tickets
+  pub words :
+      GotBack mine p a.side.slots.owns b.side.slots.owns a.side.slots.tickets b.side.slots.tickets
   pub known : 0 < length a.side.end.known → b.side.slots.tickets ≡ a.side.slots.tickets
   pub ready : p.outcome ≡ Ready → b.side.slots.maybe_registered ≡ false
   pub again : p.outcome ≡ Again → b.side.slots ≡ record a.side.slots { maybe_registered = false }

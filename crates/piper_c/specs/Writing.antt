@@ -50,7 +50,8 @@ pub record WriterLooked (a b : WriteHalf) : Type 0 where
 -- leaves none where room was known or the pipe had been seen closed, and none stay there where it
 -- found room
 pub record WriterGotBack (mine : Waiter) (p : Polled) (a b : WriteHalf) : Type 0 where
-  pub words : GotBack mine p a.side.slots.owns b.side.slots.owns a.side.slots.tickets b.side.slots.tickets
+  pub words :
+      GotBack mine p a.side.slots.owns b.side.slots.owns a.side.slots.tickets b.side.slots.tickets
   pub known : 0 < a.side.end.room → b.side.slots.tickets ≡ a.side.slots.tickets
   pub closed : a.side.end.saw ≡ true → b.side.slots.tickets ≡ a.side.slots.tickets
   pub ready : p.outcome ≡ Ready → b.side.slots.maybe_registered ≡ false

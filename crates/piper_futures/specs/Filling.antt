@@ -39,7 +39,8 @@ FillWaits sent saw waits a b cx =
 -- and where there is room its generator drew a yield
 pub record FillsHandle {A : Type 0} (r : Poll A) (a b : Writer) (cx : Context) : Type 0 where
   pub same : SameWriterButMoved a b
-  pub pends : OnPending r (((length a.side.end.sent < length b.side.end.sent) ⊎ (b.side.end.saw ≡ true))
+  pub pends : OnPending r
+      (((length a.side.end.sent < length b.side.end.sent) ⊎ (b.side.end.saw ≡ true))
       ⊎ (FillPends a b cx × (0 < b.side.end.room → DrawsYield a.rng)))
 
 -- the front of what the source gave was published, and all of it unless the pipe

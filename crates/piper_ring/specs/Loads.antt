@@ -1,7 +1,7 @@
 -- What a load of one of the ring's words found, and what lay in a side's place. Of these definitions
 -- those with a lemma below are sealed: no proof looks into them, and only those of the loads in
--- src/ring/seats.rt, slots.rt and remains.rt, and of the calls in src/ends/slots, use the lemmas. So
--- what a clause says of one of them came from such a call.
+-- src/ring/seats.rt, slots.rt and remains.rt, and of the calls in src/ends/slots, use the lemmas.
+-- So what a clause says of one of them came from such a call.
 use Rattle.std.specs.Prelude.{◌≡◌, ◌⊎◌, ⊤, ℕ, Bool, true, Option}
 use Rattle.piper_ring.specs.Shared.{Names}
 
@@ -50,8 +50,8 @@ WasPut ticket waker = ⊤
 pub WasTakenBack : {T : Type 0} → Bool → ℕ → Option T → Type 0
 WasTakenBack had tickets waker = ⊤
 
--- a check of the other side's slot took the ticket `new`, where the last one was `old`, and got this
--- waker with it, or none
+-- a check of the other side's slot took the ticket `new`, where the last one was `old`, and got
+-- this waker with it, or none
 pub WasTaken : {T : Type 0} → ℕ → ℕ → Option T → Type 0
 WasTaken old new waker = ⊤
 

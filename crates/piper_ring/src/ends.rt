@@ -1,5 +1,5 @@
-//! The two ends of the ring, and its sides, which can wait. Every call returns, waits for nobody and takes no
-//! lock.
+//! The two ends of the ring, and its sides, which can wait. Every call returns, waits for nobody
+//! and takes no lock.
 
 pub(crate) mod cells;
 pub(crate) mod finished;

@@ -102,7 +102,9 @@ gave_in_order a xs b ys c p q =
       given =
           given_on b.side.end.saw xs ys p.published p.lost q.published q.lost
           p.given q.given p.all q.over;
-      sent = joined_on a.side.end.sent b.side.end.sent c.side.end.sent p.published q.published p.sent q.sent;
+      sent =
+          joined_on a.side.end.sent b.side.end.sent c.side.end.sent
+          p.published q.published p.sent q.sent;
       all = λ unseen.
           both_nil p.lost q.lost (p.all (unseen_before b.side.end.saw c.side.end.saw q.saw unseen))
           (q.all unseen);

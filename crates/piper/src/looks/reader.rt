@@ -60,8 +60,8 @@ impl Reader {
         Ok(call.found())
     }
 
-    /// Looks once more, after the waker was registered where the call waits. Closed is loaded before
-    /// the tail: then what was published before the pipe was closed is found.
+    /// Looks once more, after the waker was registered where the call waits. Closed is loaded
+    /// before the tail: then what was published before the pipe was closed is found.
     pub(crate) fn look_again<P: Look>(&mut self, call: LookClosed<P>) -> Result<HasWork<P>, NoWork>
         requires none { length self.old.side.end.known ≡ 0 }
         ensures answer { ReaderLookedFor result self.new.side.end }
