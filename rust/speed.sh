@@ -1,10 +1,13 @@
 #!/usr/bin/env bash
 # Runs the example `speed` over several packages that have the surface of piper 0.2, in turn.
 #
-#     rust/speed.sh [-r ROUNDS] [-i] FOLDER..
+#     rust/speed.sh [-r ROUNDS] [-l] [-i] FOLDER..
 #
 # Each FOLDER has a package named piper; `rust` is this one, and 0.2.5 is measured by who has its sources. It prints for each way
-# and size of a piece the median nanoseconds a piece of each package, with the ratio to the first; two packages take a minute.
+# and size of a piece the median nanoseconds a piece of each package, with the ratio to the first; two packages take a minute. Pinned to
+# one core (`taskset -c 3`), where neither thread waits for the other core, ratios differ least from run to run.
+# With -l each package is built in nine layouts of its code, which take turns round by round, and pieces lie otherwise in each round:
+# where code and bytes come to lie makes one run up to a third slower than another of the same instructions.
 # With -i it counts instructions of a piece by valgrind, on one thread, and of a piece there and back, in both threads.
 # CARGO_SOURCES names the sources of other packages, as for check.sh.
 set -euo pipefail
@@ -12,19 +15,28 @@ here=$(cd "$(dirname "$0")" && pwd)
 sources=${CARGO_SOURCES:-/usr/share/cargo/registry}
 rounds=9
 count=
-while getopts r:i option; do
+layouts=("")
+while getopts r:li option; do
     case $option in
         r) rounds=$OPTARG ;;
+        l)
+            layouts=()
+            for functions in 4 5 6; do
+                for blocks in 0 4 5; do
+                    layouts+=("-C llvm-args=-align-all-functions=$functions -C llvm-args=-align-all-nofallthru-blocks=$blocks")
+                done
+            done
+            ;;
         i) count=1 ;;
         *) exit 2 ;;
     esac
 done
 shift $((OPTIND - 1))
-[ $# -gt 0 ] || { sed -n 's/^# \?//; 2,9p' "$0" >&2; exit 2; }
+[ $# -gt 0 ] || { sed -n 's/^# \?//; 2,12p' "$0" >&2; exit 2; }
 work=$(mktemp -d)
 trap 'rm -rf "$work"' EXIT
 
-# Builds the example over a package.
+# Builds the example over a package, in each layout.
 build() { # NUMBER FOLDER
     mkdir "$work/$1"
     cat > "$work/$1/Cargo.toml" <<MANIFEST
@@ -38,12 +50,16 @@ piper = { path = "$(cd "$2" && pwd)" }
 name = "speed"
 path = "$here/examples/speed.rs"
 MANIFEST
-    (cd "$work/$1" && cargo --config "source.crates-io.replace-with='here'" --config "source.here.directory='$sources'" \
-        build --quiet --release --offline --target-dir "$work/$1/target")
+    local layout
+    for layout in "${!layouts[@]}"; do
+        (cd "$work/$1" && RUSTFLAGS="${RUSTFLAGS:-} ${layouts[layout]}" \
+            cargo --config "source.crates-io.replace-with='here'" --config "source.here.directory='$sources'" \
+            build --quiet --release --offline --target-dir "$work/$1/$layout")
+    done
 }
 
 instructions() { # NUMBER WAY CAPACITY PIECE PIECES
-    valgrind --tool=callgrind --callgrind-out-file=/dev/null "$work/$1/target/release/speed" "$2" "$3" "$4" $(($4 * $5)) 2>&1 |
+    valgrind --tool=callgrind --callgrind-out-file=/dev/null "$work/$1/0/release/speed" "$2" "$3" "$4" $(($4 * $5)) 2>&1 |
         sed -n 's/^==[0-9]*== Collected : \([0-9]*\)$/\1/p'
 }
 
@@ -54,22 +70,21 @@ counts() { # WAY CAPACITY PIECE
         few=$(instructions "$which" "$@" "$warm")
         many=$(instructions "$which" "$@" $((warm + more)))
         all+=($(((many - few) / more)))
+        all+=("$(awk -v one="${all[-1]}" -v first="${all[0]}" 'BEGIN { print one / first }')")
     done
     line "$1" "$3" "${all[@]}"
 }
 
-nanoseconds() { # NUMBER WAY CAPACITY PIECE TOTAL
-    "$work/$1/target/release/speed" "$2" "$3" "$4" "$5" | cut -d' ' -f4
+# A round has a layout of the code, and a shift of the pieces.
+nanoseconds() { # NUMBER ROUND WAY CAPACITY PIECE TOTAL
+    "$work/$1/$(($2 % ${#layouts[@]}))/release/speed" "${@:3}" $((${#layouts[@]} > 1 ? $2 * 304 % 4096 : 0)) | cut -d' ' -f4
 }
 
-# One line: the numbers of all packages, with their ratio to the first.
-line() { # WAY PIECE NUMBERS..
-    awk -v way="$1" -v piece="$2" -v numbers="${*:3}" 'BEGIN {
-        n = split(numbers, of, " ")
-        printf "%-12s%8d", way, piece
-        for (i = 1; i <= n; i++) printf "%12.1f%8.2f", of[i], of[i] / of[1]
-        print ""
-    }'
+# One line: the number of each package, with its ratio to the first.
+line() { # WAY PIECE, and of each package NUMBER RATIO
+    printf '%-12s%8d' "$1" "$2"
+    printf '%12.1f%8.2f' "${@:3}"
+    echo
 }
 
 number=0
@@ -94,18 +109,25 @@ if [ -n "$count" ]; then
     exit
 fi
 
-# The median of each package, over rounds that run all of them in turn.
+# The middle one of the numbers that it reads.
+median() {
+    sort -n | sed -n "$((rounds / 2 + 1))p"
+}
+
+# The median of each package over rounds that run all of them in turn, and the median of its ratios to the first in the same round,
+# since a host that is slow for a while slows all of a round.
 in_turn() { # WAY CAPACITY PIECE TOTAL
     local round which all=()
     for ((round = 0; round < rounds; round++)); do
         for ((which = 1; which <= number; which++)); do
-            nanoseconds "$which" "$@" >> "$work/$which/times"
+            nanoseconds "$which" "$round" "$@" >> "$work/$which/times"
         done
     done
     for ((which = 1; which <= number; which++)); do
-        all+=("$(sort -n "$work/$which/times" | sed -n "$((rounds / 2 + 1))p")")
-        rm "$work/$which/times"
+        all+=("$(median < "$work/$which/times")")
+        all+=("$(paste "$work/1/times" "$work/$which/times" | awk '{ print $2 / $1 }' | median)")
     done
+    rm "$work"/*/times
     line "$1" "$3" "${all[@]}"
 }
 

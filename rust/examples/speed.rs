@@ -1,12 +1,13 @@
 //! Moves bytes through a pipe, and prints how long that took. It names nothing but the surface of
 //! `piper` 0.2, so that it also builds over 0.2.5 itself: `speed.sh` does that.
 //!
-//!     speed WAY CAPACITY PIECE TOTAL
+//!     speed WAY CAPACITY PIECE TOTAL [SHIFT]
 //!
 //! WAY is how a piece is moved: `inplace` where it lies, `slices` by the try forms, `filldrain` by
 //! `poll_fill` and `poll_drain`. On one thread each piece goes in and out in turn; with a 2 at its
 //! end, as `slices2`, one thread writes and another reads. `pingpong` sends a piece to a thread and
-//! back, and both sleep in between.
+//! back, and both sleep in between. Pieces begin SHIFT bytes behind where they would: how they lie to
+//! the pipe's bytes changes how long a copy takes.
 
 use piper::{pipe, Reader, Writer};
 use std::env::args;
@@ -150,10 +151,19 @@ impl Way for FillDrain {
 }
 
 /// What was asked for.
+#[derive(Clone, Copy)]
 struct Request {
     capacity: usize,
     piece: usize,
     total: usize,
+    shift: usize,
+}
+
+impl Request {
+    /// Memory for a piece, which begins at `shift`.
+    fn room(&self, byte: u8) -> Vec<u8> {
+        vec![byte; self.shift + self.piece]
+    }
 }
 
 /// Writes a whole piece.
@@ -186,61 +196,62 @@ fn mark(piece: &mut [u8], turn: usize) {
     piece[last] = (turn >> 3) as u8;
 }
 
-fn on_one_thread<W: Way>(way: W, asked: &Request) -> u64 {
+fn on_one_thread<W: Way>(way: W, asked: Request) -> u64 {
     let (mut reader, mut writer) = pipe(asked.capacity);
     let sleeper = Sleeper::new(Rest::Not);
-    let (mut there, mut here) = (vec![7; asked.piece], vec![0; asked.piece]);
+    let (mut there, mut here) = (asked.room(7), asked.room(0));
+    let (there, here) = (&mut there[asked.shift..], &mut here[asked.shift..]);
     let mut checksum = 0u64;
     for turn in 0..asked.total / asked.piece {
-        mark(&mut there, turn);
-        write_piece(way, &mut writer, &sleeper, &there);
-        let one = read_piece(way, &mut reader, &sleeper, &mut here);
+        mark(there, turn);
+        write_piece(way, &mut writer, &sleeper, there);
+        let one = read_piece(way, &mut reader, &sleeper, here);
         checksum = checksum.wrapping_mul(3).wrapping_add(one);
     }
     checksum
 }
 
-fn on_two_threads<W: Way>(way: W, asked: &Request) -> u64 {
+fn on_two_threads<W: Way>(way: W, asked: Request) -> u64 {
     let (mut reader, mut writer) = pipe(asked.capacity);
-    let (size, pieces) = (asked.piece, asked.total / asked.piece);
+    let pieces = asked.total / asked.piece;
     let writing = thread::spawn(move || {
         let sleeper = Sleeper::new(Rest::AfterLooks);
-        let mut piece = vec![7; size];
+        let piece = &mut asked.room(7)[asked.shift..];
         for turn in 0..pieces {
-            mark(&mut piece, turn);
-            write_piece(way, &mut writer, &sleeper, &piece);
+            mark(piece, turn);
+            write_piece(way, &mut writer, &sleeper, piece);
         }
     });
     let sleeper = Sleeper::new(Rest::AfterLooks);
-    let mut piece = vec![0; size];
+    let piece = &mut asked.room(0)[asked.shift..];
     let mut checksum = 0u64;
     for _ in 0..pieces {
-        let one = read_piece(way, &mut reader, &sleeper, &mut piece);
+        let one = read_piece(way, &mut reader, &sleeper, piece);
         checksum = checksum.wrapping_mul(3).wrapping_add(one);
     }
     writing.join().expect("the writer's thread ends well");
     checksum
 }
 
-fn to_and_fro<W: Way>(way: W, asked: &Request) -> u64 {
+fn to_and_fro<W: Way>(way: W, asked: Request) -> u64 {
     let (mut far_reader, mut writer) = pipe(asked.capacity);
     let (mut reader, mut far_writer) = pipe(asked.capacity);
-    let (size, turns) = (asked.piece, asked.total / asked.piece);
+    let turns = asked.total / asked.piece;
     let echo = thread::spawn(move || {
         let sleeper = Sleeper::new(Rest::AtOnce);
-        let mut piece = vec![0; size];
+        let piece = &mut asked.room(0)[asked.shift..];
         for _ in 0..turns {
-            read_piece(way, &mut far_reader, &sleeper, &mut piece);
-            write_piece(way, &mut far_writer, &sleeper, &piece);
+            read_piece(way, &mut far_reader, &sleeper, piece);
+            write_piece(way, &mut far_writer, &sleeper, piece);
         }
     });
     let sleeper = Sleeper::new(Rest::AtOnce);
-    let mut piece = vec![7; size];
+    let piece = &mut asked.room(7)[asked.shift..];
     let mut checksum = 0u64;
     for turn in 0..turns {
-        mark(&mut piece, turn);
-        write_piece(way, &mut writer, &sleeper, &piece);
-        let one = read_piece(way, &mut reader, &sleeper, &mut piece);
+        mark(piece, turn);
+        write_piece(way, &mut writer, &sleeper, piece);
+        let one = read_piece(way, &mut reader, &sleeper, piece);
         checksum = checksum.wrapping_mul(3).wrapping_add(one);
     }
     echo.join().expect("the echo's thread ends well");
@@ -248,7 +259,7 @@ fn to_and_fro<W: Way>(way: W, asked: &Request) -> u64 {
 }
 
 /// The checksum, or `None` where there is no such way.
-fn run(way: &str, asked: &Request) -> Option<u64> {
+fn run(way: &str, asked: Request) -> Option<u64> {
     Some(match way {
         "inplace" => on_one_thread(InPlace, asked),
         "slices" => on_one_thread(Slices, asked),
@@ -262,29 +273,30 @@ fn run(way: &str, asked: &Request) -> Option<u64> {
 }
 
 fn request(words: &[String]) -> Option<(&str, Request)> {
-    let numbers: Vec<usize> = words
-        .get(1..4)?
-        .iter()
-        .filter_map(|w| w.parse().ok())
-        .collect();
-    match numbers[..] {
-        [capacity, piece, total] if 0 < piece && piece <= capacity && piece <= total => Some((
-            &words[0],
-            Request {
-                capacity,
-                piece,
-                total,
-            },
-        )),
-        _ => None,
-    }
+    let (way, numbers) = words.split_first()?;
+    let numbers: Option<Vec<usize>> = numbers.iter().map(|word| word.parse().ok()).collect();
+    let (capacity, piece, total, shift) = match numbers?[..] {
+        [capacity, piece, total] => (capacity, piece, total, 0),
+        [capacity, piece, total, shift] => (capacity, piece, total, shift),
+        _ => return None,
+    };
+    let can_be = 0 < piece && piece <= capacity && piece <= total;
+    can_be.then(|| {
+        let asked = Request {
+            capacity,
+            piece,
+            total,
+            shift,
+        };
+        (way.as_str(), asked)
+    })
 }
 
 fn main() {
     let words: Vec<String> = args().skip(1).collect();
     let (way, asked) = request(&words).unwrap_or_else(|| usage());
     let begin = Instant::now();
-    let checksum = run(way, &asked).unwrap_or_else(|| usage());
+    let checksum = run(way, asked).unwrap_or_else(|| usage());
     let nanoseconds = begin.elapsed().as_nanos() as f64;
     let pieces = asked.total / asked.piece;
     println!(
@@ -298,7 +310,7 @@ fn main() {
 }
 
 fn usage() -> ! {
-    eprintln!("speed WAY CAPACITY PIECE TOTAL: WAY inplace, slices, filldrain, these with a 2, or pingpong;");
+    eprintln!("speed WAY CAPACITY PIECE TOTAL [SHIFT]: WAY inplace, slices, filldrain, these with a 2, or pingpong;");
     eprintln!("PIECE at most CAPACITY and TOTAL. It prints the way, the piece, all bytes, nanoseconds a piece, a checksum");
     std::process::exit(2);
 }
