@@ -6,7 +6,12 @@ use Rattle.piper.specs.Contexts.{AsksAgain}
 use Rattle.futures.specs.declared.task.Poll.{Poll}
 use Rattle.futures.specs.declared.task.Poll.TheVariants.{Ready, Pending}
 use denote.Ref.{Bor}
+use Rattle.piper.specs.declared.error.PipeError.{PipeError}
 use Rattle.piper_protocol.specs.declared.table.TheConstants.{MOST_A_ROUND}
+
+-- the answer of a read or a write: how many bytes
+abbrev pub Count : Type 0
+Count = Poll (Result ℕ PipeError)
 
 -- P holds where the poll was ready and nothing failed
 abbrev pub OnReadyOk : {A E : Type 0} → Poll (Result A E) → Type 0 → Type 0

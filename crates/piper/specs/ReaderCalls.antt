@@ -18,7 +18,7 @@ use Rattle.piper.specs.Ends.{IsEnded, ReaderConsumed, ReaderHeeded, ReaderIsUpTo
 use Rattle.piper.specs.Handles.{NotifiesReader, NotifiesWriter, SameReader, SameReaderButWaits, SameWriter, SameReaderButWoke, read_source}
 use Rattle.piper.specs.Like.{Passes, appends_to}
 use Rattle.piper.specs.Looks.{ReaderFound, ReaderLooked}
-use Rattle.piper.specs.Polls.{After, IfReadyErr, IfReadyOk, Lends, TakesNone}
+use Rattle.piper.specs.Polls.{After, Count, IfReadyErr, IfReadyOk, Lends, TakesNone}
 use Rattle.piper.specs.Waits.{ReaderIsRemembered, ReaderIsWaiting, ReaderPends, WriterIsRemembered, ReaderLeavesNone, ReaderRegistered}
 use Rattle.piper.specs.declared.error.Inner.{Inner}
 use Rattle.piper.specs.declared.error.PipeError.{PipeError}
@@ -164,6 +164,16 @@ WakesWriter a b = NotifiesWriter a → NotifiesWriter b
 pub record SameReaderButMoved (a b : Reader) : Type 0 where
   pub slots : (b.side.cells ≡ a.side.cells) × (b.source ≡ a.source)
   pub end : ReaderCopied a.side.end b.side.end
+
+-- all that a read says of a handle, its answer, the slice and the context: it drains. A `&mut` to the
+-- handle and its owner say the same
+pub record ReadsAsDrain (a b : Reader) (r : Count) (old new : List ℕ)
+    (cx : Context) : Type 0 where
+  pub drained : DrainsSlice r a b old new
+  pub end : DrainsEnd r a b
+  pub draws : DrawsToYield r a b
+  pub pending : OnPending r (DrainPends a b cx)
+  pub rest : SameReaderButMoved a b
 
 -- and it waits as it did, and draws the same numbers next
 pub record SameReaderButTried (a b : Reader) : Type 0 where

@@ -10,14 +10,14 @@ use Rattle.piper_ring.specs.SlotsView.{IsWriterPending, SameWriterPlace}
 use Rattle.piper_ring.specs.WriteView.{Lendable, SameButHeard, MayBeUnread as EndMayHave}
 use Rattle.piper.specs.Contexts.{AsksAgain}
 use Rattle.piper.specs.Copies.{IsReplaced, WriterCopied}
-use Rattle.piper.specs.CopyAnswers.{OnMemory}
+use Rattle.piper.specs.CopyAnswers.{OnMemory, inner_of}
 use Rattle.piper.specs.Draws.{Draws, Undrawn}
 use Rattle.piper.specs.Ends.{WriterHeeded, WriterIsUpToDate, WriterPublished, WriterShut}
 use Rattle.piper.specs.Fills.{Fills, FoundRoom, LosesOneRound, OnNoCount}
 use Rattle.piper.specs.Handles.{NotifiesReader, SameWriter, SameWriterButSlots, SameWriterButWoke, write_source}
 use Rattle.piper.specs.Like.{Passes, consumes_of}
 use Rattle.piper.specs.Looks.{WriterFound, WriterLooked}
-use Rattle.piper.specs.Polls.{IfReadyOk}
+use Rattle.piper.specs.Polls.{Count, IfReadyOk}
 use Rattle.piper.specs.Waits.{WriterLeavesNone, WriterRegistered}
 use Rattle.piper.specs.declared.error.Inner.{Inner}
 use Rattle.piper_ring.specs.declared.ends.finished.FinishedReader.{FinishedReader}
@@ -126,6 +126,16 @@ WakesReader a b = NotifiesReader a → NotifiesReader b
 pub record SameWriterButMoved (a b : Writer) : Type 0 where
   pub slots : (b.side.cells ≡ a.side.cells) × (b.source ≡ a.source)
   pub end : WriterCopied a.side.end b.side.end
+
+-- all that a write says of a handle, its answer, the slice and the context: it fills. A `&mut` to the
+-- handle and its owner say the same
+pub record WritesAsFill (a b : Writer) (r : Count) (bytes : List ℕ)
+    (cx : Context) : Type 0 where
+  pub filled : FillsSlice r a b bytes
+  pub end : FillsEnd r a b
+  pub draws : DrawsToYield (inner_of r) a b
+  pub pending : OnPending r (FillPends a b cx)
+  pub rest : SameWriterButMoved a b
 
 -- and it waits as it did, and draws the same numbers next
 pub record SameWriterButTried (a b : Writer) : Type 0 where

@@ -6,7 +6,7 @@ ghost use Rattle.std.specs.Io.BufRead.{Rests};
 ghost use Rattle.futures.specs.Task.{Covers, Keeps};
 ghost use Rattle.futures.specs.Poll.{OnPending};
 ghost use Rattle.piper.specs.Contexts.{AsksAgain};
-ghost use Rattle.piper.specs.Polls.{After, Lends, Reads, TakesNone, Writes, OnReadyOk, IfReadyOk, IfReadyErr};
+ghost use Rattle.piper.specs.Polls.{After, Count, Lends, Reads, TakesNone, Writes, OnReadyOk, IfReadyOk, IfReadyErr};
 
 mod by_ref;
 mod copy;
@@ -44,6 +44,10 @@ pub trait AsyncRead {
     // the other side was woken after all that this side stored
     ghost woken: { Self → Type 0 } = { λ _. ⊤ };
 
+    // what a read says besides, of the reader before and after it, the answer, the slice before and
+    // after, and the context: how many bytes it takes, for one
+    ghost says: { Self → Self → Count → List ℕ → List ℕ → Context → Type 0 } = { λ _ _ _ _ _ _. ⊤ };
+
     /// Takes bytes, puts them at the front of `dest`, and returns how many; 0 where `dest` has room
     /// is the end, after which no byte comes and no call waits. A reader that was told of the end
     /// is pending only where it asked for another poll itself.
@@ -53,11 +57,12 @@ pub trait AsyncRead {
         ensures end { result ≡ Poll.Ready (Ok 0) → 0 < length dest.old → ended self.new }
         ensures after { ended self.old →
             TakesNone result (ended self.new) (taken self.old) (taken self.new) }
-        ensures stays { (told self.new ≡ told self.old) × (saw self.old ≡ true → saw self.new ≡ true) }
+        ensures says { says self.old self.new result dest.old dest.new cx.new }
+        ensures stays { (told self.new ≡ told self.old)
+            × (saw self.old ≡ true → saw self.new ≡ true) × (woken self.old → woken self.new) }
         ensures pending { OnPending result (Covers cx.new (needs self.new)
             × (told self.old ≡ true → AsksAgain cx.new) × waits self.new cx.new) }
         ensures error { IfReadyErr result (fails self.new cx.new) }
-        ensures woken { woken self.old → woken self.new }
         ensures kept { Keeps cx.old cx.new };
 }
 
@@ -152,6 +157,10 @@ pub trait AsyncWrite {
     // all that was written is on its way: a flush, or a close, left the writer so
     ghost flushed: { Self → Type 0 } = { λ _. ⊤ };
 
+    // what a write says besides, of the writer before and after it, the answer, the slice, and the
+    // context: how many bytes it publishes, for one
+    ghost says: { Self → Self → Count → List ℕ → Context → Type 0 } = { λ _ _ _ _ _. ⊤ };
+
     /// Publishes bytes from the front of `source`, and returns how many; 0 for a `source` that is
     /// not empty says that the pipe is closed, and so does each later answer. Bytes that were
     /// counted in the call that sees the pipe closed may be lost.
@@ -159,9 +168,9 @@ pub trait AsyncWrite {
         ensures written { Writes result source.now (sent self.old) (sent self.new) (saw self.new) }
         ensures full { result ≡ Poll.Ready (Ok 0) →
             0 < length source.now → saw self.new ≡ true }
+        ensures says { says self.old self.new result source.now cx.new }
         ensures error { IfReadyErr result (fails self.new cx.new) }
-        ensures over { saw self.old ≡ true → result ≡ Poll.Ready (Ok 0) }
-        ensures stays { saw self.old ≡ true → saw self.new ≡ true }
+        ensures over { saw self.old ≡ true → (result ≡ Poll.Ready (Ok 0)) × (saw self.new ≡ true) }
         ensures pending { OnPending result
             (Covers cx.new (needs self.new) × waits self.new cx.new) }
         ensures woken { woken self.old → woken self.new }

@@ -205,7 +205,7 @@ impl Drop for OwnedWriter {
 impl AsyncRead for OwnedReader {
     ghost use Rattle.piper.specs.Handles.{NotifiesWriter, read_source};
     ghost use Rattle.piper.specs.Polls.{IfReadyErr};
-    ghost use Rattle.piper.specs.ReaderCalls.{DrainPends, DrainsEnd, DrainsSlice, DrawsToYield, SameReaderButMoved, WakesWriter};
+    ghost use Rattle.piper.specs.ReaderCalls.{DrainPends, DrainsEnd, DrainsSlice, DrawsToYield, ReadsAsDrain, SameReaderButMoved, WakesWriter};
 
     ghost taken = { λ owned. owned.side.end.taken };
 
@@ -222,6 +222,8 @@ impl AsyncRead for OwnedReader {
     ghost fails = { λ _ cx e. WantsWaker cx e };
 
     ghost woken = { NotifiesWriter };
+
+    ghost says = { ReadsAsDrain };
 
     fn poll_read(&mut self, cx: &mut Context<'_>, dest: &mut [u8]) -> Poll<Result<usize, PipeError>>
         ensures drained { DrainsSlice result self.old self.new dest.old dest.new }
@@ -290,7 +292,7 @@ impl AsyncWrite for OwnedWriter {
     ghost use Rattle.piper.specs.Handles.{NotifiesReader, write_source};
     ghost use Rattle.piper.specs.Polls.{IfReadyErr};
     ghost use Rattle.piper.specs.CopyAnswers.{inner_of};
-    ghost use Rattle.piper.specs.WriterCalls.{DrawsToYield, FillPends, FillsEnd, FillsSlice, SameWriterButMoved, SameWriterButShut, WakesReader};
+    ghost use Rattle.piper.specs.WriterCalls.{DrawsToYield, FillPends, FillsEnd, FillsSlice, SameWriterButMoved, SameWriterButShut, WakesReader, WritesAsFill};
 
     ghost sent = { λ owned. owned.side.end.sent };
 
@@ -303,6 +305,8 @@ impl AsyncWrite for OwnedWriter {
     ghost fails = { λ _ cx e. WantsWaker cx e };
 
     ghost woken = { NotifiesReader };
+
+    ghost says = { WritesAsFill };
 
     fn poll_write(&mut self, cx: &mut Context<'_>, source: &[u8]) -> Poll<Result<usize, PipeError>>
         ensures filled { FillsSlice result self.old self.new source.now }

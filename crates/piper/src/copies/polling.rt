@@ -17,7 +17,7 @@ use piper_ring::OutOfMemory;
 impl AsyncRead for Reader {
     ghost use Rattle.piper.specs.Handles.{NotifiesWriter, read_source};
     ghost use Rattle.piper.specs.Polls.{IfReadyErr};
-    ghost use Rattle.piper.specs.ReaderCalls.{DrainPends, DrainsEnd, DrainsSlice, DrawsToYield, SameReaderButMoved, WakesWriter};
+    ghost use Rattle.piper.specs.ReaderCalls.{DrainPends, DrainsEnd, DrainsSlice, DrawsToYield, ReadsAsDrain, SameReaderButMoved, WakesWriter};
 
     ghost taken = { λ r. r.side.end.taken };
 
@@ -34,6 +34,8 @@ impl AsyncRead for Reader {
     ghost fails = { λ _ cx e. WantsWaker cx e };
 
     ghost woken = { NotifiesWriter };
+
+    ghost says = { ReadsAsDrain };
 
     fn poll_read(&mut self, cx: &mut Context<'_>, dest: &mut [u8]) -> Poll<Result<usize, PipeError>>
         ensures drained { DrainsSlice result self.old self.new dest.old dest.new }
@@ -112,7 +114,7 @@ impl AsyncWrite for Writer {
     ghost use Rattle.piper.specs.Handles.{NotifiesReader, write_source};
     ghost use Rattle.piper.specs.Polls.{IfReadyErr};
     ghost use Rattle.piper.specs.CopyAnswers.{inner_of};
-    ghost use Rattle.piper.specs.WriterCalls.{DrawsToYield, FillPends, FillsEnd, FillsSlice, SameWriterButMoved, SameWriterButShut, WakesReader};
+    ghost use Rattle.piper.specs.WriterCalls.{DrawsToYield, FillPends, FillsEnd, FillsSlice, SameWriterButMoved, SameWriterButShut, WakesReader, WritesAsFill};
 
     ghost sent = { λ w. w.side.end.sent };
 
@@ -125,6 +127,8 @@ impl AsyncWrite for Writer {
     ghost fails = { λ _ cx e. WantsWaker cx e };
 
     ghost woken = { NotifiesReader };
+
+    ghost says = { WritesAsFill };
 
     fn poll_write(&mut self, cx: &mut Context<'_>, source: &[u8]) -> Poll<Result<usize, PipeError>>
         ensures filled { FillsSlice result self.old self.new source.now }

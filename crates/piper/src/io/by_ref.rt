@@ -20,6 +20,8 @@ impl<R: AsyncRead> AsyncRead for &mut R {
 
     ghost woken = { λ r. R.woken r.now };
 
+    ghost says = { λ old new. R.says old.now new.now };
+
     fn poll_read(
         &mut self,
         cx: &mut Context<'_>,
@@ -73,6 +75,8 @@ impl<W: AsyncWrite> AsyncWrite for &mut W {
     ghost woken = { λ w. W.woken w.now };
 
     ghost flushed = { λ w. W.flushed w.now };
+
+    ghost says = { λ old new. W.says old.now new.now };
 
     fn poll_write(
         &mut self,

@@ -11,9 +11,9 @@ ghost use Rattle.piper.specs.OfReader.{front, known, taken, told_shut};
 ghost use Rattle.piper.specs.OfReader as of_reader;
 ghost use Rattle.piper.specs.OfWriter as of_writer;
 ghost use Rattle.piper.specs.Polls.{IfReadyErr};
-ghost use Rattle.piper.specs.ReaderCalls.{AtEnd, DrainPends, DrainsEnd, DrainsSlice, DrawsToYield as ReadDraws, LendsPiece, PollsPiece, SameReaderButConsumed, SameReaderButMoved, WakesWriter};
+ghost use Rattle.piper.specs.ReaderCalls.{AtEnd, DrainPends, DrainsEnd, DrainsSlice, DrawsToYield as ReadDraws, LendsPiece, PollsPiece, ReadsAsDrain, SameReaderButConsumed, SameReaderButMoved, WakesWriter};
 ghost use Rattle.piper.specs.CopyAnswers.{inner_of};
-ghost use Rattle.piper.specs.WriterCalls.{DrawsToYield as WriteDraws, FillPends, FillsEnd, FillsSlice, SameWriterButMoved, SameWriterButShut, WakesReader};
+ghost use Rattle.piper.specs.WriterCalls.{DrawsToYield as WriteDraws, FillPends, FillsEnd, FillsSlice, SameWriterButMoved, SameWriterButShut, WakesReader, WritesAsFill};
 ghost use Rattle.piper.specs.Waits.{ReaderIsWaiting, WriterIsWaiting, WriterLeavesNone};
 ghost use Rattle.piper_duplex.specs.Crosswise.{reading, writing};
 
@@ -38,6 +38,8 @@ impl AsyncRead for End {
     ghost fails = { λ _ cx e. WantsWaker cx e };
 
     ghost woken = { λ e. NotifiesWriter (reading e) };
+
+    ghost says = { λ a b r old new cx. ReadsAsDrain (reading a) (reading b) r old new cx };
 
     fn poll_read(&mut self, cx: &mut Context<'_>, dest: &mut [u8]) -> Poll<Result<usize, PipeError>>
         ensures drained { DrainsSlice result (reading self.old) (reading self.new)
@@ -124,6 +126,8 @@ impl AsyncWrite for End {
     ghost fails = { λ _ cx e. WantsWaker cx e };
 
     ghost woken = { λ e. NotifiesReader (writing e) };
+
+    ghost says = { λ a b r bytes cx. WritesAsFill (writing a) (writing b) r bytes cx };
 
     fn poll_write(&mut self, cx: &mut Context<'_>, source: &[u8]) -> Poll<Result<usize, PipeError>>
         ensures filled { FillsSlice result (writing self.old) (writing self.new) source.now }

@@ -19,12 +19,12 @@ loop-written-preserved g c =
     let lent : take (length c.args.bytes.now - c.loop-written.written) left ≡ left = take_all _ left (omega (arith, length-drop c.loop-written.written c.args.bytes.now)) in
     let written = rw lent at (rw c.in-Ready-Ok.field-0-is at c.in-Ready-Ok.ensures.written) in
     let unseen : ¬ (g.W.AsyncWrite.saw c.loop-written.writer ≡ true) = λ saw.
-    let over = c.poll_write.ensures.over saw in
+    let over = (c.poll_write.ensures.over saw).0 in
     let none : n ≡ 0 = cc in c.in-Ready-Ok.n-test.1 none in
     let sends = sends_more _ left _ _ _ written.1.0 n _ _ _ c.loop-written.invariant.sends c.loop-written.invariant.stays.0 unseen written.1.1 written.1.2 written.1.3 in
     record {
       within = omega (arith, written.0, length-drop c.loop-written.written c.args.bytes.now);
       sends = subst (λ ws. Sends (drop c.args.written.now c.args.bytes.now) ws (g.W.AsyncWrite.sent c.args.writer.now) (g.W.AsyncWrite.sent c.poll_write.new.self) (g.W.AsyncWrite.saw c.args.writer.now) (g.W.AsyncWrite.saw c.poll_write.new.self)) (drop-drop n c.loop-written.written c.args.bytes.now) sends;
-      stays = (λ seen. c.poll_write.ensures.stays (c.loop-written.invariant.stays.0 seen), λ woken. c.poll_write.ensures.woken (c.loop-written.invariant.stays.1 woken));
+      stays = (λ seen. (c.poll_write.ensures.over (c.loop-written.invariant.stays.0 seen)).1, λ woken. c.poll_write.ensures.woken (c.loop-written.invariant.stays.1 woken));
       kept = λ fact held. c.poll_write.ensures.kept fact (c.loop-written.invariant.kept fact held);
     }

@@ -21,7 +21,7 @@ loop-preserved g c =
     let piece : List ℕ = c.in-Ready-Ok.piece.now in
     let written = rw c.in-Ready-Ok-poll_write.field-0-is at c.in-Ready-Ok-poll_write.ensures.written in
     let unseen : ¬ (g.W.AsyncWrite.saw c.loop.writer ≡ true) = λ saw.
-    let over = c.poll_write.ensures.over saw in
+    let over = (c.poll_write.ensures.over saw).0 in
     let none : n ≡ 0 = cc in c.in-Ready-Ok-poll_write.n-test.1 none in
     let taken : g.R.AsyncBufRead.taken c.consume.new.self ≡ g.R.AsyncBufRead.taken c.loop.reader ++ take n piece = grind (arith, common_steps) in
     record {

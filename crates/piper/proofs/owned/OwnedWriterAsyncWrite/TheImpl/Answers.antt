@@ -10,9 +10,9 @@ poll_write-tells c =
     let b = c.new.self.now in record {
       written = writes c.result a b _ own.filled;
       full = write_full c.result a b _ own.filled;
+      says = record { filled = own.filled; end = own.end; draws = own.draws; pending = own.pending; rest = own.rest };
       error = own.error;
-      over = own.end.over;
-      stays = saw_stays _ _ own.rest.end.saw;
+      over = λ seen. (own.end.over seen, saw_stays _ _ own.rest.end.saw seen);
       pending = write_pends c.result a b _ own.rest own.pending;
       woken = own.woken;
       kept = own.context;

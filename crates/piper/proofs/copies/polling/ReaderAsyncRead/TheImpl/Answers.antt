@@ -11,9 +11,9 @@ poll_read-tells c =
       read = reads c.result a b _ _ own.drained own.end;
       end = read_end c.result a b _ _ own.drained own.end;
       after = own.end.after;
-      stays = (own.rest.end.end.told_shut, saw_stays _ _ own.rest.end.saw);
+      says = record { drained = own.drained; end = own.end; draws = own.draws; pending = own.pending; rest = own.rest };
+      stays = (own.rest.end.end.told_shut, saw_stays _ _ own.rest.end.saw, own.woken);
       pending = read_pends c.result a b _ own.rest own.pending;
       error = own.error;
-      woken = own.woken;
       kept = own.context;
     }
