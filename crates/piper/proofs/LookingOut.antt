@@ -1,32 +1,15 @@
 -- A drain's look, after which nothing was moved, or rounds moved what it found.
-use Rattle.std.proofs.Common.{◌≡◌, ℕ, ◌<◌, ◌⊎◌, [], ◌++◌, length, Result, Ok, Err, sym, ap, ◌∙◌, subst, append-nil, length-append, arith}
-use Rattle.std.proofs.lemmas.List.{nil_from_length}
+use Rattle.std.proofs.Common.{◌≡◌, ℕ, ◌<◌, ◌⊎◌, [], ◌++◌, length, Result, sym, ap, ◌∙◌, subst, append-nil, length-append, arith}
 use Rattle.futures.specs.declared.task.Poll.{Poll}
-use Rattle.futures.specs.declared.task.Poll.TheVariants.{Ready, Pending}
 use Rattle.piper_ring.specs.Shared.{flag}
 use Rattle.piper_ring.specs.ReadView.{ReadView}
 use Rattle.piper.specs.CopyAnswers.{Copies}
-use Rattle.piper.specs.Drains.{Drains, DrainRounds, EndIsTrue, found_len}
+use Rattle.piper.specs.Drains.{Drains, DrainRounds, found_len}
 use Rattle.piper.specs.Like.{Passes}
 use Rattle.piper.specs.Looks.{ReaderLooked}
 use Rattle.piper.specs.Polls.{OnReadyOk}
 use Rattle.piper_ring.proofs.Loaded.{still_loaded}
 use Rattle.piper.specs.declared.error.Inner.{Inner}
-
--- two looks are one, where the first found no byte
-pub looked_twice : (a b c : ReadView) → ReaderLooked a b → length b.known ≡ 0 → ReaderLooked b c → ReaderLooked a c
-looked_twice a b c first none second = record {
-  end = record {
-    ring = second.end.ring ∙ first.end.ring;
-    capacity = second.end.capacity ∙ first.end.capacity;
-    told = second.end.told ∙ first.end.told;
-    told_shut = second.end.told_shut ∙ first.end.told_shut;
-  };
-  taken = second.taken ∙ first.taken;
-  known = λ some. absurd (omega (arith, some, none, ap (λ (v : ReadView). length v.known) (first.known some)));
-  fresh = λ _. second.fresh (nil_from_length b.known none);
-  saw = omega (arith, first.saw, second.saw);
-}
 
 module _ {S E : Type 0} (takes : Passes S) (is_full : S → Type 0) (fails : S → E → S → Type 0) where
   -- nothing was moved after the look
@@ -70,9 +53,3 @@ module _ {S E : Type 0} (takes : Passes S) (is_full : S → Type 0) (fails : S �
     -- which found some
     pub found_some : 0 < length w.known → 0 < found_len a b
     found_some some = omega (arith, some, ap length looked.taken, ap length d.taken, ap length d.known, length-append w.taken d.moved, length-append d.moved b.known)
-
--- a drain that found a byte may not have seen the end
-pub ended_found : {E : Type 0} (r : Poll (Result ℕ E)) (a b : ReadView) → 0 < found_len a b → EndIsTrue r a b
-ended_found (Ready (Ok n)) a b some = λ zero. absurd (omega (arith, some, zero))
-ended_found (Ready (Err e)) a b some = tt
-ended_found Pending a b some = tt

@@ -10,7 +10,7 @@ use Rattle.piper.specs.Contexts.{AsksAgain}
 use Rattle.piper.specs.Drains.{found_len}
 use Rattle.piper.specs.Handles.{read_source, write_source}
 use Rattle.piper.specs.Polls.{Reads, Writes}
-use Rattle.piper.specs.Waits.{ReaderIsWaiting, ReaderPends, ReaderWaits, WriterIsWaiting, WriterWaits}
+use Rattle.piper.specs.Waits.{ReaderIsWaiting, ReaderWaits, WriterIsWaiting, WriterWaits}
 use Rattle.piper.specs.ReaderCalls.{AtEnd, Drained, DrainPends, DrainsEnd, DrainsSlice, SameReaderButMoved}
 use Rattle.piper.specs.WriterCalls.{Filled, FillPends, FillsSlice, SameWriterButMoved}
 use Rattle.piper.specs.declared.handles.Reader.{Reader}
@@ -55,11 +55,6 @@ read_pends Pending a b cx same h = (
   λ told. asks (found_len a.side.end b.side.end) b.side.end.told_shut _ _ h.unseen h.yields (same.end.end.told_shut ∙ told),
   waits_or_asks (found_len a.side.end b.side.end) (λ (w : ReaderWaits a b cx). w.pending) h.registered h.yields,
 )
-
--- a poll that is pending is registered, or asked for another one
-pub poll_waits : {A : Type 0} (r : Poll A) (a b : Reader) (cx : Context) → OnPending r (ReaderPends a b cx) → OnPending r (ReaderIsWaiting b cx)
-poll_waits (Ready x) a b cx h = tt
-poll_waits Pending a b cx h = registered_or_asked (λ (w : ReaderWaits a b cx). w.pending) h.registered
 
 -- the first m and the first n of some bytes are as many, where both were published after the same
 pub as_many : (before after xs : List ℕ) (m n : ℕ) → m ≤ n → n ≤ length xs → after ≡ before ++ take m xs → after ≡ before ++ take n xs → m ≡ n

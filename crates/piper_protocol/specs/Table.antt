@@ -176,11 +176,6 @@ read_step (at.WakeWriter next) found = read_done next
 read_step at.StoreClosed found = goes_on (at.TakeWriter after_read.Drop)
 read_step point found = goes_on point
 
--- whether a copy draws after the step that comes next
-abbrev pub reader_draws_after : ReadPoint → Bool
-reader_draws_after (at.LookTake (purpose.Copy form)) = true
-reader_draws_after point = false
-
 -- where the reader of a pipe of this capacity comes to from a point, by what its step found
 abbrev pub read_after : ℕ → ReadPoint → Found → Next ReadPoint
 read_after capacity (at.QueryTail query) (unread count) =
@@ -300,21 +295,11 @@ write_step on.TakeWriter (waker is_found) = own_taken is_found
 write_step on.WakeWriter found = ends on.Idle Done
 write_step point found = goes_on point
 
--- whether a look begins with the step that comes next, so that known room decides where it leads
-abbrev pub begins_look : WritePoint → Bool
-begins_look (on.LookClosed l) = true
-begins_look point = false
-
 -- where a look goes on after the load of closed that it begins with: `none` is whether no room is
 -- known
 abbrev pub look_begun : Bool → WritePoint → Bool → Next WritePoint
 look_begun none (on.LookClosed l) is_closed = writer_is_open is_closed none l
 look_begun none point is_closed = goes_on point
-
--- whether a copy draws after the step that comes next
-abbrev pub writer_draws_after : WritePoint → Bool
-writer_draws_after (on.LookTake (purpose.Copy form)) = true
-writer_draws_after point = false
 
 -- where the writer of a pipe of this capacity and known
 -- room comes to from a point, by what its step found

@@ -137,13 +137,6 @@ impl WriteIndices {
         self.zeroed == self.capacity
     }
 
-    /// Whether nothing is lent any more.
-    pub fn is_shut(&self) -> bool
-        ensures { result ≡ self.now.is_shut }
-    {
-        self.is_shut
-    }
-
     /// How many places are lent where `most` are asked for.
     pub fn lendable(&self, most: usize) -> usize
         ensures value { result ≡ lendable_in most self.now }

@@ -1,5 +1,5 @@
-//! The ring that two threads share without a lock: the two ends of a bounded pipe of bytes, without
-//! wakers.
+//! The ring that two threads share without a lock: the two ends of a bounded pipe of bytes; and its
+//! two sides, each an end that can wait for the other and wake it.
 #![tactic(auto)]
 
 mod ends;

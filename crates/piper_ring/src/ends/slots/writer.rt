@@ -120,7 +120,7 @@ impl<T> WriteSide<T> {
     }
 
     /// Registers: puts `waker` in its place and publishes it in this side's slot, where the
-    /// writer's next look finds it.
+    /// reader's next look finds it.
     pub fn publish_waker(&mut self, waker: T)
         requires { self.old.slots.owns ≡ true }
         ensures put { WasPut self.new.slots.tickets waker }
