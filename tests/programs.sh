@@ -57,6 +57,9 @@ try 'a folder as the input by the shell' 10 3 'Is a directory' '$pump --force -o
 note 'what a file held stays where the pump does not begin' test "$(cat kept)" = kept
 try 'a new file, and a copy in no folder' 10 4 '^piper_pump: no/such/file: ' '$pump -o new --tee no/such/file < file'
 try 'a new file, and a copy that can not be made' 10 4 '^piper_pump: /proc/new: ' '$pump -o new --tee /proc/new < file'
+echo held > held
+try 'a file that is there, and a copy that can not be made' 10 4 '^piper_pump: /proc/new: ' '$pump --force -o held --tee /proc/new < file'
+note 'a file that was there is not taken away' test "$(cat held)" = held
 try 'a new file, and a copy that can not be opened' 10 4 '^piper_pump: ./piper_pump: Text file busy' '$pump --force -o new --tee $pump < file'
 try 'a new file, and a copy that is a folder' 10 4 '^piper_pump: /: is a directory' '$pump -o new --tee / < file'
 try 'a new file, and memory that is refused' 10 6 'out of memory' 'prlimit --as=8192000 $pump --capacity 64M -o new < file'

@@ -4,6 +4,7 @@ pub mod Files
 pub mod Found
 pub mod Handle
 pub mod Lines
+pub mod Made
 pub mod Pace
 pub mod Saying
 pub mod Steps

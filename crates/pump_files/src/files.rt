@@ -8,6 +8,7 @@ ghost use Rattle.pump_files.specs.Handle.{HoldsNothing, IsAnswerFor};
 
 use crate::all_open::AllOpen;
 use crate::handle::{Handle, ask};
+use crate::made::Made;
 use piper_protocol::reported::reported;
 use std::fs::{File, Files, Metadata, OpenOptions};
 use std::{fs, io};
@@ -136,8 +137,8 @@ pub trait Opens<F: NamedFile> {
         ensures opened { OnOk result (F.is_made file.new × F.is_cut file.new) }
         ensures failed { IfErr result HasFailed };
 
-    /// Takes it away.
-    fn remove(&self, name: &str) -> io::Result<()>
+    /// Takes it away, which this run made.
+    fn remove(&self, name: &str, made: Made) -> io::Result<()>
         ensures reported { IsOfStd result };
 }
 
@@ -231,7 +232,7 @@ impl<R: Files<File = File>> Opens<SystemFile> for R {
         Ok(())
     }
 
-    fn remove(&self, name: &str) -> io::Result<()> {
+    fn remove(&self, name: &str, _made: Made) -> io::Result<()> {
         reported(fs::remove_file(self, name))
     }
 }

@@ -7,6 +7,7 @@ pub mod copies;
 pub mod files;
 pub mod found;
 pub mod handle;
+pub mod made;
 pub mod pace;
 pub mod saying;
 pub mod sinks;

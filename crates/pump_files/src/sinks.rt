@@ -15,6 +15,7 @@ ghost use Rattle.pump_files.specs.Steps.{GetsBy, NeedsFor};
 use crate::all_open::AllOpen;
 use crate::files::{NamedFile, Opens};
 use crate::found::Found;
+use crate::made::{self, Made};
 use crate::saying::say;
 use piper_protocol::reported::reported;
 use std::alloc::Global;
@@ -62,8 +63,8 @@ pub struct Sink<F: NamedFile> {
     pub found: Found,
     /// Whether there was one of this name.
     pub is_there: bool,
-    /// Whether this run made it.
-    pub is_made: bool,
+    /// That this run made it, if it did.
+    pub made: Option<Made>,
     /// Whether a write or a flush failed by which it was given a copy.
     pub has_failed: bool,
     pub file: F,
@@ -89,7 +90,7 @@ impl<F: NamedFile> Sink<F> {
             name: reported(String::from_str(alloc, name).map_err(io::Error::from))?,
             found: Found::of_name(&looked),
             is_there,
-            is_made: false,
+            made: None,
             has_failed: false,
             file: rt.to_write(name),
         })
@@ -146,21 +147,21 @@ impl<F: NamedFile> Sink<F> {
             return Ok(());
         }
         rt.make(self.name.as_str(), &mut self.file)?;
-        self.is_made = true;
+        self.made = Some(made::of_file(&self.file));
         Ok(())
     }
 
     /// Takes the file away, if this run made it and its name is still its own.
     pub fn unmake(&self, rt: &impl Opens<F>) {
-        if !self.is_made {
+        let Some(own) = self.made else {
             return;
-        }
+        };
         let named = Found::of_name(&rt.look(self.name.as_str()));
         if let Ok(made) = Found::of_output(&self.file)
             && made.id == named.id
         {
             // It is empty, and there is nothing to be said of one that stays.
-            let _ = rt.remove(self.name.as_str());
+            let _ = rt.remove(self.name.as_str(), own);
         }
     }
 
