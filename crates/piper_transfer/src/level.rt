@@ -1,12 +1,14 @@
 //! How many bytes the pipe is to hold before the first is written, and again once it ran dry.
 ghost use Rattle.std.specs.Prelude.{◌≡◌, ◌≤◌, true, IfSome, IfNone};
+ghost use Rattle.piper.specs.OfReader.{ring};
 ghost use Rattle.piper.specs.ReaderCalls.{MayBeUnread};
 ghost use Rattle.piper_ring.specs.Loads.{FoundClosed};
+ghost use Rattle.piper_transfer.specs.Turns.{HasSlept};
 
 use crate::both_sides::Sizes;
+use crate::sleeping::sleep;
 use piper::Reader;
 use std::sync::Wait;
-use std::thread;
 use std::time::{Clock, Duration};
 
 /// How many milliseconds it is from one look at how full the pipe is to the next.
@@ -45,18 +47,32 @@ impl Level {
         R: Wait + Clock,
         ensures level { IfSome result.held (λ held.
             (self.now.bytes ≤ held) × MayBeUnread reader.now held) }
-        ensures closed { IfNone result.held (FoundClosed reader.now.side.end.ring.names true) }
+        ensures closed { IfNone result.held (FoundClosed (ring reader.now).names true) }
     {
         for _ in rt.forever() {
-            let held = reader.len();
-            if self.bytes <= held {
-                return Reached { held: Some(held) };
+            if let Some(reached) = self.look(rt, reader) {
+                return reached;
             }
-            if reader.is_closed() {
-                return Reached { held: None };
-            }
-            thread::sleep(rt, Duration::from_millis(PAUSE));
         }
         unreachable!()
+    }
+
+    // Looks once, and sleeps until the next look where the pipe is open and holds fewer.
+    fn look(&self, clock: &impl Clock, reader: &Reader) -> Option<Reached>
+        ensures level { IfSome result (λ reached. IfSome reached.held (λ held.
+            (self.now.bytes ≤ held) × MayBeUnread reader.now held)) }
+        ensures closed { IfSome result (λ reached.
+            IfNone reached.held (FoundClosed (ring reader.now).names true)) }
+        ensures slept { IfNone result (HasSlept 2_000_000) }
+    {
+        let held = reader.len();
+        if self.bytes <= held {
+            return Some(Reached { held: Some(held) });
+        }
+        if reader.is_closed() {
+            return Some(Reached { held: None });
+        }
+        sleep(clock, Duration::from_millis(PAUSE));
+        None
     }
 }
