@@ -9,7 +9,7 @@ use Rattle.pump_engine.specs.Asked.{HaveGot}
 use Rattle.pump_engine.specs.Ends.{Awaits, IsAwaited}
 use Rattle.pump_engine.specs.Opening.{AreFoundApart, HoldNothing, ReadsNamed, WritesNamed}
 use Rattle.pump_files.specs.Pace.{HasRate}
-use Rattle.pump_words.specs.Plan.{IsOfStream, IsRead}
+use Rattle.pump_words.specs.Plan.{IsLevelOf, IsOfStream, IsRead, KnowsTotal}
 use Rattle.pump_engine.specs.declared.ends.Inlet.{Inlet}
 use Rattle.pump_engine.specs.declared.ends.Outlet.{Outlet}
 use Rattle.pump_engine.specs.declared.running.Plan.{Plan}
@@ -31,10 +31,11 @@ pub record AreSizedBy (words : List Text) (sizes : Sizes) : Type 0 where
 -- the numbers of the plan are those that these words ask for
 pub record HasNumbers (words : List Text) (streams : Streams) (plan : Plan) : Type 0 where
   pub sizes : AreSizedBy words plan.sizes
-  pub level : after (codes "start-at") words ≡ None → plan.sizes.level ≡ 0
+  pub level : IsLevelOf plan.sizes.capacity (after (codes "start-at") words) plan.sizes.level
   pub rate : IsRead IsSizeOf (after (codes "rate") words) plan.rate
   pub shown : ShowsAsAsked words plan.asked
   pub watched : IfSome plan.asked (λ w. (w.capacity ≡ plan.sizes.capacity) × (w.redraws ≡ streams.redraws))
+  pub total : IfSome plan.asked (λ w. KnowsTotal (after (codes "size") words) w.total)
 
 -- what is read and written is what these words name, or a standard stream that is open; the system was
 -- asked of each, and no two are one file; and none that is written held a byte, if those are spared

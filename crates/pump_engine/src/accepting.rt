@@ -3,7 +3,7 @@ ghost use Rattle.std.specs.Prelude.{◌≡◌, None, IfErr, IfOk, OnOk, true};
 ghost use Rattle.pump_engine.specs.Ended.{IsEarly};
 ghost use Rattle.pump_engine.specs.Streams.{IsOfClosed};
 ghost use Rattle.pump_words.specs.Arguments.{IsSizeOf, text_in};
-ghost use Rattle.pump_words.specs.Plan.{IsOfStream, IsRead, IsTotalOf};
+ghost use Rattle.pump_words.specs.Plan.{IsLevelOf, IsOfStream, IsRead, IsTotalOf};
 
 use crate::ended::{Ended, Unopened, not_taken};
 use crate::streams::Streams;
@@ -29,8 +29,8 @@ pub fn accept(alloc: Global, arguments: &Arguments<'_>, streams: Streams) -> Res
     ensures capacity { IfOk result (λ a.
         a.sizes.capacity ≡ arguments.now.amounts.capacity) }
     ensures chunk { IfOk result (λ a. a.sizes.chunk ≡ arguments.now.amounts.chunk) }
-    ensures level { IfOk result (λ a.
-        arguments.now.texts.start_at ≡ None → a.sizes.level ≡ 0) }
+    ensures level { IfOk result (λ a. IsLevelOf arguments.now.amounts.capacity
+        (text_in arguments.now.texts.start_at) a.sizes.level) }
     ensures rate { IfOk result (λ a.
         IsRead IsSizeOf (text_in arguments.now.texts.rate) a.rate) }
     ensures total { IfOk result (λ a.

@@ -12,7 +12,7 @@ ghost use Rattle.pump_engine.specs.Ends.{OutletFails, OutletTook};
 ghost use Rattle.pump_engine.specs.Opening.{AreFoundApart, HoldNothing, ReadsNamed, WritesNamed};
 ghost use Rattle.pump_engine.specs.Outcome.{RunReturned};
 ghost use Rattle.pump_files.specs.Pace.{HasRate};
-ghost use Rattle.pump_words.specs.Plan.{IsOfStream, IsRead};
+ghost use Rattle.pump_words.specs.Plan.{IsLevelOf, IsOfStream, IsRead, KnowsTotal};
 ghost use Rattle.pump_engine.specs.Planned.{AreSizedBy, IsPlanned, SparesBytes, after};
 ghost use Rattle.pump_engine.specs.Running.{EndsWithTransfer, Runs};
 
@@ -144,14 +144,16 @@ where
         ((input.new ≡ input.old) × (output.new.drain ≡ output.old.drain)) }
     ensures taken { IfOk result (λ _. fault_of pump_command (map string_bytes words.now) ≡ []) }
     ensures sizes { IfOk result (λ plan. AreSizedBy (map string_bytes words.now) plan.sizes) }
-    ensures level { IfOk result (λ plan. after (codes "start-at") (map string_bytes words.now)
-        ≡ None → plan.sizes.level ≡ 0) }
+    ensures level { IfOk result (λ plan. IsLevelOf plan.sizes.capacity
+        (after (codes "start-at") (map string_bytes words.now)) plan.sizes.level) }
     ensures rate { IfOk result (λ plan.
         IsRead IsSizeOf (after (codes "rate") (map string_bytes words.now)) plan.rate) }
     ensures shown { IfOk result (λ plan.
         ShowsAsAsked (map string_bytes words.now) plan.asked) }
     ensures watched { IfOk result (λ plan. IfSome plan.asked (λ w.
         (w.capacity ≡ plan.sizes.capacity) × (w.redraws ≡ streams.redraws))) }
+    ensures total { IfOk result (λ plan. IfSome plan.asked (λ w.
+        KnowsTotal (after (codes "size") (map string_bytes words.now)) w.total)) }
     ensures input { OnOk result (ReadsNamed F.name
         (after (codes "input") (map string_bytes words.now)) input.old input.new) }
     ensures output { IfOk result (λ plan. WritesNamed F.name

@@ -1,5 +1,6 @@
 -- The numbers after the options, and the streams that are used.
-use Rattle.std.specs.Prelude.{◌≡◌, ◌⊎◌, ℕ, List, Option, Some, None, IsSomeAnd, codes}
+use Rattle.std.specs.Prelude.{◌≡◌, ◌≤◌, ◌*◌, ◌/◌, ◌⊎◌, ℕ, List, Option, Some, None, IsSomeAnd, codes, min, ⊤}
+use Rattle.std.specs.Str.Parse.{IsNumeral, digits_value, without_leading_plus}
 use Rattle.pump_words.specs.Arguments.{IsSizeOf}
 use Rattle.pump_words.specs.declared.plan.Untaken.{Untaken}
 
@@ -19,3 +20,25 @@ IsAfter option text word = (word.option.now ≡ option) × (word.text.now ≡ te
 -- the text writes how many bytes come: a size, or none
 abbrev pub IsTotalOf : List ℕ → ℕ → Type 0
 IsTotalOf text n = IsSizeOf text n ⊎ ((text ≡ codes "0") × (n ≡ 0))
+
+-- the text writes so many percent, of which there are at most 100: in digits, with or without a plus
+-- before them
+abbrev pub IsPercent : List ℕ → ℕ → Type 0
+IsPercent text n = IsNumeral 10 (without_leading_plus text)
+    × (n ≡ digits_value 10 (without_leading_plus text)) × (n ≤ 100)
+
+-- so many percent of the capacity
+abbrev pub level_of : ℕ → ℕ → ℕ
+level_of capacity percent = min (capacity * percent / 100) capacity
+
+-- how many bytes are to be held: so many percent of the capacity as the text writes, or none where
+-- there is no text
+abbrev pub IsLevelOf : ℕ → Option (List ℕ) → ℕ → Type 0
+IsLevelOf capacity None level = level ≡ 0
+IsLevelOf capacity (Some text) level =
+    (percent : ℕ) × IsPercent text percent × (level ≡ level_of capacity percent)
+
+-- how many bytes come is known where there is a text that writes it
+abbrev pub KnowsTotal : Option (List ℕ) → Option ℕ → Type 0
+KnowsTotal None total = ⊤
+KnowsTotal (Some text) total = IsSomeAnd total (IsTotalOf text)

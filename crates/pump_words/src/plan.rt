@@ -3,7 +3,7 @@
 ghost use Rattle.std.specs.Prelude.{◌≡◌, ◌≢◌, ◌≤◌, Some, None, IfErr, IfOk, OnOk, IfNone, IfSome, codes};
 ghost use Rattle.std.specs.List.{All};
 ghost use Rattle.pump_words.specs.Arguments.{IsSizeOf, text_in};
-ghost use Rattle.pump_words.specs.Plan.{IsAfter, IsRead, IsTotalOf};
+ghost use Rattle.pump_words.specs.Plan.{IsAfter, IsLevelOf, IsPercent, IsRead, IsTotalOf, level_of};
 
 use crate::arguments::Texts;
 use crate::size::parse_size;
@@ -41,7 +41,8 @@ pub struct Numbers {
 /// Reads the numbers after the options, of a pipe that can hold so many bytes.
 pub fn numbers_of<'a>(capacity: usize, texts: Texts<'a>) -> Result<Numbers, Untaken<'a>>
     ensures most { IfOk result (λ n. n.level ≤ capacity) }
-    ensures level { IfOk result (λ n. texts.entry.start_at ≡ None → n.level ≡ 0) }
+    ensures level { IfOk result (λ n.
+        IsLevelOf capacity (text_in texts.entry.start_at) n.level) }
     ensures rate { IfOk result (λ n. IsRead IsSizeOf (text_in texts.entry.rate) n.rate) }
     ensures total { IfOk result (λ n. IsRead IsTotalOf (text_in texts.entry.size) n.total) }
 {
@@ -53,21 +54,16 @@ pub fn numbers_of<'a>(capacity: usize, texts: Texts<'a>) -> Result<Numbers, Unta
         Some(text) => Some(total(text)?),
         None => None,
     };
-    let percent = match texts.start_at {
-        Some(text) => percent(text)?,
+    let level = match texts.start_at {
+        Some(text) => level(capacity, percent(text)?),
         None => 0,
     };
-    Ok(Numbers {
-        level: level(capacity, percent),
-        rate,
-        total,
-    })
+    Ok(Numbers { level, rate, total })
 }
 
 // So many percent of the capacity.
 fn level(capacity: usize, percent: u8) -> usize
-    ensures most { result ≤ capacity }
-    ensures none { percent ≡ 0 → result ≡ 0 }
+    ensures { result ≡ level_of capacity percent }
 {
     (capacity as u128 * percent as u128 / 100).min(capacity as u128) as usize
 }
@@ -108,7 +104,7 @@ fn total<'a>(text: &'a str) -> Result<u64, Untaken<'a>>
 // From 0 to 100.
 fn percent<'a>(text: &'a str) -> Result<u8, Untaken<'a>>
     ensures named { IfErr result (IsAfter (codes "--start-at <N>") text.now) }
-    ensures most { IfOk result (λ percent. percent ≤ 100) }
+    ensures read { IfOk result (IsPercent text.now) }
 {
     match text.parse::<u8>() {
         Ok(percent) if percent <= 100 => Ok(percent),

@@ -47,7 +47,7 @@ returns-clause-runs g c =
       output = c.prepare.new.output;
       planned = record {
         taken = begun.taken;
-        numbers = record { sizes = begun.sizes; level = begun.level; rate = begun.rate; shown = begun.shown; watched = begun.watched };
+        numbers = record { sizes = begun.sizes; level = begun.level; rate = begun.rate; shown = begun.shown; watched = begun.watched; total = begun.total };
         files = record {
           read = begun.input;
           written = begun.output;
