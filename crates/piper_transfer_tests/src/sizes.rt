@@ -1,11 +1,15 @@
 //! Sizes as they are written, and what the errors of sizes and of transfers say.
 use crate::compare::same;
 use piper_transfer::TransferError;
+use pump_words::arguments::{Texts, read_words};
+use pump_words::lines::Line;
+use pump_words::plan::numbers_of;
 use pump_words::size::{NotASize, parse_size};
 use std::alloc::AllocGlobal;
 use std::fmt::Display;
 use std::io::ErrorKind;
 use std::process::Abort;
+use std::time::Duration;
 
 #[test]
 fn a_size_is_digits_and_perhaps_a_unit(rt: HostRuntime) {
@@ -85,4 +89,82 @@ fn errors_say_what_failed(rt: HostRuntime) {
     says(&rt, &TransferError::Memory, "out of memory");
     let turns = TransferError::Turns(ErrorKind::OutOfMemory.into());
     says(&rt, &turns, "a thread can't be made to wait: out of memory");
+}
+
+#[test]
+fn a_line_of_progress_tells_each_number_at_its_place(rt: HostRuntime) {
+    let line = Line {
+        bytes: 1_536,
+        rate: 10,
+        percent: 50,
+        full: Duration::from_millis(1_500),
+        empty: Duration::from_secs(120),
+    };
+    says(
+        &rt,
+        &line,
+        "1.5 KiB, 10 B/s, 50% full; full 1.5 s, empty 2 min",
+    );
+}
+
+const NONE: Texts<'static> = Texts {
+    rate: None,
+    size: None,
+    start_at: None,
+    input: None,
+    output: None,
+};
+
+fn refused<H: Abort + AllocGlobal>(rt: &H, texts: Texts<'_>, option: &str, range: &str) {
+    let word = numbers_of(1_000, texts).err();
+    same(
+        rt,
+        word.map(|word| (word.option, word.range)),
+        Some((option, range)),
+    );
+}
+
+#[test]
+fn a_number_that_is_refused_is_told_with_those_that_are_taken(rt: HostRuntime) {
+    let rate = Texts {
+        rate: Some("0"),
+        ..NONE
+    };
+    let range =
+        "a size is a number of bytes from 1 to 9223372036854775807, as 4096, 64K, 16m or 2GiB";
+    refused(&rt, rate, "--rate <N>", range);
+    let size = Texts {
+        size: Some("x"),
+        ..NONE
+    };
+    let range =
+        "a size is a number of bytes from 0 to 9223372036854775807, as 4096, 64K, 16m or 2GiB";
+    refused(&rt, size, "--size <N>", range);
+    let level = Texts {
+        start_at: Some("101"),
+        ..NONE
+    };
+    refused(
+        &rt,
+        level,
+        "--start-at <N>",
+        "a level is a number of percent from 0 to 100",
+    );
+}
+
+#[test]
+fn the_help_tells_the_sizes_that_are_used_where_none_is_given(rt: HostRuntime) {
+    let program = String::from_str(rt.alloc(), "piper_pump").expect(&rt, "memory");
+    let help = String::from_str(rt.alloc(), "--help").expect(&rt, "memory");
+    let words = [program, help];
+    let asked = read_words(rt.alloc(), &words).err().expect(&rt, "a help");
+    let said = format!(in rt.alloc(); "{asked}").expect(&rt, "memory");
+    assert!(&rt;
+        said.as_str()
+            .contains("How many bytes it holds; 1M if left out")
+    );
+    assert!(&rt;
+        said.as_str()
+            .contains("moves at a time at most; 64K if left out")
+    );
 }

@@ -11,6 +11,9 @@ const SLEEP: u64 = 200;
 /// How many milliseconds the other side has waited then, at least.
 const LEAST: u128 = 100;
 
+/// How many milliseconds after its end a transfer's meter is asked again.
+const LATER: u64 = 5;
+
 /// How many bytes go through, a few times what the pipe holds.
 const TOTAL: usize = 1_000;
 
@@ -70,8 +73,14 @@ impl<R: Wait + Clock> Destination for SlowOutput<'_, R> {
     }
 }
 
-/// A transfer of which one side sleeps once. The answer is how many milliseconds the other side had
-/// waited by then, how many it had waited in all, and how many the slow one had.
+/// How long both sides have waited.
+fn waited_by<R: Wait + Clock>(rt: &R, meter: &Meter) -> (Duration, Duration) {
+    (meter.input.waited(rt), meter.output.waited(rt))
+}
+
+/// A transfer of which one side sleeps once, and after which nobody waits. The answer is how many
+/// milliseconds the other side had waited by then, how many it had waited in all, and how many the
+/// slow one had.
 macro_rules! waits {
     ($rt:expr, $is_input_slow:expr) => {{
         let meter = Meter::new();
@@ -92,8 +101,10 @@ macro_rules! waits {
         };
         let moved = transfer($rt, &mut input, &mut output, SIZES, &meter);
         same($rt, moved.is_ok(), true);
-        let input_waited = meter.input.waited($rt).as_millis();
-        let output_waited = meter.output.waited($rt).as_millis();
+        let waited = waited_by($rt, &meter);
+        thread::sleep($rt, Duration::from_millis(LATER));
+        same($rt, waited_by($rt, &meter), waited);
+        let (input_waited, output_waited) = (waited.0.as_millis(), waited.1.as_millis());
         let seen = input.seen.max(output.seen).as_millis();
         (seen, input_waited, output_waited)
     }};
