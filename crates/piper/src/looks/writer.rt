@@ -34,6 +34,7 @@ impl Writer {
 
     /// The rest of a look that waits, where the pipe is open and no room was found: it registers,
     /// and looks once more.
+    #[inline(never)]
     pub(crate) fn look_waiting<P: Waits>(
         &mut self,
         call: NoRoom<P>,
