@@ -6,7 +6,7 @@
 //! WAY is how a piece is moved: `inplace` where it lies, `slices` by the try forms, `filldrain` by
 //! `poll_fill` and `poll_drain`. On one thread each piece goes in and out in turn; with a 2 at its
 //! end, as `slices2`, one thread writes and another reads. `pingpong` sends a piece to a thread and
-//! back, and both sleep in between. Pieces begin SHIFT bytes behind where they would: how they lie to
+//! back, and both sleep in between. Pieces begin SHIFT bytes later than they would: how they lie to
 //! the pipe's bytes changes how long a copy takes.
 
 use piper::{pipe, Reader, Writer};
