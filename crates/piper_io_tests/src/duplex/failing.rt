@@ -43,23 +43,25 @@ fn a_failing_input_ends_the_echo_after_its_whole_lines(rt: HostRuntime) {
 }
 
 /// An echo whose output fails once so many bytes were written: these are the first of the text.
-fn output_fails_at<R>(rt: &R, good: usize)
+fn output_fails_at<R>(rt: &R, text: &[u8], good: usize)
 where
     R: Abort + Wait + Threads + RandomSource + AllocGlobal + Clone + Drop + Send + 'static,
 {
-    let mut input = TEXT;
+    let mut input = text;
     let written = Vec::new(rt.alloc());
     let mut output = Full { written, good };
     let ended = echo(rt, rt.alloc(), &[], &mut input, &mut output);
     same(rt, ended, Ended::WRITE_FAILED);
-    same(rt, output.written.as_slice(), &TEXT[..good.min(TEXT.len())]);
+    same(rt, output.written.as_slice(), &text[..good.min(text.len())]);
 }
 
 #[test]
 fn a_failing_output_ends_the_echo(rt: HostRuntime) {
     for good in 0..TEXT.len() {
-        output_fails_at(&rt, good);
+        output_fails_at(&rt, TEXT, good);
     }
+    // The other thread then waits for room, since neither pipe holds such a line.
+    output_fails_at(&rt, &[b'x'; 1_000], 7);
 }
 
 /// A rest that goes through the stream in many pieces comes back whole, though some reads give less
