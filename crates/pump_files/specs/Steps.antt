@@ -1,6 +1,10 @@
 -- What is done for each file that is written, before it gets a byte.
-use Rattle.std.specs.Prelude.{◌≡◌, true, false, ⊤}
+use Rattle.std.specs.Prelude.{◌≡◌, Bool, true, false, Result, ⊤}
+use Rattle.std.specs.declared.fs.Metadata.{Metadata}
+use Rattle.std.specs.declared.io.Error.{Error}
 use Rattle.pump_files.specs.AllOpen.{IsOpenedUnlessFailed}
+use Rattle.pump_files.specs.Found.{IsFound}
+use Rattle.pump_files.specs.declared.found.Found.{Found}
 use Rattle.pump_files.specs.declared.sinks.Sink.{Sink}
 use Rattle.pump_files.specs.declared.sinks.Step.{Step}
 use Rattle.pump_files.specs.declared.sinks.Step.TheVariants as step
@@ -23,3 +27,19 @@ GetsBy (step.Open overwrites) is_kept is_made is_cut sink =
     sink.has_failed ≡ false → sink.is_there ≡ true → is_kept sink.file
 GetsBy step.Make is_kept is_made is_cut sink = IsOpenedUnlessFailed is_kept is_made sink
 GetsBy (step.Cut all_open) is_kept is_made is_cut sink = IsCutUnlessFailed is_cut sink
+
+-- what the system answered of the open file: it is the one that was looked at by its name, and it
+-- holds nothing, unless that may be overwritten
+pub record IsAsLookedAt (IsAsked : Result Metadata Error → Type 0) (overwrites : Bool)
+    (looked : Found) : Type 0 where
+  pub opened : Found
+  pub found : IsFound IsAsked opened
+  pub same : opened.id ≡ looked.id
+  pub spared : overwrites ≡ false → opened.held ≡ 0
+
+-- so it is after the step that opens it, if it was there and not given up
+abbrev pub OpensBy : {F : Type 0} → Step → (F → Result Metadata Error → Type 0)
+    → Sink F → Sink F → Type 0
+OpensBy (step.Open overwrites) answers old new = old.has_failed ≡ false → old.is_there ≡ true →
+    IsAsLookedAt (answers new.file) overwrites old.found
+OpensBy other answers old new = ⊤

@@ -10,7 +10,7 @@ ghost use Rattle.pump_files.specs.Found.{IsFound};
 ghost use Rattle.pump_files.specs.AllOpen.{IsOpened};
 ghost use Rattle.pump_files.specs.Handle.{IsAnswerFor};
 ghost use Rattle.pump_files.specs.Lines.{IsLossSaid};
-ghost use Rattle.pump_files.specs.Steps.{GetsBy, NeedsFor};
+ghost use Rattle.pump_files.specs.Steps.{GetsBy, IsAsLookedAt, NeedsFor, OpensBy};
 
 use crate::all_open::AllOpen;
 use crate::files::{NamedFile, Opens};
@@ -104,6 +104,7 @@ impl<F: NamedFile> Sink<F> {
         ensures name { self.new.name ≡ self.old.name }
         ensures bytes { F.written self.new.file ≡ F.written self.old.file }
         ensures gets { OnOk result (GetsBy step F.is_kept F.is_made F.is_cut self.new) }
+        ensures opened { OnOk result (OpensBy step F.answers self.old self.new) }
     {
         if self.has_failed {
             return Ok(());
@@ -121,6 +122,8 @@ impl<F: NamedFile> Sink<F> {
         ensures same { SameSink F.name self.old self.new }
         ensures bytes { F.written self.new.file ≡ F.written self.old.file }
         ensures opened { OnOk result (self.new.is_there ≡ true → F.is_kept self.new.file) }
+        ensures found { OnOk result (self.old.is_there ≡ true →
+            IsAsLookedAt (F.answers self.new.file) overwrites self.old.found) }
     {
         if !self.is_there {
             return Ok(());
