@@ -12,7 +12,7 @@ here=$(cd "$(dirname "$0")" && pwd)
 room=$(mktemp -d)
 trap 'rm -rf "$room"' EXIT
 programs='piper_pump piper_stress piper_bench piper_compare duplex_echo line_tasks proved_order'
-for program in $programs; do
+for program in $programs piper_replay; do
     cp "${1:-$here/../crates/$program/out}/$program" "$room/" || exit 2
     chmod 755 "$room/$program"
 done
@@ -130,6 +130,8 @@ note 'it is told alone' test "$(wc -l < told)" -eq 1
 note 'it is told as sha256sum does' eval 'sha256sum -c told < short > /dev/null 2>&1'
 try 'the sum of a file' 20 0 '  summed$' '$pump --sha256 -o summed < short'
 note 'it is told as sha256sum does, by its name' eval 'sha256sum -c told > /dev/null 2>&1'
+try 'the sum of a file with an odd name' 20 0 '' '$pump --sha256 -o $'"'a\\\\b\\nc\\rd'"' < short'
+note 'it is told in one line, as sha256sum does' test "$(cat told)" = "\\$(sha256sum < short | cut -c1-64)  "'a\\b\nc\rd'
 try_silent 'the help' 10 0 '$pump --help'
 note 'the help tells what a signal costs' grep -q 'is lost where a signal ends it' out
 
@@ -199,5 +201,13 @@ try 'a hunt to a closed output' 20 3 'standard output: Bad file' './piper_stress
 try 'a hunt without a thread' 20 4 'no thread is granted' '$alone prlimit --nproc=1 ./piper_stress 1 1 3'
 try 'a bench to a full output' 20 2 '^piper_bench: No space left' './piper_bench ring 64 16 1000 > /dev/full'
 try 'a bench without a thread' 20 2 'no thread is granted' '$alone prlimit --nproc=1 ./piper_bench ring2 64 16 1000'
+try 'a word that is no text, to a comparison' 10 2 '^usage' './piper_compare $'"'\\xff'"
+try 'a word that is no text, to a replay' 10 1 '^usage' './piper_replay $'"'\\xff'"
+
+# An answer that is not the one that is stored, and has its length.
+cp -r "$here/../crates/piper_compare/data" stored
+sed -i '3s/"ok/"no/' stored/lines.jsonl
+try 'a stored answer that is another' 10 1 '' 'cd stored && ../piper_compare vectors'
+note 'it is named by its line and file' grep -q '^  in line 3 of lines.jsonl' out
 
 count
