@@ -2,11 +2,12 @@
 //! writer is called, so that a body which moves a byte a call would be proved, too.
 use crate::compare::same;
 use crate::running::ends;
-use futures::task::Poll;
+use futures::task::{Context, Poll};
 use futures::test::MockTask;
 use piper::io::{AsyncRead, AsyncWrite};
 use piper::{OwnedReader, OwnedWriter, owned_pipe};
 use piper_futures::{drain_into, fill_from};
+use piper_lines::{Written, poll_write_all};
 use std::alloc::AllocGlobal;
 use std::io;
 use std::process::Abort;
@@ -95,4 +96,21 @@ fn a_call_by_reference_moves_as_many_as_one_of_its_own(rt: HostRuntime) {
         (written, read_by(&task, &mut reader)),
         (Some(11), Some(11)),
     );
+}
+
+/// Whether one poll writes all of them. Each write draws whether it yields, one in a hundred: a
+/// thousand would not all go on.
+fn is_written_at_once<W: AsyncWrite>(writer: &mut W, cx: &mut Context<'_>, bytes: &[u8]) -> bool {
+    let mut written = 0;
+    let polled = poll_write_all(writer, cx, bytes, &mut written);
+    matches!(polled, Poll::Ready(Ok(Written::Whole)))
+}
+
+#[test]
+fn many_bytes_are_written_by_few_calls(rt: HostRuntime) {
+    let (_reader, mut writer) = wide(&rt);
+    let task = MockTask::new(&rt).expect(&rt, "memory");
+    let text = [b'x'; 1_000];
+    let is_written = task.enter(|cx| is_written_at_once(&mut writer, cx, &text));
+    same(&rt, is_written, true);
 }
