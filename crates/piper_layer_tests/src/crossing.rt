@@ -2,10 +2,12 @@
 //! fills and drains, by reads and writes, and by a copy from one pipe to another.
 ghost use Rattle.std.specs.Prelude.{◌<◌, ◌*◌, ◌^◌};
 
-use crate::running::{ends, same_bytes};
+use crate::running::{ends, kept, same_bytes};
 use piper::io::Copied;
 use piper::{OwnedReader, OwnedWriter, owned_pipe};
-use piper_futures::{close, copy, drain_into, fill_from, read_exact, read_until, write_all};
+use piper_futures::{
+    AsyncReadExt, close, copy, drain_into, fill_from, read_exact, read_until, write_all,
+};
 use std::alloc::AllocGlobal;
 use std::marker::{Send, Sync};
 use std::process::Abort;
@@ -28,6 +30,8 @@ enum Give<'a> {
 /// What the reader takes, and what it must be.
 #[derive(Clone, Copy)]
 enum Take<'a> {
+    /// One byte, by a read of one place.
+    One(&'a [u8]),
     /// So many bytes as these are.
     Bytes(&'a [u8]),
     /// The same, after which no byte comes.
@@ -70,6 +74,10 @@ where
     for take in wanted {
         let came = Vec::new(rt.alloc());
         let ((next, bytes), want) = match *take {
+            Take::One(want) => {
+                let (next, place, _count) = ends(rt, reader.read(kept(rt, rt.alloc(), b".")));
+                ((next, place), want)
+            }
             Take::Bytes(want) => (ends(rt, read_exact(reader, came, want.len())), want),
             Take::Last(want) => {
                 let more = want.len().saturating_add(1);
@@ -111,7 +119,8 @@ fn bytes_cross_by_reads_and_writes(rt: HostRuntime) {
     let bytes = bytes_to_cross();
     for capacity in [1, 20, 100] {
         let given = &[Give::Write(&bytes), Give::Close];
-        crosses(&rt, capacity, given, &[Take::Last(&bytes)]);
+        let wanted = &[Take::One(&bytes[..1]), Take::Last(&bytes[1..])];
+        crosses(&rt, capacity, given, wanted);
     }
 }
 

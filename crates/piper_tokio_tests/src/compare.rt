@@ -11,3 +11,9 @@ pub(crate) fn same_bytes(rt: &impl Abort, seen: &[u8], wanted: &[u8]) {
 pub(crate) fn confirm(rt: &impl Abort, is_so: bool) {
     assert!(rt; is_so);
 }
+
+/// Fails unless the bytes begin and end with these.
+pub(crate) fn begins_and_ends(rt: &impl Abort, seen: &[u8], first: &[u8], last: &[u8]) {
+    let is_so = seen.starts_with(first) && seen.ends_with(last);
+    assert!(rt; is_so, "{seen:?} in place of {first:?} .. {last:?}");
+}

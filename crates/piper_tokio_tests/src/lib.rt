@@ -1,5 +1,5 @@
-//! Tests of `tokio` and its codecs over pipes. They are a crate of their own, so that the crate is
-//! proved once; what needs more crates of the web is in `piper_web_tests`.
+//! Tests of `tokio`, its codecs and a server of `hyper` over pipes and duplex streams. They are a
+//! crate of their own, so that the crate below is proved once.
 #![tactic(auto)]
 
 #[cfg(test)]
@@ -10,6 +10,8 @@ mod compare;
 mod copies;
 #[cfg(test)]
 mod ends;
+#[cfg(test)]
+mod http_over_duplex;
 #[cfg(test)]
 mod pattern;
 #[cfg(test)]
