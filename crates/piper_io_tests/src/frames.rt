@@ -1,31 +1,34 @@
 //! Frames: through a small pipe, past the limit, and cut short.
 use crate::compare::{same, same_bytes};
-use crate::polls::{Polled, feed, poll_frame, skip_long, write_frame};
+use crate::polls::{Polled, new_pipe, new_task, poll_frame, skip_long, write_frame};
 use futures::test::MockTask;
-use piper::{Reader, Writer, pipe};
-use piper_lines::{BodyTooLong, ByteOrder, FrameAnswer, FrameHeader, Frames, WriteFrame, Written};
+use piper::{Reader, Writer};
+use piper_lines::{ByteOrder, FrameAnswer, FrameHeader, Frames, WriteFrame, Written};
 use rand_core::{Rng, SeedableRng};
 use rand_pcg::Pcg32;
-use std::alloc::{AllocError, Global};
+use std::alloc::{AllocError, AllocGlobal, Global};
 use std::process::Abort;
-use std::test::Fail;
 
 /// The most turns that a frame may take.
 const MOST_TURNS: u32 = 1_000;
 
-/// Takes the next frame.
-fn expect_frame(
-    rt: &impl Abort,
+/// What a poll for a frame is to return, and what it leaves in the frame.
+type Wanted<'a> = (FrameAnswer, &'a [u8]);
+
+/// Takes the next frames.
+fn expect_frames(
+    rt: &(impl Abort + AllocGlobal),
     task: &MockTask,
     frames: &mut Frames<Reader>,
     limit: usize,
-    answer: Polled<FrameAnswer>,
-    bytes: &[u8],
-    alloc: Global,
+    wanted: &[Wanted<'_>],
 ) {
-    let mut frame = Vec::new(alloc);
-    same(rt, poll_frame(task, frames, &mut frame, limit), answer);
-    same_bytes(rt, &frame, bytes);
+    for (answer, bytes) in wanted {
+        let mut frame = Vec::new(rt.alloc());
+        let polled = poll_frame(task, frames, &mut frame, limit);
+        same(rt, polled, Polled::Ready(*answer));
+        same_bytes(rt, &frame, bytes);
+    }
 }
 
 /// A body of up to 40 random bytes.
@@ -62,110 +65,72 @@ fn frame_through(
     frame
 }
 
+/// A random body comes whole.
+fn comes_whole(
+    rt: &(impl Abort + AllocGlobal),
+    task: &MockTask,
+    (writer, frames): (&mut Writer, &mut Frames<Reader>),
+    rng: &mut Pcg32,
+) {
+    let body = random_body(rt.alloc(), rng).unwrap_or(Vec::new(rt.alloc()));
+    let found = frame_through(task, rt.alloc(), writer, frames, &body);
+    same_bytes(rt, &found, &body);
+}
+
 #[test]
-fn random_frames_come_whole_and_in_order(rt: HostRuntime) -> Result<(), Fail> {
-    let task = MockTask::new(&rt)?;
-    let alloc = rt.alloc();
+fn random_frames_come_whole_and_in_order(rt: HostRuntime) {
+    let task = new_task(&rt);
     let mut rng = Pcg32::seed_from_u64(4);
-    let (reader, mut writer) = pipe(alloc, 7, 1)?;
-    let mut frames = Frames::new(alloc, reader);
+    let (reader, mut writer) = new_pipe(&rt, 7);
+    let mut frames = Frames::new(rt.alloc(), reader);
     for _ in 0..50 {
-        let body = random_body(alloc, &mut rng);
-        let body = body.unwrap_or(Vec::new(alloc));
-        let found = frame_through(&task, alloc, &mut writer, &mut frames, &body);
-        same_bytes(&rt, &found, &body);
+        comes_whole(&rt, &task, (&mut writer, &mut frames), &mut rng);
     }
     writer.drop();
-    expect_frame(
-        &rt,
-        &task,
-        &mut frames,
-        40,
-        Polled::Ready(FrameAnswer::End),
-        b"",
-        alloc,
-    );
+    expect_frames(&rt, &task, &mut frames, 40, &[(FrameAnswer::End, b"")]);
     frames.into_reader().drop();
-    Ok(())
 }
 
 #[test]
-fn the_end_inside_a_frame_is_distinguished(rt: HostRuntime) -> Result<(), Fail> {
-    let task = MockTask::new(&rt)?;
-    let alloc = rt.alloc();
-    let (reader, mut writer) = pipe(alloc, 16, 1)?;
-    let mut frames = Frames::new(alloc, reader);
-    let mut sent = 0;
-    feed(&mut writer, &[0, 0, 0, 1, 7, 0, 0, 0, 2, 8], &mut sent, 100);
+fn the_end_inside_a_frame_is_distinguished(rt: HostRuntime) {
+    let task = new_task(&rt);
+    let (reader, mut writer) = new_pipe(&rt, 16);
+    let mut frames = Frames::new(rt.alloc(), reader);
+    writer.try_fill(&[0, 0, 0, 1, 7, 0, 0, 0, 2, 8]);
     writer.drop();
-    expect_frame(
-        &rt,
-        &task,
-        &mut frames,
-        9,
-        Polled::Ready(FrameAnswer::Frame),
-        &[7],
-        alloc,
-    );
-    expect_frame(
-        &rt,
-        &task,
-        &mut frames,
-        9,
-        Polled::Ready(FrameAnswer::Truncated),
-        b"",
-        alloc,
-    );
+    let wanted = &[
+        (FrameAnswer::Frame, [7].as_slice()),
+        (FrameAnswer::Truncated, b""),
+    ];
+    expect_frames(&rt, &task, &mut frames, 9, wanted);
     frames.into_reader().drop();
-    Ok(())
 }
 
 #[test]
-fn a_frame_past_the_limit_can_be_skipped(rt: HostRuntime) -> Result<(), Fail> {
-    let task = MockTask::new(&rt)?;
-    let alloc = rt.alloc();
-    let (reader, mut writer) = pipe(alloc, 16, 1)?;
-    let mut frames = Frames::new(alloc, reader);
-    let mut frame = Vec::new(alloc);
-    let mut sent = 0;
-    feed(
-        &mut writer,
-        &[0, 0, 0, 3, 1, 2, 3, 0, 0, 0, 1, 9],
-        &mut sent,
-        100,
-    );
+fn a_frame_past_the_limit_can_be_skipped(rt: HostRuntime) {
+    let task = new_task(&rt);
+    let (reader, mut writer) = new_pipe(&rt, 16);
+    let mut frames = Frames::new(rt.alloc(), reader);
+    let mut frame = Vec::new(rt.alloc());
+    writer.try_fill(&[0, 0, 0, 3, 1, 2, 3, 0, 0, 0, 1, 9]);
     writer.drop();
-    same(
-        &rt,
-        poll_frame(&task, &mut frames, &mut frame, 2),
-        Polled::Ready(FrameAnswer::TooLong(3)),
-    );
+    let polled = poll_frame(&task, &mut frames, &mut frame, 2);
+    same(&rt, polled, Polled::Ready(FrameAnswer::TooLong(3)));
     let skipped = task.enter(|cx| skip_long(&mut frames, cx, &mut frame, 2));
     same(&rt, skipped, Some(3));
-    expect_frame(
-        &rt,
-        &task,
-        &mut frames,
-        2,
-        Polled::Ready(FrameAnswer::Frame),
-        &[9],
-        alloc,
-    );
+    expect_frames(&rt, &task, &mut frames, 2, &[(FrameAnswer::Frame, &[9])]);
     frames.into_reader().drop();
-    Ok(())
 }
 
 /// Writes a frame with a header of this kind, holds what came against the bytes that are wanted,
 /// and reads it.
 fn header_through(
-    rt: &impl Abort,
+    rt: &(impl Abort + AllocGlobal),
     task: &MockTask,
-    alloc: Global,
-    pipe: (Reader, Writer),
     format: FrameHeader,
     wanted: &[u8],
 ) {
-    let (mut reader, mut writer) = pipe;
+    let (mut reader, mut writer) = new_pipe(rt, 32);
     if let Ok(mut frame) = WriteFrame::with_header(format, &[7, 8]) {
         let written = write_frame(task, &mut frame, &mut writer);
         same(rt, written, Polled::Ready(Written::Whole));
@@ -174,17 +139,15 @@ fn header_through(
     let came = reader.try_drain(&mut place);
     same_bytes(rt, &place[..came.min(16)], wanted);
     writer.try_fill(wanted);
-    let mut frames = Frames::with_header(alloc, reader, format);
-    let reported = Polled::Ready(FrameAnswer::Frame);
-    expect_frame(rt, task, &mut frames, 2, reported, &[7, 8], alloc);
+    let mut frames = Frames::with_header(rt.alloc(), reader, format);
+    expect_frames(rt, task, &mut frames, 2, &[(FrameAnswer::Frame, &[7, 8])]);
     frames.into_reader().drop();
     writer.drop();
 }
 
 #[test]
-fn a_header_has_its_bytes_in_its_order(rt: HostRuntime) -> Result<(), Fail> {
-    let task = MockTask::new(&rt)?;
-    let alloc = rt.alloc();
+fn a_header_has_its_bytes_in_its_order(rt: HostRuntime) {
+    let task = new_task(&rt);
     for (format, wanted) in [
         (FrameHeader::OneByte, [2, 7, 8].as_slice()),
         (FrameHeader::TwoBytes(ByteOrder::BigEndian), &[0, 2, 7, 8]),
@@ -205,19 +168,20 @@ fn a_header_has_its_bytes_in_its_order(rt: HostRuntime) -> Result<(), Fail> {
             &[2, 0, 0, 0, 0, 0, 0, 0, 7, 8],
         ),
     ] {
-        let handles = pipe(alloc, 32, 1)?;
-        header_through(&rt, &task, alloc, handles, format, wanted);
+        header_through(&rt, &task, format, wanted);
     }
-    Ok(())
+}
+
+/// Whether a frame with such a header holds so many bytes, of 256.
+fn holds(format: FrameHeader, len: usize) -> bool {
+    let body = [0; 256];
+    WriteFrame::with_header(format, &body[..len.min(256)]).is_ok()
 }
 
 #[test]
 fn a_body_that_its_header_cannot_tell_is_refused(rt: HostRuntime) {
-    let body = [0; 256];
-    let whole = WriteFrame::with_header(FrameHeader::OneByte, &body[..255]);
-    assert!(rt; whole.is_ok());
-    let refused = WriteFrame::with_header(FrameHeader::OneByte, &body);
-    assert!(rt; matches!(&refused, Err(BodyTooLong)));
-    let two = WriteFrame::with_header(FrameHeader::TwoBytes(ByteOrder::LittleEndian), &body);
-    assert!(rt; two.is_ok());
+    let two = FrameHeader::TwoBytes(ByteOrder::LittleEndian);
+    same(&rt, holds(FrameHeader::OneByte, 255), true);
+    same(&rt, holds(FrameHeader::OneByte, 256), false);
+    same(&rt, holds(two, 256), true);
 }

@@ -2,13 +2,13 @@
 //! and the next poll goes on. So it does where memory is refused.
 use crate::compare::{same, same_bytes};
 use crate::halting::{Halt, Halting};
+use crate::polls::new_task;
 use futures::task::{Context, Poll};
 use futures::test::MockTask;
 use piper::PipeError;
 use piper_lines::{Collected, Frames, Lines, poll_frames, poll_lines};
-use std::alloc::{AllocError, Global};
+use std::alloc::{AllocError, AllocGlobal, Global};
 use std::process::Abort;
-use std::test::Fail;
 
 /// The most polls that a text takes.
 const MOST_POLLS: u32 = 8;
@@ -96,40 +96,48 @@ fn same_pieces(rt: &impl Abort, seen: &[Vec<u8>], wanted: &[&[u8]]) {
     }
 }
 
-#[test]
-fn a_line_goes_on_after_each_look(rt: HostRuntime) -> Result<(), Fail> {
-    let task = MockTask::new(&rt)?;
-    for how in [Halt::Pending, Halt::Fails] {
-        // Ten bytes one by one, and then the end.
-        for last in 1..12 {
-            let reader = Halting::new(b"ab\ncd\n\nefg", 1, how, last);
-            let mut halts = Halts::NONE;
-            let found = lines_of(&task, rt.alloc(), reader, &mut halts)?;
-            same_pieces(&rt, &found, &[b"ab\n", b"cd\n", b"\n", b"efg"]);
-            same(&rt, halts, Halts::once(how));
-        }
-    }
-    Ok(())
+/// Four lines come whole from a reader that stops so at this look.
+fn lines_go_on(rt: &(impl Abort + AllocGlobal), task: &MockTask, how: Halt, last: usize) {
+    let reader = Halting::new(b"ab\ncd\n\nefg", 1, how, last);
+    let mut halts = Halts::NONE;
+    let found = lines_of(task, rt.alloc(), reader, &mut halts).expect(rt, "memory");
+    same_pieces(rt, &found, &[b"ab\n", b"cd\n", b"\n", b"efg"]);
+    same(rt, halts, Halts::once(how));
 }
 
 #[test]
-fn a_frame_goes_on_after_each_look(rt: HostRuntime) -> Result<(), Fail> {
-    let task = MockTask::new(&rt)?;
+fn a_line_goes_on_after_each_look(rt: HostRuntime) {
+    let task = new_task(&rt);
+    for how in [Halt::Pending, Halt::Fails] {
+        // Ten bytes one by one, and then the end.
+        for last in 1..12 {
+            lines_go_on(&rt, &task, how, last);
+        }
+    }
+}
+
+/// Three frames come whole from a reader that stops so at this look.
+fn frames_go_on(rt: &(impl Abort + AllocGlobal), task: &MockTask, how: Halt, last: usize) {
+    let bytes = [0, 0, 0, 1, 7, 0, 0, 0, 0, 0, 0, 0, 2, 8, 9];
+    let mut frames = Frames::new(rt.alloc(), Halting::new(&bytes, 1, how, last));
+    let mut found = Vec::new(rt.alloc());
+    let mut halts = Halts::NONE;
+    let ended = frames_of(task, &mut frames, &mut found, &mut halts);
+    same(rt, ended, Some(Collected::ToTheEnd));
+    same_pieces(rt, &found, &[&[7], &[], &[8, 9]]);
+    same(rt, halts, Halts::once(how));
+}
+
+#[test]
+fn a_frame_goes_on_after_each_look(rt: HostRuntime) {
+    let task = new_task(&rt);
     for how in [Halt::Pending, Halt::Fails] {
         // Fifteen bytes one by one, so that each look inside a body is one of them, and then the
         // end.
         for last in 1..17 {
-            let bytes = [0, 0, 0, 1, 7, 0, 0, 0, 0, 0, 0, 0, 2, 8, 9];
-            let mut frames = Frames::new(rt.alloc(), Halting::new(&bytes, 1, how, last));
-            let mut found = Vec::new(rt.alloc());
-            let mut halts = Halts::NONE;
-            let ended = frames_of(&task, &mut frames, &mut found, &mut halts);
-            same(&rt, ended, Some(Collected::ToTheEnd));
-            same_pieces(&rt, &found, &[&[7], &[], &[8, 9]]);
-            same(&rt, halts, Halts::once(how));
+            frames_go_on(&rt, &task, how, last);
         }
     }
-    Ok(())
 }
 
 /// Polls for all frames once, and skips the one that is past the limit: how many bytes it has.
@@ -148,10 +156,8 @@ fn skip_too_long(
 }
 
 #[test]
-fn frames_go_on_after_a_long_one_and_end_where_they_are_cut_off(
-    rt: HostRuntime,
-) -> Result<(), Fail> {
-    let task = MockTask::new(&rt)?;
+fn frames_go_on_after_a_long_one_and_end_where_they_are_cut_off(rt: HostRuntime) {
+    let task = new_task(&rt);
     let bytes = [
         0, 0, 0, 1, 7, 0, 0, 0, 3, 1, 2, 3, 0, 0, 0, 1, 9, 0, 0, 0, 2, 8,
     ];
@@ -166,28 +172,18 @@ fn frames_go_on_after_a_long_one_and_end_where_they_are_cut_off(
     let ended = frames_of(&task, &mut frames, &mut found, &mut halts);
     same(&rt, ended, Some(Collected::Truncated));
     same_pieces(&rt, &found, &[&[7], &[9]]);
-    Ok(())
 }
 
 #[test]
-fn a_line_is_taken_at_once_and_a_frame_after_its_header(rt: HostRuntime) -> Result<(), Fail> {
-    let task = MockTask::new(&rt)?;
+fn a_line_is_taken_at_once_and_a_frame_after_its_header(rt: HostRuntime) {
+    let task = new_task(&rt);
     let mut lines = Lines::new(rt.alloc(), Halting::new(b"a line\n", 9, Halt::Pending, 0));
     let mut line = Vec::new(rt.alloc());
-    let polled = task.enter(|cx| lines.poll_line(cx, &mut line, 9));
-    same(
-        &rt,
-        (polled.is_ready(), lines.into_reader().takes()),
-        (true, 1),
-    );
+    let is_ready = task.enter(|cx| lines.poll_line(cx, &mut line, 9).is_ready());
+    same(&rt, (is_ready, lines.into_reader().takes()), (true, 1));
     let bytes = [0, 0, 0, 3, 7, 8, 9];
     let mut frames = Frames::new(rt.alloc(), Halting::new(&bytes, 9, Halt::Pending, 0));
     let mut body = Vec::new(rt.alloc());
-    let polled = task.enter(|cx| frames.poll_frame(cx, &mut body, 9));
-    same(
-        &rt,
-        (polled.is_ready(), frames.into_reader().takes()),
-        (true, 2),
-    );
-    Ok(())
+    let is_ready = task.enter(|cx| frames.poll_frame(cx, &mut body, 9).is_ready());
+    same(&rt, (is_ready, frames.into_reader().takes()), (true, 2));
 }

@@ -1,6 +1,6 @@
 //! Lines: their answers one by one, and random texts against a plain split of the whole.
 use crate::compare::{same, same_bytes};
-use crate::polls::{Polled, feed, poll_line, write_line};
+use crate::polls::{Polled, feed, new_pipe, new_task, poll_line, write_line};
 use futures::task::Poll;
 use futures::test::MockTask;
 use piper::{Reader, Writer, pipe};
@@ -9,7 +9,7 @@ use piper_lines::{
 };
 use rand_core::{Rng, SeedableRng};
 use rand_pcg::Pcg32;
-use std::alloc::{AllocError, Global};
+use std::alloc::{AllocError, AllocGlobal, Global};
 use std::process::Abort;
 use std::test::Fail;
 
@@ -19,105 +19,64 @@ const MOST_TURNS: u32 = 10_000;
 /// How many bytes a random text has.
 const TEXT_BYTES: usize = 60;
 
-/// Takes the next line of a text that is sent through the pipe as there is room.
-fn expect_line(
-    rt: &impl Abort,
+/// What a poll for a line is to return, and what it leaves in the line.
+type Wanted<'a> = (Polled<LineAnswer>, &'a [u8]);
+
+/// Takes the next lines of a text that is sent through the pipe as there is room.
+fn expect_lines(
+    rt: &(impl Abort + AllocGlobal),
     task: &MockTask,
     lines: &mut Lines<Reader>,
     limit: usize,
-    answer: Polled<LineAnswer>,
-    text: &[u8],
-    alloc: Global,
+    wanted: &[Wanted<'_>],
 ) {
-    let mut line = Vec::new(alloc);
-    same(rt, poll_line(task, lines, &mut line, limit), answer);
-    same_bytes(rt, &line, text);
+    for (answer, text) in wanted {
+        let mut line = Vec::new(rt.alloc());
+        same(rt, poll_line(task, lines, &mut line, limit), *answer);
+        same_bytes(rt, &line, text);
+    }
 }
 
 #[test]
-fn a_text_comes_line_by_line(rt: HostRuntime) -> Result<(), Fail> {
-    let task = MockTask::new(&rt)?;
-    let alloc = rt.alloc();
-    let (reader, mut writer) = pipe(alloc, 8, 1)?;
-    let mut lines = Lines::new(alloc, reader);
+fn a_text_comes_line_by_line(rt: HostRuntime) {
+    let task = new_task(&rt);
+    let (reader, mut writer) = new_pipe(&rt, 8);
+    let mut lines = Lines::new(rt.alloc(), reader);
     let text = b"hello world\nline2\nline3";
     let mut sent = 0;
     feed(&mut writer, text, &mut sent, 100);
-    expect_line(&rt, &task, &mut lines, 100, Polled::Pending, b"", alloc);
+    expect_lines(&rt, &task, &mut lines, 100, &[(Polled::Pending, b"")]);
     feed(&mut writer, text, &mut sent, 100);
-    expect_line(
-        &rt,
-        &task,
-        &mut lines,
-        100,
-        Polled::Ready(LineAnswer::Line),
-        b"hello world\n",
-        alloc,
-    );
-    expect_line(&rt, &task, &mut lines, 100, Polled::Pending, b"", alloc);
+    let first = &[
+        (Polled::Ready(LineAnswer::Line), b"hello world\n".as_slice()),
+        (Polled::Pending, b""),
+    ];
+    expect_lines(&rt, &task, &mut lines, 100, first);
     feed(&mut writer, text, &mut sent, 100);
     writer.drop();
-    expect_line(
-        &rt,
-        &task,
-        &mut lines,
-        100,
-        Polled::Ready(LineAnswer::Line),
-        b"line2\n",
-        alloc,
-    );
-    expect_line(
-        &rt,
-        &task,
-        &mut lines,
-        100,
-        Polled::Ready(LineAnswer::Last),
-        b"line3",
-        alloc,
-    );
-    expect_line(
-        &rt,
-        &task,
-        &mut lines,
-        100,
-        Polled::Ready(LineAnswer::End),
-        b"",
-        alloc,
-    );
+    let rest = &[
+        (Polled::Ready(LineAnswer::Line), b"line2\n".as_slice()),
+        (Polled::Ready(LineAnswer::Last), b"line3"),
+        (Polled::Ready(LineAnswer::End), b""),
+    ];
+    expect_lines(&rt, &task, &mut lines, 100, rest);
     lines.into_reader().drop();
-    Ok(())
 }
 
 #[test]
-fn what_is_kept_comes_at_a_smaller_limit(rt: HostRuntime) -> Result<(), Fail> {
-    let task = MockTask::new(&rt)?;
-    let alloc = rt.alloc();
-    let (reader, mut writer) = pipe(alloc, 8, 1)?;
-    let mut lines = Lines::new(alloc, reader);
-    let mut sent = 0;
-    feed(&mut writer, b"abcdef", &mut sent, 100);
-    expect_line(&rt, &task, &mut lines, 100, Polled::Pending, b"", alloc);
-    expect_line(
-        &rt,
-        &task,
-        &mut lines,
-        3,
-        Polled::Ready(LineAnswer::TooLong),
-        b"abcdef",
-        alloc,
-    );
+fn what_is_kept_comes_at_a_smaller_limit(rt: HostRuntime) {
+    let task = new_task(&rt);
+    let (reader, mut writer) = new_pipe(&rt, 8);
+    let mut lines = Lines::new(rt.alloc(), reader);
+    writer.try_fill(b"abcdef");
+    expect_lines(&rt, &task, &mut lines, 100, &[(Polled::Pending, b"")]);
     writer.drop();
-    expect_line(
-        &rt,
-        &task,
-        &mut lines,
-        3,
-        Polled::Ready(LineAnswer::End),
-        b"",
-        alloc,
-    );
+    let kept = &[
+        (Polled::Ready(LineAnswer::TooLong), b"abcdef".as_slice()),
+        (Polled::Ready(LineAnswer::End), b""),
+    ];
+    expect_lines(&rt, &task, &mut lines, 3, kept);
     lines.into_reader().drop();
-    Ok(())
 }
 
 /// The text cut after each LF, and wherever a piece has `limit` bytes; what is left comes last.
@@ -139,11 +98,7 @@ fn plain_split(alloc: Global, text: &[u8], limit: usize) -> Result<Vec<Vec<u8>>,
 fn random_text(alloc: Global, rng: &mut Pcg32) -> Result<Vec<u8>, AllocError> {
     let mut text = Vec::new(alloc);
     for _ in 0..TEXT_BYTES {
-        text.push(match rng.next_u32() % 3 {
-            0 => b'\n',
-            1 => b'a',
-            _ => b'b',
-        })?;
+        text.push(b"\nab"[(rng.next_u32() % 3) as usize])?;
     }
     Ok(text)
 }
@@ -175,73 +130,58 @@ fn lines_through(
     Ok(found)
 }
 
+/// A random text comes in pieces of at most `limit` bytes as a plain split gives them.
+fn comes_split<H>(rt: &H, task: &MockTask, limit: usize, rng: &mut Pcg32) -> Result<(), AllocError>
+where
+    H: Abort + AllocGlobal,
+{
+    let alloc = rt.alloc();
+    let text = random_text(alloc, rng)?;
+    let wanted = plain_split(alloc, &text, limit)?;
+    let (reader, mut writer) = pipe(alloc, 8, limit as u64).expect(rt, "memory");
+    let mut lines = Lines::new(alloc, reader);
+    let found = lines_through(task, alloc, &mut writer, &mut lines, &text, limit, rng);
+    writer.drop();
+    lines.into_reader().drop();
+    same(rt, found?, wanted);
+    Ok(())
+}
+
 #[test]
 fn random_texts_come_as_a_plain_split_gives_them(rt: HostRuntime) -> Result<(), Fail> {
-    let task = MockTask::new(&rt)?;
-    let alloc = rt.alloc();
+    let task = new_task(&rt);
     let mut rng = Pcg32::seed_from_u64(16);
     for limit in 1..10 {
-        let text = random_text(alloc, &mut rng)?;
-        let wanted = plain_split(alloc, &text, limit)?;
-        let (reader, mut writer) = pipe(alloc, 8, limit as u64)?;
-        let mut lines = Lines::new(alloc, reader);
-        let found = lines_through(
-            &task,
-            alloc,
-            &mut writer,
-            &mut lines,
-            &text,
-            limit,
-            &mut rng,
-        );
-        writer.drop();
-        lines.into_reader().drop();
-        assert!(rt; found? == wanted, "limit {limit}");
+        comes_split(&rt, &task, limit, &mut rng)?;
     }
     Ok(())
 }
 
 #[test]
-fn a_line_is_written_whole(rt: HostRuntime) -> Result<(), Fail> {
-    let task = MockTask::new(&rt)?;
-    let alloc = rt.alloc();
-    let (reader, mut writer) = pipe(alloc, 4, 1)?;
-    let mut lines = Lines::new(alloc, reader);
+fn a_line_is_written_whole(rt: HostRuntime) {
+    let task = new_task(&rt);
+    let (reader, mut writer) = new_pipe(&rt, 4);
+    let mut lines = Lines::new(rt.alloc(), reader);
     let text = b"hello";
     if is_one_line(text) {
         let mut line = WriteLine::new(text);
-        same(
-            &rt,
-            write_line(&task, &mut line, &mut writer),
-            Polled::Pending,
-        );
-        expect_line(&rt, &task, &mut lines, 9, Polled::Pending, b"", alloc);
-        same(
-            &rt,
-            write_line(&task, &mut line, &mut writer),
-            Polled::Ready(Written::Whole),
-        );
+        let written = write_line(&task, &mut line, &mut writer);
+        same(&rt, written, Polled::Pending);
+        expect_lines(&rt, &task, &mut lines, 9, &[(Polled::Pending, b"")]);
+        let written = write_line(&task, &mut line, &mut writer);
+        same(&rt, written, Polled::Ready(Written::Whole));
     }
-    expect_line(
-        &rt,
-        &task,
-        &mut lines,
-        9,
-        Polled::Ready(LineAnswer::Line),
-        b"hello\n",
-        alloc,
-    );
+    let wanted = &[(Polled::Ready(LineAnswer::Line), b"hello\n".as_slice())];
+    expect_lines(&rt, &task, &mut lines, 9, wanted);
     lines.into_reader().drop();
     writer.drop();
-    Ok(())
 }
 
 #[test]
-fn lines_end_at_the_byte_that_is_chosen(rt: HostRuntime) -> Result<(), Fail> {
-    let task = MockTask::new(&rt)?;
-    let alloc = rt.alloc();
-    let (reader, mut writer) = pipe(alloc, 16, 1)?;
-    let mut lines = Lines::split(alloc, reader, b',');
+fn lines_end_at_the_byte_that_is_chosen(rt: HostRuntime) {
+    let task = new_task(&rt);
+    let (reader, mut writer) = new_pipe(&rt, 16);
+    let mut lines = Lines::split(rt.alloc(), reader, b',');
     let text = b"one\ntwo";
     if lacks(text, b',') {
         let mut line = WriteLine::ended_by(text, b',');
@@ -250,22 +190,12 @@ fn lines_end_at_the_byte_that_is_chosen(rt: HostRuntime) -> Result<(), Fail> {
     }
     writer.try_fill(b"three");
     writer.drop();
-    for (answer, piece) in [
-        (LineAnswer::Line, b"one\ntwo,".as_slice()),
-        (LineAnswer::Last, b"three".as_slice()),
-    ] {
-        expect_line(
-            &rt,
-            &task,
-            &mut lines,
-            9,
-            Polled::Ready(answer),
-            piece,
-            alloc,
-        );
-    }
+    let wanted = &[
+        (Polled::Ready(LineAnswer::Line), b"one\ntwo,".as_slice()),
+        (Polled::Ready(LineAnswer::Last), b"three"),
+    ];
+    expect_lines(&rt, &task, &mut lines, 9, wanted);
     lines.into_reader().drop();
-    Ok(())
 }
 
 #[test]

@@ -1,9 +1,15 @@
-//! How the tests poll.
+//! How the tests poll. A test gets its task and its pipe by a call: a `?` at each would cost the prover
+//! as much as a part of the test.
+ghost use Rattle.std.specs.Prelude.{◌<◌, ◌*◌, ◌^◌};
+
 use futures::task::{Context, Poll};
 use futures::test::MockTask;
 use piper::io::AsyncBufRead;
-use piper::{PipeError, Reader, Writer};
+use piper::{PipeError, Reader, Writer, pipe};
 use piper_lines::{FrameAnswer, Frames, LineAnswer, Lines, WriteFrame, WriteLine, Written};
+use std::alloc::AllocGlobal;
+use std::process::Abort;
+use std::random::RandomSource;
 
 /// What a poll is to a test.
 #[derive(Clone, Copy, Debug, PartialEq, Eq)]
@@ -12,6 +18,18 @@ pub(crate) enum Polled<A> {
     Ready(A),
     Refused,
     Failed,
+}
+
+/// A new task.
+pub(crate) fn new_task(rt: &(impl Abort + RandomSource + AllocGlobal)) -> MockTask {
+    MockTask::new(rt).expect(rt, "memory")
+}
+
+/// A new pipe of so many bytes.
+pub(crate) fn new_pipe(rt: &(impl Abort + AllocGlobal), capacity: usize) -> (Reader, Writer)
+    requires { (0 < capacity) × (2 * capacity < 2 ^ 64) }
+{
+    pipe(rt.alloc(), capacity, 1).expect(rt, "memory")
 }
 
 pub(crate) fn outcome_of<A: Drop>(poll: Poll<Result<A, PipeError>>) -> Polled<A> {
@@ -30,6 +48,15 @@ pub(crate) fn feed(writer: &mut Writer, text: &[u8], sent: &mut usize, most: usi
     *sent = sent.saturating_add(taken);
 }
 
+fn poll_line_once(
+    task: &MockTask,
+    lines: &mut Lines<Reader>,
+    line: &mut Vec<u8>,
+    limit: usize,
+) -> Polled<LineAnswer> {
+    outcome_of(task.enter(|cx| lines.poll_line(cx, line, limit.max(1))))
+}
+
 /// Polls once for a line, as a task, and again where memory is refused.
 pub(crate) fn poll_line(
     task: &MockTask,
@@ -37,11 +64,19 @@ pub(crate) fn poll_line(
     line: &mut Vec<u8>,
     limit: usize,
 ) -> Polled<LineAnswer> {
-    let limit = limit.max(1);
-    match outcome_of(task.enter(|cx| lines.poll_line(cx, line, limit))) {
-        Polled::Refused => outcome_of(task.enter(|cx| lines.poll_line(cx, line, limit))),
+    match poll_line_once(task, lines, line, limit) {
+        Polled::Refused => poll_line_once(task, lines, line, limit),
         answer => answer,
     }
+}
+
+fn poll_frame_once(
+    task: &MockTask,
+    frames: &mut Frames<Reader>,
+    frame: &mut Vec<u8>,
+    limit: usize,
+) -> Polled<FrameAnswer> {
+    outcome_of(task.enter(|cx| frames.poll_frame(cx, frame, limit)))
 }
 
 /// Polls once for a frame, as a task, and again where memory is refused.
@@ -51,8 +86,8 @@ pub(crate) fn poll_frame(
     frame: &mut Vec<u8>,
     limit: usize,
 ) -> Polled<FrameAnswer> {
-    match outcome_of(task.enter(|cx| frames.poll_frame(cx, frame, limit))) {
-        Polled::Refused => outcome_of(task.enter(|cx| frames.poll_frame(cx, frame, limit))),
+    match poll_frame_once(task, frames, frame, limit) {
+        Polled::Refused => poll_frame_once(task, frames, frame, limit),
         answer => answer,
     }
 }
