@@ -6,6 +6,6 @@ pub mod machine;
 mod source;
 
 pub use piper_protocol::memory::OutOfMemory;
-pub use piper_protocol::{answer, index, memory, table};
+pub use piper_protocol::{answer, memory, table};
 pub use piper_sides::slot::SlotState;
 pub use piper_sides::{bytes, calls, events, polling, refusals, scripted, slot};

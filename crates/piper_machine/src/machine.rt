@@ -13,14 +13,14 @@ ghost use Rattle.piper_machine.specs.Lend.{Lendable, lending};
 
 use crate::destination::Destination;
 use crate::source::Source;
-use piper_protocol::index;
+use piper_protocol::indices;
 use piper_protocol::memory::OutOfMemory;
 use piper_protocol::table::{MOST_A_ROUND, ReadPoint, WritePoint};
 use piper_sides::calls::OpenCall;
-use piper_sides::read_side::ReadSide;
+use piper_sides::read_state::ReadState;
 use piper_sides::slot::SlotState;
 use piper_sides::woken::Woken;
-use piper_sides::write_side::WriteSide;
+use piper_sides::write_state::WriteState;
 use std::alloc::Global;
 use std::marker::Model;
 
@@ -40,8 +40,8 @@ pub use runs::run;
 pub struct Machine {
     alloc: Global,
     bytes: Vec<u8>,
-    read: ReadSide,
-    write: WriteSide,
+    read: ReadState,
+    write: WriteState,
     is_closed: bool,
     reader_slot: SlotState<u32>,
     writer_slot: SlotState<u32>,
@@ -94,8 +94,8 @@ impl Machine {
         Ok(Machine {
             alloc,
             bytes,
-            read: ReadSide::new(cap),
-            write: WriteSide::new(cap),
+            read: ReadState::new(cap),
+            write: WriteState::new(cap),
             is_closed: false,
             reader_slot: SlotState::new(),
             writer_slot: SlotState::new(),
@@ -134,7 +134,7 @@ impl Machine {
         ensures sound { IsSound self.now }
     {
         self.learn();
-        index::distance(self.read.capacity(), self.read.head(), self.write.tail())
+        indices::distance(self.read.capacity(), self.read.head(), self.write.tail())
     }
 
     /// The known bytes that are contiguous, oldest first: from the first unread byte's place on.

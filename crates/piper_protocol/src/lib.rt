@@ -3,14 +3,10 @@
 #![tactic(auto)]
 
 pub mod answer;
-pub mod index;
+pub mod indices;
 pub mod memory;
-pub mod read_indices;
-pub mod read_point;
 pub mod read_steps;
 pub mod reported;
 pub mod steps;
 pub mod table;
-pub mod write_indices;
-pub mod write_point;
 pub mod write_steps;

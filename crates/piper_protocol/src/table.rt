@@ -1,6 +1,6 @@
 //! The call table: where a side can be inside a call, and the steps that it makes there.
 ghost use Rattle.std.specs.Prelude.{◌≡◌};
-ghost use Rattle.piper_protocol.specs.Table.{query_answer, copy_answer, count_answer, end_or_pending, failed_answer, look_answer, yield_answer};
+ghost use Rattle.piper_protocol.specs.Table.{query_answer, copy_answer, count_answer, end_or_pending, ends_fill, failed_answer, head_store, look_answer, read_sum, reader_found, reader_found_none, reader_looks_for, writer_found, writer_found_none, yield_answer};
 
 use crate::answer::{Answer, Failed, Polled};
 
@@ -200,6 +200,46 @@ impl Form {
 }
 
 impl Purpose {
+    /// Where the reader's look leads that finds a byte.
+    pub fn reader_found(self) -> ReadPoint
+        ensures { result ≡ reader_found self }
+    {
+        match self {
+            Purpose::Copy(Form::Try) => ReadPoint::CallDestination(Form::Try, 0),
+            _ => ReadPoint::LookTake(self),
+        }
+    }
+
+    /// Where the reader's look leads that finds none.
+    pub fn reader_found_none(self) -> ReadPoint
+        ensures { result ≡ reader_found_none self }
+    {
+        match self {
+            Purpose::Copy(Form::Try) => ReadPoint::LookClosed(self),
+            _ => ReadPoint::LookRegister(self),
+        }
+    }
+
+    /// Where the writer's look leads that finds room.
+    pub fn writer_found(self) -> WritePoint
+        ensures { result ≡ writer_found self }
+    {
+        match self {
+            Purpose::Copy(Form::Try) => WritePoint::CallSource(Form::Try, 0),
+            _ => WritePoint::LookTake(self),
+        }
+    }
+
+    /// Where the writer's look leads that finds none.
+    pub fn writer_found_none(self) -> WritePoint
+        ensures { result ≡ writer_found_none self }
+    {
+        match self {
+            Purpose::Copy(Form::Try) => WritePoint::LookHeadAgain(self),
+            _ => WritePoint::LookRegister(self),
+        }
+    }
+
     /// What the call returns where its look is not true.
     pub fn look_answer(self, answer: Polled<bool>) -> Answer
         ensures { result ≡ look_answer self answer }
@@ -207,6 +247,40 @@ impl Purpose {
         match self {
             Purpose::Poll => Answer::Poll(answer),
             Purpose::Copy(form) => form.copy_answer(answer),
+        }
+    }
+}
+
+impl ReadPoint {
+    /// Where a call begins that looks, where no byte is known (`none`) or some are: a known byte
+    /// needs no load.
+    ///
+    /// A polling copy is opened as one that has not drawn: `Form::Polling { is_drawn: false }`.
+    pub fn look(none: bool, purpose: Purpose) -> ReadPoint
+        ensures point { result ≡ reader_looks_for none purpose }
+        ensures no_store { head_store result ≡ 0 }
+        ensures no_sum { read_sum result ≡ 0 }
+    {
+        if none {
+            ReadPoint::LookTail(purpose)
+        } else {
+            purpose.reader_found()
+        }
+    }
+}
+
+impl WritePoint {
+    /// Whether an answer of the step that comes next would end a fill.
+    pub fn ends_fill(self) -> bool
+        ensures { result ≡ ends_fill self }
+    {
+        match self {
+            WritePoint::LookClosed(Purpose::Copy(_))
+            | WritePoint::LookRegister(Purpose::Copy(_))
+            | WritePoint::LookClosedAgain(Purpose::Copy(_)) => true,
+            WritePoint::Yield | WritePoint::CallSource(_, _) | WritePoint::RoundClosed(_, _, _) =>
+                true,
+            _ => false,
         }
     }
 }

@@ -17,7 +17,7 @@ use piper_protocol::table::{Action, Found, MOST_A_ROUND, Side};
 use piper_sides::calls::{OpenCall, Step};
 use piper_sides::polling::Context;
 use piper_sides::slot::SlotState;
-use piper_sides::write_side::WriteSide;
+use piper_sides::write_state::WriteState;
 use std::alloc::Global;
 use std::mem;
 
@@ -85,7 +85,7 @@ fn settle_writer(
 }
 
 // Nothing stays lent where a fill has returned.
-fn settle_lent(write: &mut WriteSide, is_fill: bool, answer: Option<Answer>)
+fn settle_lent(write: &mut WriteState, is_fill: bool, answer: Option<Answer>)
     requires { IsSome answer → tail_store write.old.point ≡ 0 }
     ensures { write.new
         ≡ record write.old { lent = lent_count_after is_fill answer write.old.lent } }

@@ -16,9 +16,8 @@ use crate::ends::writer::{WriteEnd, WriteParts};
 use crate::ring::memory::{Memory, Parts, block_size};
 use crate::ring::seats::open;
 use lent_space::{Lease, Lender};
+use piper_protocol::indices::{ReadIndices, WriteIndices};
 use piper_protocol::memory::OutOfMemory;
-use piper_protocol::read_indices::ReadIndices;
-use piper_protocol::write_indices::WriteIndices;
 use std::alloc::{AllocError, Global};
 use token_cell::Token;
 

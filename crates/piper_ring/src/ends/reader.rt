@@ -7,7 +7,7 @@ use crate::ring::marks::{LastReadMark, ReadMark, Saw, WriteMark};
 use crate::ring::places::Places;
 use crate::ring::seats::ReadSeat;
 use lent_space::Lease;
-use piper_protocol::read_indices::ReadIndices;
+use piper_protocol::indices::ReadIndices;
 use std::alloc::Global;
 use std::marker::Model;
 

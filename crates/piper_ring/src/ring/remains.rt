@@ -1,4 +1,4 @@
-//! What is left of a ring once an end has left it.
+//! What is left of a ring once an end has left it. The last end frees it (ends/leaving.rt).
 ghost use Rattle.std.specs.Prelude.{◌≡◌, ◌<◌, ◌^◌, Bool, true, false};
 ghost use denote.RawPtr.{Ptr};
 ghost use Rattle.piper_ring.specs.Block.{space_of, space_words};

@@ -209,8 +209,8 @@ impl ReadSeat {
         unsafe { raw::store::<Brand>(self.words.add(HEAD_WORD), head, SeqCst) }
     }
 
-    /// Closes the ring, since the reader is about to leave. With it comes evidence that the ring is
-    /// closed.
+    /// Closes the ring, as `store_shut` of the writer, since the reader is about to leave. With it
+    /// comes evidence that the ring is closed.
     pub(crate) fn store_closed(&mut self) -> Saw
         ensures leaving { self.new ≡ record self.old { leaving = true } }
         ensures closed { (result.names ≡ self.old.names) × (result.seen ≡ true) }
@@ -350,7 +350,7 @@ impl WriteSeat {
         unsafe { raw::store::<Brand>(self.words.add(TAIL_WORD), tail, SeqCst) }
     }
 
-    /// Closes the ring for good, or to leave.
+    /// Closes the ring for good, or to leave, as `store_closed` of the reader.
     pub(crate) fn store_shut(&mut self)
         ensures { self.new ≡ record self.old { shut = true } }
     {

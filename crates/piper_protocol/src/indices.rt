@@ -1,12 +1,182 @@
-//! The writer's own index, the reader's as it last saw it, and what is lent between them.
+//! Indices of a ring of `cap` places, and what each side keeps of them. They lie in `0..2 * cap`, so
+//! that a full ring differs from an empty one.
 ghost use Rattle.std.specs.Prelude.{◌≡◌, ◌+◌, ◌-◌, ◌*◌, ◌%◌, ◌<◌, ◌≤◌, ◌↔◌, ◌==◌, IsTrue, true};
-ghost use Rattle.piper_protocol.specs.Index.{IsCapacity, distance, place_of, lap_remainder};
+ghost use Rattle.piper_protocol.specs.Index.{IsCapacity, distance, place_of, advanced, turned, lap_remainder};
 
-use crate::index;
 use std::marker::Model;
 
 /// The least that is lent where the buffer was never written, if there is room for it.
 const LEAST_LEND: usize = 4096;
+
+/// How far the index `to` is past the index `from`.
+pub fn distance(cap: usize, from: usize, to: usize) -> usize
+    requires capacity { IsCapacity cap }
+    requires from { from < 2 * cap }
+    requires to { to < 2 * cap }
+    ensures value { result ≡ distance cap from to }
+    ensures remainder { result ≡ (2 * cap + to - from) % (2 * cap) }
+{
+    if from <= to {
+        to - from
+    } else {
+        2 * cap - from + to
+    }
+}
+
+/// The place in the buffer of the index `i`.
+pub fn real(cap: usize, i: usize) -> usize
+    requires { i < 2 * cap }
+    ensures value { result ≡ place_of cap i }
+    ensures remainder { result ≡ i % cap }
+    ensures below { result < cap }
+{
+    if i < cap { i } else { i - cap }
+}
+
+/// The index `n` places further on, which may be past the end of the buffer.
+pub fn advance(cap: usize, i: usize, n: usize) -> usize
+    requires capacity { IsCapacity cap }
+    requires index { i < 2 * cap }
+    requires within { n ≤ cap }
+    ensures value { result ≡ advanced cap i n }
+    ensures remainder { result ≡ (i + n) % (2 * cap) }
+    ensures below { result < 2 * cap }
+{
+    // The index less a turn, modulo 2^64: a sum that wraps is past the end of the turn. Compiled,
+    // that takes two instructions less than a comparison with the places that are left.
+    let less = i.wrapping_sub(2 * cap);
+    let sum = less.wrapping_add(n);
+    if sum < less { sum } else { i + n }
+}
+
+/// The index one turn of the buffer further on, which is also the one a turn before.
+pub fn turned(cap: usize, i: usize) -> usize
+    requires capacity { IsCapacity cap }
+    requires index { i < 2 * cap }
+    ensures value { result ≡ turned cap i }
+    ensures back { turned cap result ≡ i }
+    ensures below { result < 2 * cap }
+{
+    if i < cap { i + cap } else { i - cap }
+}
+
+/// What the reader keeps from call to call. All counts are of bytes.
+#[derive(Drop)]
+pub struct ReadIndices {
+    capacity: usize,
+    head: usize,
+    tail: usize,
+}
+
+impl Model for ReadIndices {
+    ghost use Rattle.piper_protocol.specs.ReaderIndices.{ReaderIndices, AreReaderIndices};
+
+    ghost Value = { ReaderIndices };
+
+    ghost view = { λ r. record { capacity = r.capacity; head = r.head; tail = r.tail } };
+
+    ghost invariant = { λ r. AreReaderIndices (record {
+      capacity = r.capacity;
+      head = r.head;
+      tail = r.tail;
+    }) };
+}
+
+impl ReadIndices {
+    ghost use Rattle.piper_protocol.specs.ReaderIndices.{AreReaderIndices, known_in, peekable_in, tail_seen, head_passed, fresh_reader};
+
+    /// The reader of an empty pipe.
+    pub fn new(capacity: usize) -> Self
+        requires { IsCapacity capacity }
+        ensures fresh { result ≡ fresh_reader capacity }
+        ensures sound { AreReaderIndices result }
+    {
+        ReadIndices {
+            capacity,
+            head: 0,
+            tail: 0,
+        }
+    }
+
+    /// How many places the pipe has.
+    pub fn capacity(&self) -> usize
+        ensures value { result ≡ self.now.capacity }
+        ensures sound { AreReaderIndices self.now }
+    {
+        self.capacity
+    }
+
+    /// The reader's own index.
+    pub fn head(&self) -> usize
+        ensures value { result ≡ self.now.head }
+        ensures below { result < 2 * self.now.capacity }
+    {
+        self.head
+    }
+
+    /// The place of the first unread byte.
+    pub fn front(&self) -> usize
+        ensures value { result ≡ place_of self.now.capacity self.now.head }
+        ensures remainder { result ≡ self.now.head % self.now.capacity }
+        ensures below { result < self.now.capacity }
+    {
+        real(self.capacity, self.head)
+    }
+
+    /// How many bytes the reader knows of.
+    pub fn known(&self) -> usize
+        ensures value { result ≡ known_in self.now }
+        ensures remainder { result ≡ lap_remainder self.now.capacity self.now.head self.now.tail }
+        ensures within { result ≤ self.now.capacity }
+    {
+        distance(self.capacity, self.head, self.tail)
+    }
+
+    /// Whether the reader knows of no byte.
+    pub fn knows_none(&self) -> bool
+        ensures value { result ≡ (known_in self.now == 0) }
+        ensures none { IsTrue result ↔ (known_in self.now ≡ 0) }
+    {
+        self.head == self.tail
+    }
+
+    /// How many known bytes are contiguous.
+    pub fn peekable(&self) -> usize
+        ensures { result ≡ peekable_in self.now }
+    {
+        self.known().min(self.capacity - self.front())
+    }
+
+    /// How many bytes are unread where the writer's index is here.
+    pub fn unread_to(&self, tail: usize) -> usize
+        requires { tail < 2 * self.now.capacity }
+        ensures value { result ≡ distance self.now.capacity self.now.head tail }
+        ensures remainder { result ≡ lap_remainder self.now.capacity self.now.head tail }
+    {
+        distance(self.capacity, self.head, tail)
+    }
+
+    /// The writer's index was seen to be here.
+    pub fn sees(&mut self, tail: usize)
+        requires index { tail < 2 * self.old.capacity }
+        requires within { known_in (tail_seen tail self.old) ≤ self.old.capacity }
+        ensures after { self.new ≡ tail_seen tail self.old }
+        ensures sound { AreReaderIndices self.new }
+    {
+        self.tail = tail;
+    }
+
+    /// The first `n` known bytes are given up. They may go round the end of the buffer.
+    pub fn gives(&mut self, n: usize)
+        requires { n ≤ known_in self.old }
+        ensures after { self.new ≡ head_passed n self.old }
+        ensures remainder { self.new.head ≡ (self.old.head + n) % (2 * self.old.capacity) }
+        ensures known { known_in self.new ≡ known_in self.old - n }
+        ensures sound { AreReaderIndices self.new }
+    {
+        self.head = advance(self.capacity, self.head, n);
+    }
+}
 
 /// What the writer keeps from call to call. All counts are of places.
 #[derive(Drop)]
@@ -88,7 +258,7 @@ impl WriteIndices {
         ensures remainder { result ≡ self.now.tail % self.now.capacity }
         ensures below { result < self.now.capacity }
     {
-        index::real(self.capacity, self.tail)
+        real(self.capacity, self.tail)
     }
 
     /// How many free places the writer knows of.
@@ -96,7 +266,7 @@ impl WriteIndices {
         ensures value { result ≡ room_in self.now }
         ensures within { result ≤ self.now.capacity }
     {
-        index::distance(self.capacity, self.tail, self.limit)
+        distance(self.capacity, self.tail, self.limit)
     }
 
     /// Whether the writer knows of no room.
@@ -113,7 +283,7 @@ impl WriteIndices {
         ensures value { result ≡ distance self.now.capacity head self.now.tail }
         ensures remainder { result ≡ lap_remainder self.now.capacity head self.now.tail }
     {
-        index::distance(self.capacity, head, self.tail)
+        distance(self.capacity, head, self.tail)
     }
 
     /// How many places are lent.
@@ -199,7 +369,7 @@ impl WriteIndices {
         ensures after { self.new ≡ head_seen head self.old }
         ensures sound { AreWriterIndices self.new }
     {
-        self.limit = index::turned(self.capacity, head);
+        self.limit = turned(self.capacity, head);
     }
 
     /// The first `n` lent places are published.
@@ -210,7 +380,7 @@ impl WriteIndices {
         ensures room { room_in self.new ≡ room_in self.old - n }
         ensures sound { AreWriterIndices self.new }
     {
-        self.tail = index::advance(self.capacity, self.tail, n);
+        self.tail = advance(self.capacity, self.tail, n);
         self.lent -= n;
     }
 }

@@ -1,13 +1,20 @@
 //! The writer's side: its own index, the reader's as it last saw it, what is lent, and its point
 //! inside the open call.
 ghost use Rattle.std.specs.Prelude.{IsSome, ◌≡◌, ◌≢◌, ℕ, ◌+◌, ◌-◌, ◌*◌, ◌<◌, ◌≤◌, true, false, ◌==◌};
-ghost use Rattle.piper_protocol.specs.Table.{moved_in, write_action};
+ghost use Rattle.piper_protocol.specs.Table.{SumFits, moved_in, publishes, tail_store, write_action, write_after, write_done, write_sum};
 ghost use Rattle.piper_protocol.specs.Index.{IsCapacity, distance, place_of, advanced};
 
-use crate::write_rows;
-use piper_protocol::answer::Answer;
-use piper_protocol::table::{Action, Found, WritePoint};
-use piper_protocol::write_indices::WriteIndices;
+use piper_protocol::answer::{Answer, Polled};
+use piper_protocol::indices::WriteIndices;
+use piper_protocol::table::WritePoint::{
+    CallSource, Dropped, Idle, LookClosed, LookClosedAgain, LookHead, LookHeadAgain, LookRegister,
+    LookTake, QueryClosed, QueryHead, QueryTail, RoundClosed, StoreClosed, StoreTail, TakeReader,
+    TakeWriter, WakeReader, WakeWriter, Yield,
+};
+use piper_protocol::table::{
+    Action, AfterWrite, Form, Found, Purpose, Side, WritePoint, end_or_pending, failed_answer,
+    yield_answer,
+};
 use std::marker::Model;
 
 /// What the writer keeps. It knows no buffer, no slot, no waker and no runtime.
@@ -16,12 +23,12 @@ use std::marker::Model;
 /// takes in what that step found; it returns where the call ends. A step that moves an index or
 /// shuts the pipe is reported by `refreshed`, `stored_tail` or `shut`.
 #[derive(Drop)]
-pub struct WriteSide {
+pub struct WriteState {
     indices: WriteIndices,
     point: WritePoint,
 }
 
-impl Model for WriteSide {
+impl Model for WriteState {
     ghost use Rattle.piper_sides.specs.Side.{Writing, IsWriting};
     ghost use Rattle.piper_sides.specs.SideSteps.{writing_of};
 
@@ -32,7 +39,7 @@ impl Model for WriteSide {
     ghost invariant = { λ side. IsWriting (writing_of side.indices side.point) };
 }
 
-impl WriteSide {
+impl WriteState {
     ghost use Rattle.piper_protocol.specs.Table.{publishes, tail_store, write_sum};
     ghost use Rattle.piper_sides.specs.Side.{IsWriting, fresh_writing, room_of, left_of, lend_length, lent_out};
     ghost use Rattle.piper_sides.specs.SideSteps.{writing_after, writing_answer, head_found};
@@ -43,7 +50,7 @@ impl WriteSide {
         ensures fresh { result ≡ fresh_writing capacity }
         ensures sound { IsWriting result }
     {
-        WriteSide {
+        WriteState {
             indices: WriteIndices::new(capacity),
             point: WritePoint::Idle,
         }
@@ -135,7 +142,7 @@ impl WriteSide {
         ensures within { (n : ℕ) → result ≡ Action.StoreTail n → n ≤ self.now.lent }
         ensures no_head { (n : ℕ) → result ≢ Action.StoreHead n }
     {
-        write_rows::next(self.point)
+        action(self.point)
     }
 
     /// The step that comes next was made and found this, and no index moved with it.
@@ -150,7 +157,7 @@ impl WriteSide {
         ensures sound { IsWriting self.new }
     {
         let room = self.indices.room();
-        let (point, answer) = write_rows::after(self.point, self.indices.capacity(), room, found);
+        let (point, answer) = after(self.point, self.indices.capacity(), room, found);
         self.point = point;
         answer
     }
@@ -172,7 +179,7 @@ impl WriteSide {
         self.indices.sees(head);
         let room = self.indices.room();
         let none = room == 0;
-        let (point, answer) = write_rows::after(
+        let (point, answer) = after(
             self.point,
             self.indices.capacity(),
             room,
@@ -196,12 +203,7 @@ impl WriteSide {
     {
         self.indices.publishes(n);
         let room = self.indices.room();
-        let (point, answer) = write_rows::after(
-            self.point,
-            self.indices.capacity(),
-            room,
-            Found::Nothing,
-        );
+        let (point, answer) = after(self.point, self.indices.capacity(), room, Found::Nothing);
         self.point = point;
         answer
     }
@@ -219,13 +221,118 @@ impl WriteSide {
     {
         self.indices.shut();
         let room = self.indices.room();
-        let (point, answer) = write_rows::after(
-            self.point,
-            self.indices.capacity(),
-            room,
-            Found::Nothing,
-        );
+        let (point, answer) = after(self.point, self.indices.capacity(), room, Found::Nothing);
         self.point = point;
         answer
+    }
+}
+
+// The rows of the call table, as the model reads them: which step a point puts next, and where what
+// that step found leads.
+
+// The step that comes next.
+fn action(point: WritePoint) -> Action
+    ensures { result ≡ write_action point }
+{
+    match point {
+        Idle | Dropped => Action::Rest,
+        QueryHead(_) => Action::LoadHead,
+        QueryTail(_, _) => Action::LoadTail,
+        QueryClosed | LookClosed(_) | LookClosedAgain(_) | RoundClosed(_, _, _) =>
+            Action::LoadClosed,
+        LookHead(_) | LookHeadAgain(_) => Action::Refresh,
+        LookRegister(_) => Action::Register,
+        LookTake(_) | TakeWriter => Action::Take(Side::Writer),
+        Yield => Action::Yield,
+        CallSource(_, _) => Action::CallSource,
+        StoreTail(n, _) => Action::StoreTail(n),
+        TakeReader(_) => Action::Take(Side::Reader),
+        WakeReader(_) | WakeWriter => Action::Wake,
+        StoreClosed(AfterWrite::WakeWriter) => Action::StoreClosed { is_shut: true },
+        StoreClosed(_) => Action::StoreClosed { is_shut: false },
+    }
+}
+
+// Where it leads that the reader was woken, or had no waker, and the answer if the call ends there.
+fn woke(next: AfterWrite) -> (WritePoint, Option<Answer>)
+    ensures point { result.0 ≡ (write_done next).point }
+    ensures answer { result.1 ≡ (write_done next).answer }
+{
+    match next {
+        AfterWrite::Answer => (Idle, Some(Answer::Done)),
+        AfterWrite::Drop => (Dropped, Some(Answer::Done)),
+        AfterWrite::WakeWriter => (TakeWriter, None),
+        AfterWrite::Round(form, sum) => (CallSource(form, sum), None),
+    }
+}
+
+// Where the step leads that comes next in a pipe of this capacity and known room, by what it found,
+// and the answer if the call ends there.
+fn after(
+    point: WritePoint,
+    capacity: usize,
+    room: usize,
+    found: Found,
+) -> (WritePoint, Option<Answer>)
+    requires fits { SumFits (write_sum point) found }
+    ensures point { result.0 ≡ (write_after capacity room point found).point }
+    ensures answer { result.1 ≡ (write_after capacity room point found).answer }
+    ensures open { write_action point ≢ Action.Rest → result.0 ≡ WritePoint.Idle
+        → IsSome result.1 }
+    ensures rests { IsSome result.1 → tail_store result.0 ≡ 0 }
+    ensures store { (most : ℕ) → tail_store point ≤ most → moved_in found ≤ most
+        → tail_store result.0 ≤ most }
+    ensures sum { (most : ℕ) → publishes point ≡ false → write_sum point ≤ most + tail_store point
+        → write_sum result.0 ≤ most + tail_store result.0 }
+    ensures published { publishes point ≡ true → (tail_store result.0 ≡ 0)
+        × (write_sum result.0 ≡ write_sum point) }
+{
+    match (point, found) {
+        (QueryHead(query), Found::Unread(count)) => (QueryTail(query, count), None),
+        (QueryTail(query, count), _) => (Idle, Some(query.answer(capacity, count))),
+        (QueryClosed, Found::Flag(is_closed)) => (Idle, Some(Answer::Flag(is_closed))),
+        (LookClosed(look), Found::Flag(is_closed)) if is_closed => (
+            Idle,
+            Some(look.look_answer(Polled::Ready(false))),
+        ),
+        (LookClosed(look), Found::Flag(_)) if room == 0 => (LookHead(look), None),
+        (LookClosed(look), Found::Flag(_)) => (look.writer_found(), None),
+        (LookHead(look), Found::Refreshed { none }) if none => (look.writer_found_none(), None),
+        (LookHead(look), Found::Refreshed { .. }) => (look.writer_found(), None),
+        (LookRegister(look), Found::Granted(is_granted)) if is_granted => (
+            LookHeadAgain(look),
+            None,
+        ),
+        (LookRegister(look), Found::Granted(_)) => (Idle, Some(look.look_answer(Polled::Memory))),
+        (LookHeadAgain(look), Found::Refreshed { none }) if none => (LookClosedAgain(look), None),
+        (LookHeadAgain(look), Found::Refreshed { .. }) => (look.writer_found(), None),
+        (LookClosedAgain(look), Found::Flag(is_closed)) => (
+            Idle,
+            Some(look.look_answer(end_or_pending(is_closed))),
+        ),
+        (LookTake(Purpose::Poll), _) => (Idle, Some(Answer::Poll(Polled::Ready(true)))),
+        (LookTake(Purpose::Copy(Form::Polling { is_drawn: true })), _) => (Yield, None),
+        (LookTake(Purpose::Copy(form)), _) => (CallSource(form, 0), None),
+        (Yield, Found::Granted(is_granted)) => (Idle, Some(yield_answer(is_granted))),
+        (CallSource(form, sum), Found::Moved(n)) if n == 0 => (Idle, Some(form.count_answer(sum))),
+        (CallSource(form, sum), Found::Moved(n)) => (RoundClosed(n, form, sum + n), None),
+        (CallSource(_, _), Found::Failed) => (Idle, Some(failed_answer())),
+        (RoundClosed(_, form, sum), Found::Flag(is_closed)) if is_closed => (
+            Idle,
+            Some(form.count_answer(sum)),
+        ),
+        (RoundClosed(n, form, sum), Found::Flag(_)) => (
+            StoreTail(n, AfterWrite::Round(form, sum)),
+            None,
+        ),
+        (StoreTail(_, next), _) => (TakeReader(next), None),
+        (TakeReader(next), Found::Waker(is_found)) if is_found => (WakeReader(next), None),
+        (TakeReader(next), Found::Waker(_)) => woke(next),
+        (WakeReader(next), _) => woke(next),
+        (StoreClosed(next), _) => (TakeReader(next), None),
+        (TakeWriter, Found::Waker(is_found)) if is_found => (WakeWriter, None),
+        (TakeWriter, Found::Waker(_)) => (Idle, Some(Answer::Done)),
+        (WakeWriter, _) => (Idle, Some(Answer::Done)),
+        _ => (point, None),
     }
 }

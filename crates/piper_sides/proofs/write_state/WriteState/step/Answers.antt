@@ -3,7 +3,7 @@ use Rattle.piper_protocol.specs.Table.{moved_in, publishes, tail_store, write_su
 use Rattle.piper_protocol.specs.WriterIndices.{room_in}
 use Rattle.piper_sides.specs.Side.{Writing}
 use Rattle.piper_sides.specs.SideSteps.{writing_answer}
-use Rattle.piper_sides.proofs.write_side.WriteSide.step.Goals as goal
+use Rattle.piper_sides.proofs.write_state.WriteState.step.Goals as goal
 
 pub invariant_of-self : goal.invariant_of-self
 invariant_of-self c =
