@@ -25,3 +25,15 @@ module _ {S E : Type 0} (gives : Passes S) (is_dry : S → Type 0) (fails : S �
     most = most;
     end = record { end = looked.end; shut = looked.shut; saw = looked.saw };
   }
+
+-- a look that goes on where it found no room is one look
+pub looked_on : (a b c : WriteView) → WriterLooked a b → b.room ≡ 0 → WriterLooked b c → WriterLooked a c
+looked_on a b c p none q = record {
+  end = record { ring = q.end.ring ∙ p.end.ring; capacity = q.end.capacity ∙ p.end.capacity; told = q.end.told ∙ p.end.told };
+  sent = q.sent ∙ p.sent;
+  lent = q.lent ∙ p.lent;
+  shut = q.shut ∙ p.shut;
+  known = λ some. absurd (omega (arith, some, p.known some, none));
+  fresh = λ empty unseen. q.fresh none unseen;
+  saw = omega (arith, p.saw, q.saw);
+}

@@ -43,41 +43,48 @@ pub record DrawFrom (seed : ℕ) (r : Reader) (w : Writer) : Type 0 where
   pub reader : r.rng ≡ generator seed
   pub writer : w.rng ≡ generator (bit_xor seed 1)
 
+-- the wakers of b lie where those of a do, and its task waits at the same source
+abbrev pub SameReaderCells : Reader → Reader → Type 0
+SameReaderCells a b = (b.side.cells ≡ a.side.cells) × (b.source ≡ a.source)
+
+abbrev pub SameWriterCells : Writer → Writer → Type 0
+SameWriterCells a b = (b.side.cells ≡ a.side.cells) × (b.source ≡ a.source)
+
 -- b waits as a does and wakes at the slots of a, and draws the same numbers next
 pub record SameReaderButWoke (a b : Reader) : Type 0 where
-  pub slots : (b.side.cells ≡ a.side.cells) × (b.source ≡ a.source)
+  pub slots : SameReaderCells a b
   pub rng : b.rng ≡ a.rng
   pub waits : SameReaderPlace a.side.slots b.side.slots
 
 pub record SameWriterButWoke (a b : Writer) : Type 0 where
-  pub slots : (b.side.cells ≡ a.side.cells) × (b.source ≡ a.source)
+  pub slots : SameWriterCells a b
   pub rng : b.rng ≡ a.rng
   pub waits : SameWriterPlace a.side.slots b.side.slots
 
 -- since a, b may have woken the other side again, and may wait otherwise
 pub record SameReaderButWaits (a b : Reader) : Type 0 where
-  pub slots : (b.side.cells ≡ a.side.cells) × (b.source ≡ a.source)
+  pub slots : SameReaderCells a b
   pub rng : b.rng ≡ a.rng
   pub looks : SameReaderLooks a.side.slots b.side.slots
 
 pub record SameWriterButWaits (a b : Writer) : Type 0 where
-  pub slots : (b.side.cells ≡ a.side.cells) × (b.source ≡ a.source)
+  pub slots : SameWriterCells a b
   pub rng : b.rng ≡ a.rng
   pub looks : SameWriterLooks a.side.slots b.side.slots
 
 -- b may wait otherwise, and have woken the other side since
 pub record SameWriterButSlots (a b : Writer) : Type 0 where
-  pub slots : (b.side.cells ≡ a.side.cells) × (b.source ≡ a.source)
+  pub slots : SameWriterCells a b
   pub rng : b.rng ≡ a.rng
 
 -- b waits as a does, and since a may have woken the other side again
 pub record SameReader (a b : Reader) : Type 0 where
-  pub slots : (b.side.cells ≡ a.side.cells) × (b.source ≡ a.source)
+  pub slots : SameReaderCells a b
   pub rng : b.rng ≡ a.rng
   pub registrations : b.side.slots ≡ a.side.slots
 
 pub record SameWriter (a b : Writer) : Type 0 where
-  pub slots : (b.side.cells ≡ a.side.cells) × (b.source ≡ a.source)
+  pub slots : SameWriterCells a b
   pub rng : b.rng ≡ a.rng
   pub registrations : b.side.slots ≡ a.side.slots
 

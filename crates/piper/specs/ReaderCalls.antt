@@ -15,7 +15,7 @@ use Rattle.piper.specs.CopyAnswers.{OnMemory}
 use Rattle.piper.specs.Drains.{Drains, EndIsTrue, EndIsUnseen, found_len}
 use Rattle.piper.specs.Draws.{Draws, Undrawn}
 use Rattle.piper.specs.Ends.{IsEnded, ReaderConsumed, ReaderHeeded, ReaderIsUpToDate, ReaderRefreshed, WriterRefreshed}
-use Rattle.piper.specs.Handles.{NotifiesReader, NotifiesWriter, SameReader, SameReaderButWaits, SameWriter, SameReaderButWoke, read_source}
+use Rattle.piper.specs.Handles.{NotifiesReader, NotifiesWriter, SameReader, SameReaderButWaits, SameWriter, SameReaderButWoke, SameReaderCells, read_source}
 use Rattle.piper.specs.Like.{Passes, appends_to}
 use Rattle.piper.specs.Looks.{ReaderFound, ReaderLooked}
 use Rattle.piper.specs.Polls.{After, Count, IfReadyErr, IfReadyOk, Lends, TakesNone}
@@ -162,7 +162,7 @@ WakesWriter a b = NotifiesWriter a → NotifiesWriter b
 -- the same reader of the same pipe, but for bytes that it took and knows of, for how it waits, and
 -- for what its generator draws next: it may have seen closed now
 pub record SameReaderButMoved (a b : Reader) : Type 0 where
-  pub slots : (b.side.cells ≡ a.side.cells) × (b.source ≡ a.source)
+  pub slots : SameReaderCells a b
   pub end : ReaderCopied a.side.end b.side.end
 
 -- all that a read says of a handle, its answer, the slice and the context: it drains. A `&mut` to the

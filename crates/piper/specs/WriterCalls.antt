@@ -14,7 +14,7 @@ use Rattle.piper.specs.CopyAnswers.{OnMemory, inner_of}
 use Rattle.piper.specs.Draws.{Draws, Undrawn}
 use Rattle.piper.specs.Ends.{WriterHeeded, WriterIsUpToDate, WriterPublished, WriterShut}
 use Rattle.piper.specs.Fills.{Fills, FoundRoom, LosesOneRound, OnNoCount}
-use Rattle.piper.specs.Handles.{NotifiesReader, SameWriter, SameWriterButSlots, SameWriterButWoke, write_source}
+use Rattle.piper.specs.Handles.{NotifiesReader, SameWriter, SameWriterButSlots, SameWriterButWoke, SameWriterCells, write_source}
 use Rattle.piper.specs.Like.{Passes, consumes_of}
 use Rattle.piper.specs.Looks.{WriterFound, WriterLooked}
 use Rattle.piper.specs.Polls.{Count, IfReadyOk}
@@ -124,7 +124,7 @@ WakesReader a b = NotifiesReader a → NotifiesReader b
 -- the same writer of the same pipe, but for bytes that it published and its room, for how it waits,
 -- and for what its generator draws next: it may have seen closed now, and lends nothing
 pub record SameWriterButMoved (a b : Writer) : Type 0 where
-  pub slots : (b.side.cells ≡ a.side.cells) × (b.source ≡ a.source)
+  pub slots : SameWriterCells a b
   pub end : WriterCopied a.side.end b.side.end
 
 -- all that a write says of a handle, its answer, the slice and the context: it fills. A `&mut` to the

@@ -1,6 +1,7 @@
 //! A bounded pipe of bytes between one reader and one writer.
 #![tactic(auto)]
 
+mod calls;
 mod copies;
 mod debug;
 mod error;
@@ -9,9 +10,7 @@ pub mod io;
 pub mod like;
 mod looks;
 mod owned;
-mod reader;
-mod slots;
-mod writer;
+mod taken;
 
 pub use error::{Inner, PipeError};
 pub use handles::{Reader, Writer, pipe};

@@ -21,7 +21,7 @@ use piper_protocol::table::MOST_A_ROUND;
 use piper_ring::OutOfMemory;
 
 impl Reader {
-    ghost use Rattle.piper.specs.Handles.{SameReaderButWoke};
+    ghost use Rattle.piper.specs.Handles.{SameReaderButWoke, SameReaderCells};
     ghost use Rattle.piper.specs.ReaderCalls.{Drained, DrainsAtOnce, DrainsEnd, DrainsLike, DrainsSlice, DrainsStd, DrainsWaiting, DrainPends, DrawsToYield, KeepsEnd, SameReaderButMoved, SameReaderButTried, WakesWriter};
 
     /// Moves bytes into a writer, and returns how many that took. It doesn't flush the writer.
@@ -146,8 +146,7 @@ impl Reader {
         ensures unseen { EndIsUnseen result self.old.side.end self.new.side.end }
         ensures waiting { DrainsWaiting result self.old self.new cx.old cx.new }
         ensures woken { WakesWriter self.old self.new }
-        ensures slots { (self.new.side.cells ≡ self.old.side.cells)
-            × (self.new.source ≡ self.old.source) }
+        ensures slots { SameReaderCells self.old self.new }
     {
         let call = match self.look_first(OfCopy) {
             Ok(call) => call,

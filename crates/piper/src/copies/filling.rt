@@ -12,14 +12,14 @@ ghost use Rattle.piper.specs.Looks.{OnRefused};
 use crate::error::{Inner, PipeError};
 use crate::handles::Writer;
 use crate::like::{ReadBytes, ReadLike, StdRead, StdReader};
-use crate::looks::NoWork;
+use crate::looks::{FirstLook, NoWork};
 use futures::task::{Context, Poll};
-use piper_protocol::steps::Rounds;
+use piper_protocol::steps::{OfTry, Rounds};
 use piper_protocol::table::MOST_A_ROUND;
 use piper_ring::OutOfMemory;
 
 impl Writer {
-    ghost use Rattle.piper.specs.Handles.{SameWriter, SameWriterButWoke};
+    ghost use Rattle.piper.specs.Handles.{SameWriter, SameWriterButWoke, SameWriterCells};
     ghost use Rattle.piper.specs.WriterCalls.{DrawsToYield, Filled, FillPends, FillsAtOnce, FillsEnd, FillsLike, FillsSlice, FillsStd, FillsWaiting, SameWriterButMoved, SameWriterButTried, WakesReader};
     ghost use Rattle.piper.specs.OfWriter.{saw};
 
@@ -157,10 +157,9 @@ impl Writer {
         ensures end { FillsEnd result self.old self.new }
         ensures waiting { FillsWaiting result self.old self.new cx.old cx.new }
         ensures woken { WakesReader self.old self.new }
-        ensures slots { (self.new.side.cells ≡ self.old.side.cells)
-            × (self.new.source ≡ self.old.source) }
+        ensures slots { SameWriterCells self.old self.new }
     {
-        let call = match self.poll_inner(cx) {
+        let call = match self.look_for_copy(cx) {
             Ok(call) => call,
             Err(NoWork::Closed) => return Poll::Ready(Ok(0)),
             Err(NoWork::Pending) => return Poll::Pending,
@@ -187,12 +186,17 @@ impl Writer {
         ensures woken { WakesReader self.old self.new }
         ensures rest { SameWriterButWoke self.old self.new }
     {
-        match self.try_inner() {
-            Ok(call) => self.fill_rounds(call.begins(), source),
-            Err(NoWork::Closed) => Poll::Ready(Ok(0)),
-            Err(NoWork::Pending) => Poll::Pending,
-            Err(NoWork::Refused) => unreachable!(),
-        }
+        let call = match self.look_first(OfTry) {
+            FirstLook::Closed => return Poll::Ready(Ok(0)),
+            FirstLook::Room(call) => call,
+            FirstLook::NoRoom(call) => match self.look_again(call.goes_on()) {
+                Ok(call) => call,
+                Err(NoWork::Closed) => return Poll::Ready(Ok(0)),
+                Err(NoWork::Pending) => return Poll::Pending,
+                Err(NoWork::Refused) => unreachable!(),
+            },
+        };
+        self.fill_rounds(call.begins(), source)
     }
 
     // Publishes what the source gives in rounds, each in one piece, until there is no room, it

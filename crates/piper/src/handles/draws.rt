@@ -2,6 +2,7 @@
 ghost use Rattle.std.specs.Prelude.{◌≡◌, ◌↔◌, IsTrue, false};
 ghost use Rattle.piper_ring.specs.SlotsView.{SameReaderLooks, SameWriterLooks};
 ghost use Rattle.piper.specs.Draws.{DrawsYield, drawn_from};
+ghost use Rattle.piper.specs.Handles.{SameReaderCells, SameWriterCells};
 ghost use Rattle.piper.specs.Waits.{ReaderLeavesNone, WriterLeavesNone};
 
 use super::{Reader, Writer};
@@ -16,8 +17,7 @@ impl Reader {
         ensures draw { IsTrue result ↔ DrawsYield self.old.rng }
         ensures rng { self.new.rng ≡ drawn_from self.old.rng }
         ensures leaves { ReaderLeavesNone self.new }
-        ensures slots { (self.new.side.cells ≡ self.old.side.cells)
-            × (self.new.source ≡ self.old.source) }
+        ensures slots { SameReaderCells self.old self.new }
         ensures looks { SameReaderLooks self.old.side.slots self.new.side.slots }
         ensures end { self.new.side.end ≡ self.old.side.end }
     {
@@ -36,8 +36,7 @@ impl Writer {
         ensures draw { IsTrue result ↔ DrawsYield self.old.rng }
         ensures rng { self.new.rng ≡ drawn_from self.old.rng }
         ensures leaves { WriterLeavesNone self.new }
-        ensures slots { (self.new.side.cells ≡ self.old.side.cells)
-            × (self.new.source ≡ self.old.source) }
+        ensures slots { SameWriterCells self.old self.new }
         ensures looks { SameWriterLooks self.old.side.slots self.new.side.slots }
         ensures end { self.new.side.end ≡ self.old.side.end }
     {

@@ -12,7 +12,7 @@ ghost use Rattle.piper.specs.Slots.{found_in, waker_in};
 ghost use Rattle.piper.specs.Ends.{HasAll, IsEnded, ReaderIsUpToDate, ReaderRefreshed, ReaderSaw, ReaderConsumed};
 
 use super::Reader;
-use crate::slots::Taken;
+use crate::taken::Taken;
 use futures::task::{Context, Poll, Waker};
 use piper_protocol::memory::OutOfMemory;
 use piper_protocol::steps::{HasWork, OfPoll, Store, StoreClosed, TakeOther};
@@ -170,8 +170,8 @@ impl Reader {
     }
 
     /// Stores closed as it drops the end, and takes whoever is registered in the writer's slot, in
-    /// one, since between these two steps there is no handle; then it calls that waker. What is
-    /// left of the reader comes back.
+    /// one, since between these two steps there is no handle; then it calls that waker. By then
+    /// the memory may be freed. What is left of the reader comes back.
     pub(crate) fn leave(self, call: StoreClosed<()>) -> FinishedReader
         ensures ring { result.told.consumed.names ≡ self.side.end.ring.names }
         ensures count { result.told.consumed.count ≡ length self.side.end.taken }

@@ -11,7 +11,7 @@ ghost use Rattle.piper.specs.Slots.{found_in, waker_in};
 ghost use Rattle.piper.specs.Ends.{WriterIsUpToDate, WriterRefreshed, WriterSaw, WriterPublished, WriterUnlent, WriterShut};
 
 use super::Writer;
-use crate::slots::Taken;
+use crate::taken::Taken;
 use futures::task::{Context, Poll, Waker};
 use piper_protocol::memory::OutOfMemory;
 use piper_protocol::steps::{HasWork, OfPoll, Store, StoreClosed, TakeOther};
@@ -209,8 +209,8 @@ impl Writer {
     }
 
     /// Stores closed as it drops the end, and takes whoever is registered in the reader's slot, in
-    /// one, since between these two steps there is no handle; then it calls that waker. What is
-    /// left of the writer comes back.
+    /// one, since between these two steps there is no handle; then it calls that waker. By then
+    /// the memory may be freed. What is left of the writer comes back.
     pub(crate) fn leave(self, call: StoreClosed<()>) -> FinishedWriter
         ensures ring { result.told.names ≡ self.side.end.ring.names }
         ensures bytes { result.told.bytes ≡ self.side.end.sent }

@@ -7,19 +7,19 @@ use Rattle.piper.proofs.handles.Writer.fill_waiting.Goals as goal
 
 pub returns-in-Err-Closed-clause-filled : goal.returns-in-Err-Closed-clause-filled
 returns-in-Err-Closed-clause-filled g c =
-    fills_none _ _ _ (Ready (Ok 0)) _ _ _ c.poll_inner.ensures.looked (g.met.R.ReadLike.gives_nothing _, refl) (inr (search rules))
+    fills_none _ _ _ (Ready (Ok 0)) _ _ _ c.look_for_copy.ensures.looked (g.met.R.ReadLike.gives_nothing _, refl) (inr (search rules))
 
 pub returns-in-Err-Pending-clause-filled : goal.returns-in-Err-Pending-clause-filled
 returns-in-Err-Pending-clause-filled g c =
-    fills_none _ _ _ Pending _ _ _ c.poll_inner.ensures.looked (refl, refl) tt
+    fills_none _ _ _ Pending _ _ _ c.look_for_copy.ensures.looked (refl, refl) tt
 
 pub returns-in-Err-Refused-clause-filled : goal.returns-in-Err-Refused-clause-filled
 returns-in-Err-Refused-clause-filled g c =
-    fills_none _ _ _ (Ready (Err Memory)) _ _ _ c.poll_inner.ensures.looked (refl, refl) tt
+    fills_none _ _ _ (Ready (Err Memory)) _ _ _ c.look_for_copy.ensures.looked (refl, refl) tt
 
 pub returns-then-take_own_and_draw-clause-filled : goal.returns-then-take_own_and_draw-clause-filled
 returns-then-take_own_and_draw-clause-filled g c =
-    rw c.take_own_and_draw.ensures.end (fills_none _ _ _ Pending _ _ _ c.poll_inner.ensures.looked (refl, refl) tt)
+    rw c.take_own_and_draw.ensures.end (fills_none _ _ _ Pending _ _ _ c.look_for_copy.ensures.looked (refl, refl) tt)
 
 pub returns-in-Err-Closed-clause-failures : goal.returns-in-Err-Closed-clause-failures
 returns-in-Err-Closed-clause-failures g c = refl
