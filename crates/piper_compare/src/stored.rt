@@ -1,4 +1,5 @@
 //! The stored scripts: their files, and how many of them give the answers that they should.
+ghost use Rattle.std.specs.Prelude.{◌≡◌, ◌↔◌, IsTrue};
 
 use crate::vector::{Played, Vector, arguments_of, gives_its_answers, replay_on_handles};
 use anyhow::Context;
@@ -62,7 +63,11 @@ impl Tally {
         }
     }
 
-    fn is_alike(&self) -> bool {
+    // Whether no answer differed, of the machine or of the handles.
+    fn is_alike(&self) -> bool
+        ensures { IsTrue result ↔
+            (self.now.alike ≡ self.now.all) × (self.now.otherwise_on_handles ≡ 0) }
+    {
         self.alike == self.all && self.otherwise_on_handles == 0
     }
 }

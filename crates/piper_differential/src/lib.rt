@@ -1,6 +1,7 @@
 //! Plays scripts of whole calls on the handles of a pipe, alone or beside the pure machine.
 #![tactic(auto)]
 
+mod calls;
 mod draws;
 mod ends;
 mod halt;
@@ -8,7 +9,5 @@ mod hands;
 pub mod modes;
 mod pair;
 mod random;
-mod reading;
 mod tasks;
 mod twin;
-mod writing;

@@ -1,9 +1,9 @@
 //! Both handles of a pipe held by one thread, and who is woken by their calls.
 
+use crate::calls::{read_as_task, read_at_once, write_as_task, write_at_once};
 use crate::draws::Draws;
 use crate::halt::Halt;
 use crate::tasks::{Tasks, rest};
-use crate::{reading, writing};
 use futures::test::MockTask;
 use piper::{OwnedReader, OwnedWriter, pipe};
 use piper_protocol::answer::{Answer, Polled};
@@ -134,9 +134,9 @@ impl Pair {
 
     fn at_once(&mut self, call: &Call, dest: &mut [u8]) -> Result<Answer, Halt> {
         match (call.side(), &mut self.reader, &mut self.writer) {
-            (Side::Reader, Some(owned), _) => reading::at_once(owned.get_mut(), call, dest),
+            (Side::Reader, Some(owned), _) => read_at_once(owned.get_mut(), call, dest),
             (Side::Writer, _, Some(owned)) => {
-                writing::at_once(owned.get_mut(), &mut self.lent, call)
+                write_at_once(owned.get_mut(), &mut self.lent, call)
             }
             _ => Err(Refusal::Dropped.into()),
         }
@@ -154,11 +154,11 @@ impl Pair {
         let answer = match (call.side(), &mut self.reader, &mut self.writer) {
             (Side::Reader, Some(owned), _) => {
                 let task = self.reading.of(rt, context.waker)?;
-                reading::as_task(owned.get_mut(), task, call, dest)?
+                read_as_task(owned.get_mut(), task, call, dest)?
             }
             (Side::Writer, _, Some(owned)) => {
                 let task = self.writing.of(rt, context.waker)?;
-                writing::as_task(owned.get_mut(), &mut self.lent, task, call)?
+                write_as_task(owned.get_mut(), &mut self.lent, task, call)?
             }
             _ => return Err(Refusal::Dropped.into()),
         };

@@ -1,4 +1,5 @@
 //! Plays commands on the handles and on the machine, and holds the answers against each other.
+ghost use Rattle.std.specs.Prelude.{◌≡◌, IfOk};
 
 use crate::halt::{Halt, finish};
 use crate::hands::Hands;
@@ -44,7 +45,10 @@ impl<H: RandomSource + AllocGlobal + Drop> Twin<H> {
     }
 
     /// Plays a line on both.
-    pub fn play(&mut self, number: u64, line: &[u8]) -> Result<Compared, Stop> {
+    pub fn play(&mut self, number: u64, line: &[u8]) -> Result<Compared, Stop>
+        ensures alike { IfOk result (λ compared.
+            compared ≡ Compared.Alike → self.new.machine ≡ self.new.handles) }
+    {
         self.machine.clear();
         self.handles.clear();
         let command = match parse(line) {

@@ -2,10 +2,9 @@
 
 use crate::halt::Halt;
 use crate::plan::Plan;
-use crate::reading::Reading;
+use crate::sides::{Reading, Writing};
 use crate::sleeping::play_side;
 use crate::watch::{Fault, Watch};
-use crate::writing::Writing;
 use piper::{OwnedReader, OwnedWriter, pipe};
 use std::alloc::{AllocGlobal, Global};
 use std::marker::Send;

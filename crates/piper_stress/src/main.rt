@@ -6,10 +6,9 @@ mod game;
 mod halt;
 mod hunt;
 mod plan;
-mod reading;
+mod sides;
 mod sleeping;
 mod watch;
-mod writing;
 
 use halt::Halt;
 use hunt::{Hunt, Outcome};

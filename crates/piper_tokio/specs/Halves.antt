@@ -2,8 +2,8 @@
 use Rattle.piper.specs.declared.handles.Reader.{Reader}
 use Rattle.piper.specs.declared.handles.Writer.{Writer}
 use Rattle.piper_tokio.specs.declared.end.CompatEnd.{CompatEnd}
-use Rattle.piper_tokio.specs.declared.reader.CompatReader.{CompatReader}
-use Rattle.piper_tokio.specs.declared.writer.CompatWriter.{CompatWriter}
+use Rattle.piper_tokio.specs.declared.halves.CompatReader.{CompatReader}
+use Rattle.piper_tokio.specs.declared.halves.CompatWriter.{CompatWriter}
 
 -- the half that reads, and its handle
 abbrev pub read_half : CompatEnd → CompatReader

@@ -5,8 +5,8 @@ use Rattle.piper.specs.OfReader.{front, known}
 use Rattle.piper.specs.ReaderCalls.{AtEnd}
 use Rattle.piper.specs.declared.handles.Reader.{Reader}
 use Rattle.piper.specs.declared.handles.Writer.{Writer}
-use Rattle.piper_tokio.specs.declared.reader.CompatReader.{CompatReader}
-use Rattle.piper_tokio.specs.declared.writer.CompatWriter.{CompatWriter}
+use Rattle.piper_tokio.specs.declared.halves.CompatReader.{CompatReader}
+use Rattle.piper_tokio.specs.declared.halves.CompatWriter.{CompatWriter}
 
 -- the handles
 abbrev pub handle_of : CompatReader → Reader

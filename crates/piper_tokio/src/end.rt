@@ -18,8 +18,7 @@ ghost use Rattle.piper_tokio.specs.Passing.{Took, Gave, WantsMemory, inner_of_io
 ghost use Rattle.piper_tokio.specs.Shown.{shown_by, ShowsFront};
 ghost use Rattle.piper_tokio.specs.PassingLaws.{took_nothing, took_in_order, gave_nothing, gave_in_order};
 
-use crate::reader::CompatReader;
-use crate::writer::CompatWriter;
+use crate::halves::{CompatReader, CompatWriter};
 use futures::task::{Context, Poll};
 use piper_duplex::End;
 use std::io;

@@ -12,9 +12,7 @@
 #![tactic(auto)]
 
 mod end;
-mod reader;
-mod writer;
+mod halves;
 
 pub use end::CompatEnd;
-pub use reader::CompatReader;
-pub use writer::CompatWriter;
+pub use halves::{CompatReader, CompatWriter};

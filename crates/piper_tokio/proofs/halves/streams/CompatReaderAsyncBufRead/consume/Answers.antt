@@ -2,7 +2,7 @@ use Rattle.std.proofs.Common.{◌≡◌, ◌+◌, ◌-◌, ◌≤◌, take, drop
 use Rattle.std.proofs.lemmas.List.{drop-take}
 use Rattle.piper.specs.ReadView.{in_one_piece}
 use Rattle.piper_tokio.proofs.Pieces.{rest_in_one_piece}
-use Rattle.piper_tokio.proofs.reader.streams.CompatReaderAsyncBufRead.consume.Goals as goal
+use Rattle.piper_tokio.proofs.halves.streams.CompatReaderAsyncBufRead.consume.Goals as goal
 
 pub invariant_of-self : goal.invariant_of-self
 invariant_of-self c =

@@ -1,7 +1,7 @@
 use Rattle.std.proofs.Common.{ap}
 use Rattle.tokio.specs.Io.Moved.{count_moved}
 use Rattle.piper_tokio.proofs.Fronts.{gave_front}
-use Rattle.piper_tokio.proofs.writer.CompatWriterAsyncWrite.poll_write.Goals as goal
+use Rattle.piper_tokio.proofs.halves.streams.CompatWriterAsyncWrite.poll_write.Goals as goal
 
 pub returns-in-Ready-Ok-clause-bytes : goal.returns-in-Ready-Ok-clause-bytes
 returns-in-Ready-Ok-clause-bytes c =

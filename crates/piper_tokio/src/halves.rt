@@ -1,10 +1,10 @@
-//! The handle that reads, for `tokio`.
+//! The two handles, for `tokio`.
 ghost use Rattle.std.specs.Prelude.{◌≤◌};
 ghost use Rattle.piper.specs.ReadView.{in_one_piece};
 
 mod streams;
 
-use piper::Reader;
+use piper::{Reader, Writer};
 
 /// The reading side of a pipe, as a reader of `tokio`. Where it is dropped it closes the pipe and
 /// wakes the writer.
@@ -21,5 +21,20 @@ impl Drop for CompatReader {
     fn drop(self) {
         let CompatReader { reader, shown: _ } = self;
         reader.drop();
+    }
+}
+
+/// The writing side of a pipe, as a writer of `tokio`. Where it is dropped it closes the pipe and
+/// wakes the reader.
+///
+/// In clauses, `writing` is its handle.
+pub struct CompatWriter {
+    writer: Writer,
+}
+
+impl Drop for CompatWriter {
+    fn drop(self) {
+        let CompatWriter { writer } = self;
+        writer.drop();
     }
 }
