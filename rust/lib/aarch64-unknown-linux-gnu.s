@@ -59,7 +59,7 @@
 	csinv	x9, x9, xzr, lo
 	cmp	x9, x1
 	csel	x1, x9, x1, lo
-.LBB1_3:                                // %"piper_protocol::write_indices::WriteIndices::lendable.exit.i"
+.LBB1_3:                                // %"piper_protocol::indices::WriteIndices::lendable.exit.i"
 	cmp	x8, x10
 	b.eq	.LBB1_5
 // %bb.4:                               // %then.1.i
@@ -67,12 +67,12 @@
 	cmp	x9, x8
 	csel	x9, x9, x8, hi
 	str	x9, [x0, #32]
-.LBB1_5:                                // %"piper_protocol::write_indices::WriteIndices::lend.exit"
+.LBB1_5:                                // %"piper_protocol::indices::WriteIndices::lend.exit"
 	cmp	x8, x10
 	add	x19, x11, #224
 	str	x1, [x0, #40]
 	b.eq	.LBB1_7
-// %bb.6:                               // %"piper_protocol::write_indices::WriteIndices::lend.exit"
+// %bb.6:                               // %"piper_protocol::indices::WriteIndices::lend.exit"
 	add	x9, x1, x20
 	cmp	x8, x9
 	b.lo	.LBB1_8

@@ -65,7 +65,7 @@
 	cmovaeq	%rcx, %r9
 	cmpq	%rdx, %r9
 	cmovbq	%r9, %rdx
-.LBB1_3:                                # %"piper_protocol::write_indices::WriteIndices::lendable.exit.i"
+.LBB1_3:                                # %"piper_protocol::indices::WriteIndices::lendable.exit.i"
 	cmpq	%r8, %rsi
 	je	.LBB1_5
 # %bb.4:                                # %then.1.i
@@ -73,12 +73,12 @@
 	cmpq	%rsi, %rcx
 	cmovbeq	%rsi, %rcx
 	movq	%rcx, 32(%rdi)
-.LBB1_5:                                # %"piper_protocol::write_indices::WriteIndices::lend.exit"
+.LBB1_5:                                # %"piper_protocol::indices::WriteIndices::lend.exit"
 	addq	(%rdi), %rax
 	movq	%rdx, 40(%rdi)
 	cmpq	%r8, %rsi
 	je	.LBB1_8
-# %bb.6:                                # %"piper_protocol::write_indices::WriteIndices::lend.exit"
+# %bb.6:                                # %"piper_protocol::indices::WriteIndices::lend.exit"
 	leaq	(%rdx,%rbx), %rcx
 	cmpq	%rcx, %rsi
 	jb	.LBB1_7

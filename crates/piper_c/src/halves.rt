@@ -7,6 +7,16 @@
 use crate::words::Waiter;
 use piper_ring::{ReadSide, WriteSide};
 
+/// What the drop of a side gives.
+pub(crate) struct Left<S> {
+    /// Who has to be woken.
+    pub(crate) wake: Option<Waiter>,
+    /// The words of its own that nobody took.
+    pub(crate) mine: Option<Waiter>,
+    /// What is left of the side.
+    pub(crate) side: S,
+}
+
 /// The side that reads.
 #[derive(Drop)]
 pub struct ReadHalf {

@@ -8,6 +8,7 @@ ghost use Rattle.piper_c.specs.Waiting.{HandedBack};
 ghost use Rattle.piper_c.specs.Handles.{Holds, HoldsOn};
 ghost use Rattle.piper_c.specs.Reading.{LeftReading, ReaderTold, ReaderSeen, ReaderAsked, ReaderConsumes, ReaderReads};
 
+use crate::halves::Left;
 use crate::handles::PiperReader;
 use crate::lending::address;
 use crate::outcome::{Outcome, PiperPolled, PiperSeen, Polled};
@@ -168,7 +169,11 @@ pub extern "C" fn piper_reader_drop(alloc: Global, reader: &mut PiperReader) -> 
         result.wake.vtable ≡ 0 → FoundWaiter a.side.end.ring.names 0) }
 {
     let half = Box::into_inner(reader.take(alloc));
-    let (wake, mine, _left) = half.leave();
+    let Left {
+        wake,
+        mine,
+        side: _,
+    } = half.leave();
     PiperLeft {
         wake: Waiter::hand_out(wake),
         mine: Waiter::hand_out(mine),

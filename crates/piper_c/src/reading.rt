@@ -2,7 +2,7 @@
 ghost use Rattle.std.specs.Prelude.{◌≡◌, [], ◌<◌, ◌≤◌, ◌++◌, ◌+◌, length, take, drop, IsSome, Some, None, true, false};
 ghost use Rattle.piper_ring.specs.ReadView.{in_one_piece};
 
-use crate::halves::ReadHalf;
+use crate::halves::{Left, ReadHalf};
 use crate::outcome::{Outcome, Polled};
 use crate::words::{Waiter, for_gone, to_wake};
 use piper_protocol::read_steps::{LookClosed, knows_byte, knows_none};
@@ -190,18 +190,22 @@ impl ReadHalf {
 
     /// Closes the pipe and drops this side. Returns who has to be woken, the words of its own that
     /// nobody took, and what is left of its slots: the writer's was checked after the close.
-    pub(crate) fn leave(self) -> (Option<Waiter>, Option<Waiter>, FinishedReader)
-        ensures left { LeftReading self result.0 result.2.slots }
-        ensures leaves { HasLeft self result.0 result.1 result.2.slots }
-        ensures mine { TookBack result.1
+    pub(crate) fn leave(self) -> Left<FinishedReader>
+        ensures left { LeftReading self result.wake result.side.slots }
+        ensures leaves { HasLeft self result.wake result.mine result.side.slots }
+        ensures mine { TookBack result.mine
             self.side.slots.names self.side.slots.owns self.side.slots.tickets }
-        ensures nobody { result.0 ≡ None → FoundWaiter self.side.end.ring.names 0 }
+        ensures nobody { result.wake ≡ None → FoundWaiter self.side.end.ring.names 0 }
     {
         let ReadHalf { mut side } = self;
         let mine = side.cancel();
         let call = dropping();
         let Finished { side, taken, left } = side.finish();
         for_gone(left);
-        (to_wake(call.stored(), taken), mine, side)
+        Left {
+            wake: to_wake(call.stored(), taken),
+            mine,
+            side,
+        }
     }
 }

@@ -9,6 +9,7 @@ ghost use Rattle.piper_c.specs.Handles.{Holds, HoldsOn, IsWholeWriter};
 ghost use Rattle.piper_c.specs.Writing.{LeftWriting, WriterTold, WriterSeen, WriterAsked, WriterWrites, WriterCloses, WriterEnds};
 ghost use Rattle.piper_c.specs.Lending.{LendsOut, IsLoanOf, IsWithin, IsWhole, WriterOffers, WriterGoesOn};
 
+use crate::halves::Left;
 use crate::handles::{PiperRoom, PiperWriter};
 use crate::lending::{lend_out, reclaim_room};
 use crate::outcome::{Outcome, PiperNext, PiperPolled, PiperSeen, Polled};
@@ -154,7 +155,11 @@ pub extern "C" fn piper_writer_drop(alloc: Global, writer: &mut PiperWriter) -> 
         result.wake.vtable ≡ 0 → FoundWaiter a.side.end.ring.names 0) }
 {
     let half = Box::into_inner(writer.take(alloc));
-    let (wake, mine, _left) = half.leave();
+    let Left {
+        wake,
+        mine,
+        side: _,
+    } = half.leave();
     PiperLeft {
         wake: Waiter::hand_out(wake),
         mine: Waiter::hand_out(mine),

@@ -1,7 +1,7 @@
 //! The calls of the side that writes. Each makes its steps in the order of the call table.
 ghost use Rattle.std.specs.Prelude.{◌≡◌, [], ◌<◌, ◌≤◌, ◌++◌, ◌+◌, length, take, drop, IsSome, Some, None, true, false};
 
-use crate::halves::WriteHalf;
+use crate::halves::{Left, WriteHalf};
 use crate::outcome::{Outcome, Polled};
 use crate::words::{Waiter, for_gone, to_wake, to_wake_own};
 use piper_protocol::steps::{HasWork, OfPoll, dropping, storing};
@@ -219,18 +219,22 @@ impl WriteHalf {
 
     /// Closes the pipe and drops this side. Returns who has to be woken, the words of its own that
     /// nobody took, and what is left of its slots: the reader's was checked after the close.
-    pub(crate) fn leave(self) -> (Option<Waiter>, Option<Waiter>, FinishedWriter)
-        ensures left { LeftWriting self result.0 result.2.slots }
-        ensures leaves { HasLeft self result.0 result.1 result.2.slots }
-        ensures mine { TookBack result.1
+    pub(crate) fn leave(self) -> Left<FinishedWriter>
+        ensures left { LeftWriting self result.wake result.side.slots }
+        ensures leaves { HasLeft self result.wake result.mine result.side.slots }
+        ensures mine { TookBack result.mine
             self.side.slots.names self.side.slots.owns self.side.slots.tickets }
-        ensures nobody { result.0 ≡ None → FoundWaiter self.side.end.ring.names 0 }
+        ensures nobody { result.wake ≡ None → FoundWaiter self.side.end.ring.names 0 }
     {
         let WriteHalf { mut side } = self;
         let mine = side.cancel();
         let call = dropping();
         let Finished { side, taken, left } = side.finish();
         for_gone(left);
-        (to_wake(call.stored(), taken), mine, side)
+        Left {
+            wake: to_wake(call.stored(), taken),
+            mine,
+            side,
+        }
     }
 }
