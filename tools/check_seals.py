@@ -67,7 +67,7 @@ SEALS = {
         "piper/specs/Waits",
         [f"piper/proofs/handles/{handle}/leave" for handle in ("Reader", "Writer")],
     ),
-    "just_registered": ("piper/specs/Contexts", ["piper/proofs/slots/Taken/grant"]),
+    "just_registered": ("piper/specs/Contexts", ["piper/proofs/taken/Taken/grant"]),
     "as_read": ("piper/specs/StdEnds", ["piper/proofs/like/std_ends/std_read"]),
     "as_written": ("piper/specs/StdEnds", ["piper/proofs/like/std_ends/std_write"]),
     "as_flushed": ("piper/specs/StdEnds", ["piper/proofs/like/std_ends/std_flush"]),
