@@ -17,6 +17,16 @@ IsOfStream word = (t : List ℕ) → word ≡ Some t → t ≡ codes "-"
 abbrev pub IsAfter : List ℕ → List ℕ → Untaken → Type 0
 IsAfter option text word = (word.option.now ≡ option) × (word.text.now ≡ text)
 
+-- the text writes no number in this way
+abbrev pub WritesNone : (List ℕ → ℕ → Type 0) → List ℕ → Type 0
+WritesNone Writes text = (n : ℕ) → Writes text n → ⊥
+
+-- after this option comes a text that writes no number in this way
+abbrev pub IsRefused :
+    List ℕ → (List ℕ → ℕ → Type 0) → Option (List ℕ) → Untaken → Type 0
+IsRefused option Writes word refused =
+    IsSomeAnd word (λ text. WritesNone Writes text × IsAfter option text refused)
+
 -- the text writes how many bytes come: a size, or none
 abbrev pub IsTotalOf : List ℕ → ℕ → Type 0
 IsTotalOf text n = IsSizeOf text n ⊎ ((text ≡ codes "0") × (n ≡ 0))

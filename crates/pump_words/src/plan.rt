@@ -1,9 +1,9 @@
 //! What is done, from what the words ask for: the rate, the size and the level in numbers, and
 //! whether there is an input and an output.
-ghost use Rattle.std.specs.Prelude.{◌≡◌, ◌≢◌, ◌≤◌, Some, None, IfErr, IfOk, OnOk, IfNone, IfSome, codes};
+ghost use Rattle.std.specs.Prelude.{◌≡◌, ◌≢◌, ◌≤◌, ◌⊎◌, Some, None, IfErr, IfOk, OnOk, IfNone, IfSome, codes};
 ghost use Rattle.std.specs.List.{All};
 ghost use Rattle.pump_words.specs.Arguments.{IsSizeOf, text_in};
-ghost use Rattle.pump_words.specs.Plan.{IsAfter, IsLevelOf, IsPercent, IsRead, IsTotalOf, level_of};
+ghost use Rattle.pump_words.specs.Plan.{IsAfter, IsLevelOf, IsPercent, IsRead, IsRefused, IsTotalOf, WritesNone, level_of};
 
 use crate::arguments::Texts;
 use crate::size::parse_size;
@@ -45,6 +45,10 @@ pub fn numbers_of<'a>(capacity: usize, texts: Texts<'a>) -> Result<Numbers, Unta
         IsLevelOf capacity (text_in texts.entry.start_at) n.level) }
     ensures rate { IfOk result (λ n. IsRead IsSizeOf (text_in texts.entry.rate) n.rate) }
     ensures total { IfOk result (λ n. IsRead IsTotalOf (text_in texts.entry.size) n.total) }
+    ensures refused { IfErr result (λ word.
+        IsRefused (codes "--rate <N>") IsSizeOf (text_in texts.entry.rate) word
+        ⊎ IsRefused (codes "--size <N>") IsTotalOf (text_in texts.entry.size) word
+        ⊎ IsRefused (codes "--start-at <N>") IsPercent (text_in texts.entry.start_at) word) }
 {
     let rate = match texts.rate {
         Some(text) => Some(size(text)?),
@@ -71,6 +75,7 @@ fn level(capacity: usize, percent: u8) -> usize
 // How many bytes may pass in a second.
 fn size<'a>(text: &'a str) -> Result<usize, Untaken<'a>>
     ensures named { IfErr result (IsAfter (codes "--rate <N>") text.now) }
+    ensures refused { IfErr result (λ _. WritesNone IsSizeOf text.now) }
     ensures read { IfOk result (IsSizeOf text.now) }
 {
     match parse_size(text) {
@@ -86,6 +91,7 @@ fn size<'a>(text: &'a str) -> Result<usize, Untaken<'a>>
 // How many bytes come: a size, or none.
 fn total<'a>(text: &'a str) -> Result<u64, Untaken<'a>>
     ensures named { IfErr result (IsAfter (codes "--size <N>") text.now) }
+    ensures refused { IfErr result (λ _. WritesNone IsTotalOf text.now) }
     ensures read { IfOk result (IsTotalOf text.now) }
 {
     if text == "0" {
@@ -104,6 +110,7 @@ fn total<'a>(text: &'a str) -> Result<u64, Untaken<'a>>
 // From 0 to 100.
 fn percent<'a>(text: &'a str) -> Result<u8, Untaken<'a>>
     ensures named { IfErr result (IsAfter (codes "--start-at <N>") text.now) }
+    ensures refused { IfErr result (λ _. WritesNone IsPercent text.now) }
     ensures read { IfOk result (IsPercent text.now) }
 {
     match text.parse::<u8>() {
