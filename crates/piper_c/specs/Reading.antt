@@ -53,7 +53,8 @@ pub record ReaderLooked (a b : ReadHalf) : Type 0 where
 -- leaves none where a byte was known, and none stay there where it found one
 pub record ReaderGotBack (mine : Waiter) (p : Polled) (a b : ReadHalf) : Type 0 where
   pub words :
-      GotBack mine p a.side.slots.owns b.side.slots.owns a.side.slots.tickets b.side.slots.tickets
+      GotBack mine p a.side.slots.names a.side.slots.owns b.side.slots.owns
+      a.side.slots.tickets b.side.slots.tickets
   pub known : 0 < length a.side.end.known → b.side.slots.tickets ≡ a.side.slots.tickets
   pub ready : p.outcome ≡ Ready → b.side.slots.maybe_registered ≡ false
   pub again : p.outcome ≡ Again → b.side.slots ≡ record a.side.slots { maybe_registered = false }
@@ -69,7 +70,7 @@ pub record ReaderConsumed (a b : ReadView) : Type 0 where
 -- exactly where it took a ticket of the writer's
 pub record TookWriter (taken : Option Waiter) (old : ReadSlotsView) (b : ReadHalf) : Type 0 where
   pub rests : IsReaderAtRest b.side.end b.side.slots
-  pub took : Took taken old.taken b.side.slots.taken
+  pub took : Took taken old.names old.taken b.side.slots.taken
   pub own : SameReaderPlace old b.side.slots
 
 -- after the close by which a left, the writer's slot was checked: words come out exactly
@@ -77,7 +78,7 @@ pub record TookWriter (taken : Option Waiter) (old : ReadSlotsView) (b : ReadHal
 pub record LeftReading (a : ReadHalf) (taken : Option Waiter) (left : ReadSlotsView) : Type 0 where
   pub count : left.count ≡ length a.side.end.taken
   pub over : left.over ≡ true
-  pub took : Took taken a.side.slots.taken left.taken
+  pub took : Took taken a.side.slots.names a.side.slots.taken left.taken
 
 -- the pipe was checked for its end: what the answer says was seen, and what was seen once stays
 pub record ReaderAsked (is_closed : Bool) (a b : ReadHalf) : Type 0 where
@@ -119,7 +120,7 @@ pub record ReaderTold (mine : PiperWords) (p : PiperPolled) (a b : ReadHalf) : T
 -- it took a ticket of the writer's
 pub record WakesWriter (wake : PiperWords) (old : ReadSlotsView) (b : ReadHalf) : Type 0 where
   pub rests : IsReaderAtRest b.side.end b.side.slots
-  pub took : HandedOut wake old.taken b.side.slots.taken
+  pub took : HandedOut wake old.names old.taken b.side.slots.taken
   pub own : SameReaderPlace old b.side.slots
 
 -- n bytes were taken, from the front of those that the reader knows of

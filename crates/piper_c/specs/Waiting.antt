@@ -16,23 +16,25 @@ abbrev pub IsOut : Option Waiter → PiperWords → Type 0
 IsOut None out = out.vtable ≡ 0
 IsOut (Some waiter) out = out ≡ waiter.words
 
--- a poll gives back the words that it took out of its slot, and those that it didn't leave: whether
--- the side has the place of its words, and how often it registered, before the poll and after
-pub record GotBack (mine : Waiter) (p : Polled) (had has : Bool) (old new : ℕ) : Type 0 where
+-- a poll gives back the words that it took out of its slot in this ring, and those that it didn't
+-- leave: whether the side has the place of its words, and how often it registered, before the poll and
+-- after
+pub record GotBack
+    (mine : Waiter) (p : Polled) (names : Names) (had has : Bool) (old new : ℕ) : Type 0 where
   -- its words are left once, or not at all
   pub once : (new ≡ old) ⊎ (new ≡ old + 1)
   -- words of an earlier poll come only out of the slot
-  pub before : IsSome p.before → (had ≡ false) × WasTakenBack had old p.before
+  pub before : IsSome p.before → (had ≡ false) × WasTakenBack names had old p.before
   -- where none come out and none are left, the slot is as it was
   pub same : new ≡ old → p.before ≡ None → has ≡ had
   -- what is replaced there comes out
-  pub came : new ≡ old + 1 → CameBack had p.before × WasTakenBack had old p.before
+  pub came : new ≡ old + 1 → CameBack had p.before × WasTakenBack names had old p.before
   -- words that were not left come back
   pub kept : new ≡ old → p.mine ≡ Some mine
   -- and no others are left
-  pub left : new ≡ old + 1 → WasPut new mine
+  pub left : new ≡ old + 1 → WasPut names new mine
   -- words that were left come back only out of the slot
-  pub back : new ≡ old + 1 → IsSome p.mine → (has ≡ true) × WasTakenBack false new p.mine
+  pub back : new ≡ old + 1 → IsSome p.mine → (has ≡ true) × WasTakenBack names false new p.mine
   -- and those that came out of it come back
   pub out : new ≡ old + 1 → p.mine ≡ None → has ≡ false
   -- they are left only where the outcome reports it
@@ -44,23 +46,23 @@ pub record IsTold (polled : Polled) (p : PiperPolled) : Type 0 where
   pub before : IsOut polled.before p.before
   pub mine : IsOut polled.mine p.mine
 
--- a check of the other side's slot: words come of it exactly where it took a ticket, the last one
+-- a check of the other side's slot in this ring: words come of it exactly where it took a ticket, the last one
 -- being `old` before and `new` after, and they are those that lay in the place
-pub record Took (taken : Option Waiter) (old new : ℕ) : Type 0 where
+pub record Took (taken : Option Waiter) (names : Names) (old new : ℕ) : Type 0 where
   pub none : taken ≡ None → new ≡ old
   pub some : IsSome taken → old < new
-  pub words : IsSome taken → WasTaken old new taken
+  pub words : IsSome taken → WasTaken names old new taken
 
 -- C got the words that came of such a check
-pub record HandedOut (wake : PiperWords) (old new : ℕ) : Type 0 where
+pub record HandedOut (wake : PiperWords) (names : Names) (old new : ℕ) : Type 0 where
   pub taken : Option Waiter
-  pub took : Took taken old new
+  pub took : Took taken names old new
   pub out : IsOut taken wake
 
 -- a side that closes the pipe or leaves it takes its own words back: whether it had the place of
 -- its words, and how often it had registered
 pub record TookBack (mine : Option Waiter) (names : Names) (had : Bool) (tickets : ℕ) : Type 0 where
-  pub some : IsSome mine → (had ≡ false) × WasTakenBack had tickets mine
+  pub some : IsSome mine → (had ≡ false) × WasTakenBack names had tickets mine
   pub none : mine ≡ None → IsUnregistered names had
 
 -- C got the words that were taken back so

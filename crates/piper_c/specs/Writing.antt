@@ -51,7 +51,8 @@ pub record WriterLooked (a b : WriteHalf) : Type 0 where
 -- found room
 pub record WriterGotBack (mine : Waiter) (p : Polled) (a b : WriteHalf) : Type 0 where
   pub words :
-      GotBack mine p a.side.slots.owns b.side.slots.owns a.side.slots.tickets b.side.slots.tickets
+      GotBack mine p a.side.slots.names a.side.slots.owns b.side.slots.owns
+      a.side.slots.tickets b.side.slots.tickets
   pub known : 0 < a.side.end.room → b.side.slots.tickets ≡ a.side.slots.tickets
   pub closed : a.side.end.saw ≡ true → b.side.slots.tickets ≡ a.side.slots.tickets
   pub ready : p.outcome ≡ Ready → b.side.slots.maybe_registered ≡ false
@@ -68,13 +69,13 @@ pub record WriterPublished (a b : WriteView) : Type 0 where
 -- exactly where it took a ticket of the reader's
 pub record TookReader (taken : Option Waiter) (old : WriteSlotsView) (b : WriteHalf) : Type 0 where
   pub rests : IsAtRest b.side.end b.side.slots
-  pub took : Took taken old.taken b.side.slots.taken
+  pub took : Took taken old.names old.taken b.side.slots.taken
   pub own : SameWriterPlace old b.side.slots
 
 -- the same in a close, which takes the writer's own words back, too, and leaves none
 pub record TookReaderLast (taken : Option Waiter) (old : WriteSlotsView) (b : WriteHalf) : Type 0 where
   pub rests : IsAtRest b.side.end b.side.slots
-  pub took : Took taken old.taken b.side.slots.taken
+  pub took : Took taken old.names old.taken b.side.slots.taken
   pub own : b.side.slots.tickets ≡ old.tickets
 
 -- after the close by which a left, the reader's slot was checked: words come out exactly
@@ -82,7 +83,7 @@ pub record TookReaderLast (taken : Option Waiter) (old : WriteSlotsView) (b : Wr
 pub record LeftWriting (a : WriteHalf) (taken : Option Waiter) (left : WriteSlotsView) : Type 0 where
   pub bytes : left.bytes ≡ a.side.end.sent
   pub shut : left.shut ≡ true
-  pub took : Took taken a.side.slots.taken left.taken
+  pub took : Took taken a.side.slots.names a.side.slots.taken left.taken
 
 -- the pipe was checked for its end: what the answer says was seen, and what was seen once stays
 pub record WriterAsked (is_closed : Bool) (a b : WriteHalf) : Type 0 where
@@ -133,7 +134,7 @@ pub record WriterTold (mine : PiperWords) (p : PiperPolled) (a b : WriteHalf) : 
 -- it took a ticket of the reader's
 pub record WakesReader (wake : PiperWords) (old : WriteSlotsView) (b : WriteHalf) : Type 0 where
   pub rests : IsAtRest b.side.end b.side.slots
-  pub took : HandedOut wake old.taken b.side.slots.taken
+  pub took : HandedOut wake old.names old.taken b.side.slots.taken
   pub own : SameWriterPlace old b.side.slots
 
 pub record WriterWrites (from : List ℕ) (moved : PiperMoved) (a b : WriteHalf) : Type 0 where
@@ -149,7 +150,7 @@ pub record WriterCloses (left : PiperLeft) (a b : WriteHalf) : Type 0 where
   pub end : SameWriteEnd a.side.end b.side.end
   pub sent : b.side.end.sent ≡ a.side.end.sent
   pub rests : IsAtRest b.side.end b.side.slots
-  pub took : HandedOut left.wake a.side.slots.taken b.side.slots.taken
+  pub took : HandedOut left.wake a.side.slots.names a.side.slots.taken b.side.slots.taken
   pub mine : HandedBack left.mine a.side.slots.names a.side.slots.owns a.side.slots.tickets
   pub own : b.side.slots.tickets ≡ a.side.slots.tickets
   pub places : b.side.cells ≡ a.side.cells

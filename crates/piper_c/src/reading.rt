@@ -62,7 +62,8 @@ impl ReadHalf {
         ensures looked { ReaderLooked self.old self.new }
         ensures before { result.before ≡ before }
         ensures back { IsSome result.mine → (self.new.side.slots.owns ≡ true)
-            × WasTakenBack false self.new.side.slots.tickets result.mine }
+            × WasTakenBack self.old.side.slots.names false
+            self.new.side.slots.tickets result.mine }
         ensures out { result.mine ≡ None → self.new.side.slots.owns ≡ false }
         ensures pending { result.outcome ≡ Outcome.Pending → result.mine ≡ None }
         ensures ready { result.outcome ≡ Outcome.Ready →
@@ -99,7 +100,8 @@ impl ReadHalf {
         ensures back { IsSome result →
             (self.old.side.slots.owns ≡ false) × (self.new.side.slots.owns ≡ true) }
         ensures out { IsSome result →
-            WasTakenBack self.old.side.slots.owns self.old.side.slots.tickets result }
+            WasTakenBack self.old.side.slots.names
+            self.old.side.slots.owns self.old.side.slots.tickets result }
         ensures none { result ≡ None → self.new.side.slots.owns ≡ self.old.side.slots.owns }
         ensures leaves { self.new.side.slots.maybe_registered ≡ false }
         ensures kept { self.new.side.slots ≡ record self.old.side.slots

@@ -41,19 +41,19 @@ IsAway names = FoundBack names 0 × FoundFlag names 0
 pub CameBack : {T : Type 0} → Bool → Option T → Type 0
 CameBack had waker = ⊤
 
--- a side registered under this ticket, and this waker lay in its place then
-pub WasPut : {T : Type 0} → ℕ → T → Type 0
-WasPut ticket waker = ⊤
+-- a side of this ring registered under this ticket, and this waker lay in its place then
+pub WasPut : {T : Type 0} → Names → ℕ → T → Type 0
+WasPut names ticket waker = ⊤
 
--- a side that had its place or not, and had registered so often, took back what lay there: this
--- waker, or none
-pub WasTakenBack : {T : Type 0} → Bool → ℕ → Option T → Type 0
-WasTakenBack had tickets waker = ⊤
+-- a side of this ring that had its place or not, and had registered so often, took back what lay
+-- there: this waker, or none
+pub WasTakenBack : {T : Type 0} → Names → Bool → ℕ → Option T → Type 0
+WasTakenBack names had tickets waker = ⊤
 
--- a check of the other side's slot took the ticket `new`, where the last one was `old`, and got
--- this waker with it, or none
-pub WasTaken : {T : Type 0} → ℕ → ℕ → Option T → Type 0
-WasTaken old new waker = ⊤
+-- a check of the other side's slot of this ring took the ticket `new`, where the last one was `old`,
+-- and got this waker with it, or none
+pub WasTaken : {T : Type 0} → Names → ℕ → ℕ → Option T → Type 0
+WasTaken names old new waker = ⊤
 
 -- an end left: the word of leaving, which it swapped, was so: 1 where the other end had left
 pub FoundGone : Names → ℕ → Type 0
@@ -79,18 +79,19 @@ pub as_back : {T : Type 0} (had : Bool) (waker : Option T) → CameBack had wake
 unfolding CameBack
 as_back had waker = tt
 
-pub as_put : {T : Type 0} (ticket : ℕ) (waker : T) → WasPut ticket waker
+pub as_put : {T : Type 0} (names : Names) (ticket : ℕ) (waker : T) → WasPut names ticket waker
 unfolding WasPut
-as_put ticket waker = tt
+as_put names ticket waker = tt
 
-pub as_taken_back : {T : Type 0} (had : Bool) (tickets : ℕ) (waker : Option T)
-    → WasTakenBack had tickets waker
+pub as_taken_back : {T : Type 0} (names : Names) (had : Bool) (tickets : ℕ) (waker : Option T)
+    → WasTakenBack names had tickets waker
 unfolding WasTakenBack
-as_taken_back had tickets waker = tt
+as_taken_back names had tickets waker = tt
 
-pub as_taken : {T : Type 0} (old new : ℕ) (waker : Option T) → WasTaken old new waker
+pub as_taken : {T : Type 0} (names : Names) (old new : ℕ) (waker : Option T)
+    → WasTaken names old new waker
 unfolding WasTaken
-as_taken old new waker = tt
+as_taken names old new waker = tt
 
 pub as_gone : (names : Names) (gone : ℕ) → FoundGone names gone
 unfolding FoundGone

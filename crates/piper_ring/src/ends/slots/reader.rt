@@ -52,7 +52,8 @@ impl<T> ReadSide<T> {
             self.new.slots ≡ record self.old.slots { owns = true; maybe_registered = false } }
         ensures none { result ≡ None →
             self.new.slots ≡ record self.old.slots { maybe_registered = false } }
-        ensures out { WasTakenBack self.old.slots.owns self.old.slots.tickets result }
+        ensures out { WasTakenBack self.old.slots.names
+            self.old.slots.owns self.old.slots.tickets result }
         ensures found { result ≡ None → IsUnregistered self.old.slots.names self.old.slots.owns }
         ensures rest { (self.new.end ≡ self.old.end) × (self.new.cells ≡ self.old.cells) }
     {
@@ -78,7 +79,8 @@ impl<T> ReadSide<T> {
             self.new.slots ≡ record self.old.slots { owns = true; maybe_registered = false }) }
         ensures found { IfOk result (λ waker. IsSome waker → self.old.slots.owns ≡ false) }
         ensures back { IfOk result (CameBack self.old.slots.owns) }
-        ensures out { IfOk result (WasTakenBack self.old.slots.owns self.old.slots.tickets) }
+        ensures out { IfOk result (WasTakenBack self.old.slots.names
+            self.old.slots.owns self.old.slots.tickets) }
         ensures away { IfErr result (λ _.
             (self.old.slots.owns ≡ false) × IsAway self.old.slots.names) }
         ensures none { IfErr result (λ _.
@@ -124,7 +126,7 @@ impl<T> ReadSide<T> {
     /// writer's next look finds it.
     pub fn publish_waker(&mut self, waker: T)
         requires { self.old.slots.owns ≡ true }
-        ensures put { WasPut self.new.slots.tickets waker }
+        ensures put { WasPut self.old.slots.names self.new.slots.tickets waker }
         ensures registered { Registers self.old.slots self.new.slots }
         ensures rest { (self.new.end ≡ self.old.end) × (self.new.cells ≡ self.old.cells) }
     {
@@ -194,7 +196,8 @@ impl<T> ReadSide<T> {
         ensures rests { IsReaderAtRest self.new.end self.new.slots }
         ensures none { result ≡ None → self.new.slots.taken ≡ self.old.slots.taken }
         ensures some { IsSome result → self.old.slots.taken < self.new.slots.taken }
-        ensures waker { WasTaken self.old.slots.taken self.new.slots.taken result }
+        ensures waker { WasTaken self.old.slots.names
+            self.old.slots.taken self.new.slots.taken result }
         ensures found { result ≡ None → FoundWaiter self.old.slots.names 0 }
         ensures own { SameReaderPlace self.old.slots self.new.slots }
         ensures rest { (self.new.end ≡ self.old.end) × (self.new.cells ≡ self.old.cells) }
@@ -219,7 +222,8 @@ impl<T> ReadSide<T> {
             × (result.side.slots.over ≡ true) }
         ensures none { result.taken ≡ None → result.side.slots.taken ≡ self.slots.taken }
         ensures some { IsSome result.taken → self.slots.taken < result.side.slots.taken }
-        ensures waker { WasTaken self.slots.taken result.side.slots.taken result.taken }
+        ensures waker { WasTaken self.slots.names
+            self.slots.taken result.side.slots.taken result.taken }
         ensures found { result.taken ≡ None → FoundWaiter self.end.ring.names 0 }
         ensures own { SameReaderPlace self.slots result.side.slots }
         ensures left { GetsLeft self.end.ring.names result.left }

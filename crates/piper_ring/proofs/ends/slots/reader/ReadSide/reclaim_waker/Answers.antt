@@ -14,10 +14,10 @@ pub returns-in-Some-clause-back : goal.returns-in-Some-clause-back
 returns-in-Some-clause-back g c = as_back _ (Some c.in-Some.waker)
 
 pub returns-then-is_some-clause-out : goal.returns-then-is_some-clause-out
-returns-then-is_some-clause-out g c = as_taken_back _ _ None
+returns-then-is_some-clause-out g c = as_taken_back _ _ _ None
 
 pub returns-then-found-ne0-clause-out : goal.returns-then-found-ne0-clause-out
-returns-then-found-ne0-clause-out g c = as_taken_back _ _ None
+returns-then-found-ne0-clause-out g c = as_taken_back _ _ _ None
 
 pub returns-in-Some-clause-out : goal.returns-in-Some-clause-out
-returns-in-Some-clause-out g c = as_taken_back _ _ (Some c.in-Some.waker)
+returns-in-Some-clause-out g c = as_taken_back _ _ _ (Some c.in-Some.waker)

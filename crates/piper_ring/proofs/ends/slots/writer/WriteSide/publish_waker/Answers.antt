@@ -3,4 +3,4 @@ use Rattle.piper_ring.specs.Loads.{as_put}
 use Rattle.piper_ring.proofs.ends.slots.writer.WriteSide.publish_waker.Goals as goal
 
 pub returns-clause-put : goal.returns-clause-put
-returns-clause-put g c = as_put _ _
+returns-clause-put g c = as_put _ _ _

@@ -3,7 +3,7 @@ use Rattle.piper_ring.specs.Loads.{as_taken}
 use Rattle.piper_ring.proofs.ends.slots.writer.WriteSide.take.Goals as goal
 
 pub returns-then-found-eq0-clause-waker : goal.returns-then-found-eq0-clause-waker
-returns-then-found-eq0-clause-waker g c = as_taken _ _ _
+returns-then-found-eq0-clause-waker g c = as_taken _ _ _ _
 
 pub returns-clause-waker : goal.returns-clause-waker
-returns-clause-waker g c = as_taken _ _ _
+returns-clause-waker g c = as_taken _ _ _ _
