@@ -5,7 +5,6 @@ ghost use Rattle.piper_sides.specs.Log.{events};
 ghost use Rattle.piper_machine.specs.Run.{Made, IsRefusal};
 ghost use Rattle.piper_interpreter.specs.Steps.{Goes, GoesAs, GoesFewer, GoesBefore};
 
-use crate::whole::state;
 use piper_machine::calls::{SideState, Step};
 use piper_machine::events::Log;
 use piper_machine::machine::Machine;
@@ -74,7 +73,7 @@ fn make_to_answer(machine: &mut Machine, side: Side, log: &mut Log) -> Result<()
 {
     for _ in 0..u64::MAX {
         go(machine, side, log)?;
-        if state(machine, side) != SideState::Busy {
+        if machine.state(side) != SideState::Busy {
             return Ok(());
         }
     }

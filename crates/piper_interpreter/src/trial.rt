@@ -9,7 +9,6 @@ ghost use Rattle.piper_machine.specs.Run.{Made};
 ghost use Rattle.piper_script.specs.Event.{outcome_line};
 ghost use Rattle.piper_interpreter.specs.Trial.{Tried, steps_by, IsLong, IsOpen, other_of, alone, answer_in, answer_of, HasNoOther, IsLastOther, IsNext, IsLast, HasEnded, GoesAsLong};
 
-use crate::whole::state;
 use piper_machine::answer::Answer;
 use piper_machine::calls::{SideState, Step};
 use piper_machine::events::{Event, Log};
@@ -140,8 +139,8 @@ impl Trial {
         ensures one { IfSome result (λ next.
             (¬ IsOpen (other_of next.side) self.now) → next ≡ alone next.side) }
     {
-        let is_reading = state(&self.machine, Side::Reader) == SideState::Busy;
-        let is_writing = state(&self.machine, Side::Writer) == SideState::Busy;
+        let is_reading = self.machine.state(Side::Reader) == SideState::Busy;
+        let is_writing = self.machine.state(Side::Writer) == SideState::Busy;
         match (is_reading, is_writing) {
             (false, false) => None,
             (true, false) => Some(alone(Side::Reader)),

@@ -1,25 +1,15 @@
 //! Calls made whole: when a line may make one, and what it returns.
 
 ghost use Rattle.std.specs.Prelude.{◌≡◌, ◌≤◌, ◌++◌, length, take, drop, IfOk, IfErr};
-ghost use Rattle.piper_machine.specs.Refusal.{IsIdle, state_of, refusal_of};
+ghost use Rattle.piper_machine.specs.Refusal.{refusal_of};
 ghost use Rattle.piper_interpreter.specs.Makes.{Makes, room_for, slice_copied, drained_by, IsSilent};
 ghost use Rattle.piper_interpreter.specs.Whole.{IsReady};
 
 use piper_machine::answer::{Answer, Failed, Polled};
-use piper_machine::calls::{Call, SideState, Step};
+use piper_machine::calls::{Call, Step};
 use piper_machine::machine::Machine;
 use piper_machine::refusals::StepRefusal;
 use piper_machine::table::{Query, Side};
-
-/// What the side is about.
-pub fn state(machine: &Machine, side: Side) -> SideState
-    ensures { result ≡ state_of side machine.now }
-{
-    match side {
-        Side::Reader => machine.r_state(),
-        Side::Writer => machine.w_state(),
-    }
-}
 
 /// Gives the call back if it may be made, and refuses it as the step that begins it is refused.
 pub fn check(machine: &Machine, call: Call) -> Result<Call, StepRefusal>

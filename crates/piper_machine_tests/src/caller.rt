@@ -28,7 +28,7 @@ fn steps_of_both_sides_are_made(rt: HostRuntime) -> Result<(), Fail> {
         return Ok(());
     };
     same(&rt, log.events().len(), 8);
-    assert!(rt; machine.r_state() == SideState::Idle);
+    assert!(rt; machine.state(Side::Reader) == SideState::Idle);
     same(&rt, len_alone(&mut machine), 2);
     Ok(())
 }

@@ -113,12 +113,16 @@ impl Run {
     /// again.
     fn made_at_last(&mut self, rt: &impl Abort, step: &Step) {
         let logged = self.log.events().len();
-        let states = (self.pipe.r_state(), self.pipe.w_state());
+        let states = (self.pipe.state(Side::Reader), self.pipe.state(Side::Writer));
         let shown = (self.pipe.r_peek().len(), self.pipe.w_lent().len());
         if let Err(refusal) = self.pipe.step(step, &mut self.log) {
             same(rt, refusal, StepRefusal::Memory);
             same(rt, self.log.events().len(), logged);
-            same(rt, (self.pipe.r_state(), self.pipe.w_state()), states);
+            same(
+                rt,
+                (self.pipe.state(Side::Reader), self.pipe.state(Side::Writer)),
+                states,
+            );
             same(
                 rt,
                 (self.pipe.r_peek().len(), self.pipe.w_lent().len()),
