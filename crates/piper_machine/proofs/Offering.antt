@@ -1,5 +1,5 @@
 -- A call of the source: what it was lent is read back off the pipe that the step leaves.
-use Rattle.std.proofs.Common.{◌≡◌, ℕ, List, [], ◌∷◌, ◌++◌, length, min, Bool, true, false, Option, ◌==◌, refl, sym, ap, subst, ◌∙◌, arith}
+use Rattle.std.proofs.Common.{◌≡◌, ℕ, List, [], ◌∷◌, length, min, Bool, true, false, Option, ◌==◌, refl, sym, ap, subst, ◌∙◌, arith}
 use Rattle.std.proofs.lemmas.Bool.Decides.{nat_tests}
 use Rattle.piper_protocol.specs.declared.table.Side.TheVariants.{Writer}
 use Rattle.piper_sides.specs.declared.calls.Step.TheVariants.{Go}
@@ -17,11 +17,8 @@ use Rattle.piper_protocol.specs.Table.{write_action, writer_moved}
 use Rattle.piper_machine.specs.Pipe.{Pipe}
 use Rattle.piper_machine.specs.Lend.{Lendable, lending}
 use Rattle.piper_machine.specs.Round.{given, found_of}
-use Rattle.piper_machine.specs.Action.{logged_of, source_called}
-use Rattle.piper_sides.specs.declared.events.Event.{Event}
-use Rattle.piper_sides.specs.Log.{answer_event}
-use Rattle.piper_machine.specs.Run.{IsStepped}
-use Rattle.piper_machine.specs.Step.{stepped, offering, call_after, source_after, filled_out, round_left, round_answer, MayOffer}
+use Rattle.piper_machine.specs.Action.{source_called}
+use Rattle.piper_machine.specs.Step.{stepped, call_after, source_after, filled_out, round_left, round_answer, MayOffer}
 
 -- the pipe and the answer of a step, and what it lent
 pub record IsCalled (p new : Pipe) (answer : Option Answer) : Type 0 where
@@ -91,22 +88,3 @@ source-called-step p q next lendable is =
     let found = found_of (given (length q.lent) p.source) in
     let whole = sym (ap (λ (x : Pipe). x.lent) is) in
     subst (λ (x : Pipe). IsCalled p (round_left found x) (round_answer found x)) (sym is) (called p.writer p.source q.lent p next lendable whole)
-
--- what is logged of the writer's step does not depend on what a source is lent
-logged_at : (point : WritePoint) (lent : List ℕ) (p : Pipe) → let q = record p { writer = point } in logged_of Writer (write_action point) (offering lent q) ≡ logged_of Writer (write_action point) q
-logged_at (on.StoreClosed after_write.Answer) lent p = refl
-logged_at (on.StoreClosed after_write.Drop) lent p = refl
-logged_at (on.StoreClosed after_write.WakeWriter) lent p = refl
-logged_at (on.StoreClosed (after_write.Round form sum)) lent p = refl
-logged_at point lent p = refl
-
-pub logged_same : (p : Pipe) (lent : List ℕ) → logged_of Writer (write_action p.writer) (offering lent p) ≡ logged_of Writer (write_action p.writer) p
-logged_same p lent = logged_at p.writer lent p
-
-pub writer_made : (p q : Pipe) (event answered before after : List Event) → MayOffer p.writer p.source q.lent p → q ≡ (stepped q.lent (Go Writer) p).pipe → event ≡ logged_of Writer (write_action p.writer) p
-    → answered ≡ answer_event Writer (stepped q.lent (Go Writer) p).answer → after ≡ before ++ (event ++ answered) → IsStepped p (Go Writer) q before after
-writer_made p q event answered before after lent pipe is answers added = record {
-  lent = lent;
-  pipe = pipe;
-  events = added ∙ ap (λ (es : List Event). before ++ es) (ap (λ (es : List Event). es ++ answered) (is ∙ sym (logged_same p q.lent)) ∙ ap (λ (es : List Event). logged_of Writer (write_action p.writer) (offering q.lent p) ++ es) answers);
-}

@@ -1,12 +1,10 @@
 //! Runs: steps of both sides in any order, and the log of what happened.
 ghost use Rattle.std.specs.Prelude.{◌≡◌, ◌<◌, ◌≤◌, ℕ, [], length, OnOk, OnErr, IfOk, IfErr, slice_set};
 ghost use Rattle.piper_protocol.specs.Index.{IsCapacity};
-ghost use Rattle.piper_sides.specs.Log.{events, listed, HasRoom};
+ghost use Rattle.piper_sides.specs.Log.{events};
 ghost use Rattle.piper_machine.specs.Lend.{lending};
 ghost use Rattle.piper_machine.specs.Places.{peeked_count};
-ghost use Rattle.piper_machine.specs.Action.{logged_of};
-ghost use Rattle.piper_machine.specs.Step.{action_of};
-ghost use Rattle.piper_protocol.specs.Table.{read_action, write_action};
+ghost use Rattle.piper_machine.specs.Step.{action_of, stepped, MayLend};
 ghost use Rattle.piper_machine.specs.Pipe.{fresh};
 ghost use Rattle.piper_machine.specs.Disjoint.{KeepsKnown, IsWriterStep};
 ghost use Rattle.piper_machine.specs.Lawful.{IsLawful};
@@ -14,15 +12,16 @@ ghost use Rattle.piper_machine.specs.Front.{Front};
 ghost use Rattle.piper_machine.specs.Run.{Made, IsStepped, Runs, IsRefusal, IsRunRefusal, IsOfMemory, MemoryIsRefused};
 
 use super::Machine;
+use piper_protocol::answer::Answer;
 use piper_protocol::table::{Action, Side, WritePoint};
 use piper_sides::calls::Step;
-use piper_sides::events::{Event, Log, answered};
+use piper_sides::events::{Log, answered};
 use piper_sides::refusals::{RunRefusal, StepRefusal};
 use std::alloc::Global;
 
 impl Machine {
     // The step that the side makes next.
-    fn next(&self, side: Side) -> Action
+    pub(super) fn next(&self, side: Side) -> Action
         ensures step { result ≡ action_of side self.now }
         ensures head { (n : ℕ) → result ≡ Action.StoreHead n → n ≤ peeked_count self.now }
         ensures tail { (n : ℕ) → result ≡ Action.StoreTail n → n ≤ length self.now.lent }
@@ -33,28 +32,17 @@ impl Machine {
         }
     }
 
-    // Makes the reader's next step, which is of this kind, and logs it after this event.
-    fn go_reader(&mut self, action: Action, event: Option<Event>, log: &mut Log)
-        requires next { action ≡ read_action self.old.reader }
-        requires event { listed event ≡ logged_of Side.Reader action self.old }
-        requires room { HasRoom log.old }
-        ensures { IsStepped self.old (Step.Go Side.Reader)
-            self.new (events log.old) (events log.new) }
+    // Makes the side's next step, which is of this kind.
+    pub(super) fn goes(&mut self, side: Side, action: Action) -> Option<Answer>
+        requires { action ≡ action_of side self.old }
+        ensures after { self.new ≡ (stepped self.new.lent (Step.Go side) self.old).pipe }
+        ensures answer { result ≡ (stepped self.new.lent (Step.Go side) self.old).answer }
+        ensures lent { MayLend self.new.lent (Step.Go side) self.old }
     {
-        let answer = self.reader_goes(action);
-        log.add(event, answered(Side::Reader, answer));
-    }
-
-    // Makes the writer's next step, which is of this kind, and logs it after this event.
-    fn go_writer(&mut self, action: Action, event: Option<Event>, log: &mut Log)
-        requires next { action ≡ write_action self.old.writer }
-        requires event { listed event ≡ logged_of Side.Writer action self.old }
-        requires room { HasRoom log.old }
-        ensures { IsStepped self.old (Step.Go Side.Writer)
-            self.new (events log.old) (events log.new) }
-    {
-        let answer = self.writer_goes(action);
-        log.add(event, answered(Side::Writer, answer));
+        match side {
+            Side::Reader => self.reader_goes(action),
+            Side::Writer => self.writer_goes(action),
+        }
     }
 
     // Makes the side's next step and logs it.
@@ -69,10 +57,8 @@ impl Machine {
         let action = self.next(side);
         let event = self.event(side, action).map_err(|_| StepRefusal::Memory)?;
         log.reserve().map_err(|_| StepRefusal::Memory)?;
-        match side {
-            Side::Reader => self.go_reader(action, event, log),
-            Side::Writer => self.go_writer(action, event, log),
-        }
+        let answer = self.goes(side, action);
+        log.add(event, answered(side, answer));
         Ok(())
     }
 
