@@ -1,6 +1,5 @@
 -- What a call made whole returns, and the pipe that it leaves.
 use Rattle.std.specs.Prelude.{◌≡◌, ℕ, length, Some, Result, Ok}
-use Rattle.piper_protocol.specs.declared.table.Side.TheVariants.{Reader, Writer}
 use Rattle.piper_sides.specs.declared.calls.Call.{Call}
 use Rattle.piper_sides.specs.declared.calls.Call.TheVariants as call
 use Rattle.piper_protocol.specs.declared.answer.Answer.{Answer}
@@ -11,10 +10,10 @@ use Rattle.piper_protocol.specs.declared.answer.Failed.{Failed}
 use Rattle.piper_protocol.specs.Table.{query_answer}
 use Rattle.piper_machine.specs.Pipe.{Pipe, begun}
 use Rattle.piper_machine.specs.Query.{unread_count, is_closed}
-use Rattle.piper_machine.specs.Look.{Look, context, reader_look, writer_look}
+use Rattle.piper_machine.specs.Look.{Look, context, look_of}
 use Rattle.piper_machine.specs.Lend.{Lendable, lending}
 use Rattle.piper_machine.specs.Move.{produce, consume}
-use Rattle.piper_machine.specs.Close.{close, drop_reader, drop_writer}
+use Rattle.piper_machine.specs.Close.{close, dropped}
 use Rattle.piper_machine.specs.Copy.{Copied, count_of, try_fill, try_drain, fill, drain}
 use Rattle.piper_machine.specs.Scripted.{fill_from, drain_to}
 
@@ -52,10 +51,8 @@ abbrev pub Makes : Call → Pipe → Answer → Pipe → Type 0
 Makes (call.Query side query) p answer new =
     Gives answer (query_answer query p.capacity (unread_count p)) new (begun p)
 Makes (call.IsClosed side) p answer new = Gives answer (Flag (is_closed p)) new (begun p)
-Makes (call.Poll Reader waker luck) p answer new =
-    GivesLook (reader_look (Some (context waker luck)) (begun p)) answer new
-Makes (call.Poll Writer waker luck) p answer new =
-    GivesLook (writer_look (Some (context waker luck)) (begun p)) answer new
+Makes (call.Poll side waker luck) p answer new =
+    GivesLook (look_of side (Some (context waker luck)) (begun p)) answer new
 Makes (call.TryFill bytes) p answer new = GivesCount (try_fill bytes p) answer new
 Makes (call.TryDrain most) p answer new = GivesCount (try_drain most p) answer new
 Makes (call.PollFillBytes waker luck bytes) p answer new =
@@ -70,8 +67,7 @@ Makes (call.Consume n) p answer new = Gives answer Done new (consume n (begun p)
 Makes (call.WriteBuf most) p answer new = Lends most p answer new
 Makes (call.Produced n) p answer new = Gives answer Done new (produce n (begun p))
 Makes call.Close p answer new = Gives answer Done new (close (begun p))
-Makes (call.Drop Reader) p answer new = Gives answer Done new (drop_reader (begun p))
-Makes (call.Drop Writer) p answer new = Gives answer Done new (drop_writer (begun p))
+Makes (call.Drop side) p answer new = Gives answer Done new (dropped side (begun p))
 
 -- how many places the bytes need that the call moves out of the pipe
 abbrev pub room_for : Call → ℕ

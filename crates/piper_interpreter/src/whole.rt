@@ -9,7 +9,7 @@ use piper_machine::answer::{Answer, Failed, Polled};
 use piper_machine::calls::{Call, Step};
 use piper_machine::machine::Machine;
 use piper_machine::refusals::StepRefusal;
-use piper_machine::table::{Query, Side};
+use piper_machine::table::Query;
 
 /// Gives the call back if it may be made, and refuses it as the step that begins it is refused.
 pub fn check(machine: &Machine, call: Call) -> Result<Call, StepRefusal>
@@ -60,16 +60,11 @@ pub fn answer(machine: &mut Machine, call: &Call, dest: &mut [u8]) -> Answer
         dest.new ≡ take n machine.old.unread ++ drop n dest.old }
 {
     match call {
-        Call::Query(Side::Reader, Query::Len) => Answer::Count(machine.r_len()),
-        Call::Query(Side::Writer, Query::Len) => Answer::Count(machine.w_len()),
-        Call::Query(Side::Reader, Query::IsEmpty) => Answer::Flag(machine.r_is_empty()),
-        Call::Query(Side::Writer, Query::IsEmpty) => Answer::Flag(machine.w_is_empty()),
-        Call::Query(Side::Reader, Query::IsFull) => Answer::Flag(machine.r_is_full()),
-        Call::Query(Side::Writer, Query::IsFull) => Answer::Flag(machine.w_is_full()),
-        Call::IsClosed(Side::Reader) => Answer::Flag(machine.r_is_closed()),
-        Call::IsClosed(Side::Writer) => Answer::Flag(machine.w_is_closed()),
-        Call::Poll(Side::Reader, waker, luck) => Answer::Poll(machine.r_poll(*waker, *luck)),
-        Call::Poll(Side::Writer, waker, luck) => Answer::Poll(machine.w_poll(*waker, *luck)),
+        Call::Query(side, Query::Len) => Answer::Count(machine.len(*side)),
+        Call::Query(side, Query::IsEmpty) => Answer::Flag(machine.is_empty(*side)),
+        Call::Query(side, Query::IsFull) => Answer::Flag(machine.is_full(*side)),
+        Call::IsClosed(side) => Answer::Flag(machine.is_closed(*side)),
+        Call::Poll(side, waker, luck) => Answer::Poll(machine.poll(*side, *waker, *luck)),
         Call::WriteBuf(most) => Answer::Lent(machine.w_write_buf(*most)),
         Call::TryFill(bytes) => Answer::Count(machine.w_try_fill(bytes.as_slice())),
         Call::TryDrain(_) => Answer::Count(machine.r_try_drain(dest)),
@@ -102,8 +97,7 @@ fn make(machine: &mut Machine, call: &Call)
         Call::Consume(n) => machine.r_consume(*n),
         Call::Produced(n) => machine.w_produced(*n),
         Call::Close => machine.w_close(),
-        Call::Drop(Side::Reader) => machine.r_drop(),
-        Call::Drop(Side::Writer) => machine.w_drop(),
+        Call::Drop(side) => machine.drop(*side),
         _ => {}
     }
 }

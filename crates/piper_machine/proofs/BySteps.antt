@@ -1,5 +1,5 @@
 -- Steps of one side alone, from any point up to the answer, give what remains of the call.
-use Rattle.std.proofs.Common.{◌≡◌, ℕ, zero, suc, ◌<◌, ◌≤◌, List, [], ◌∷◌, ◌++◌, Bool, true, false, Option, None, Some, replicate, refl, sym, ap, ◌∙◌, subst, append_assoc, append-nil, arith}
+use Rattle.std.proofs.Common.{◌≡◌, ℕ, zero, suc, ◌<◌, ◌≤◌, List, [], ◌∷◌, ◌++◌, length, Bool, true, false, Option, None, Some, replicate, refl, sym, ap, ◌∙◌, subst, append_assoc, append-nil, arith}
 use Rattle.piper_protocol.specs.declared.table.Side.{Side}
 use Rattle.piper_protocol.specs.declared.table.Side.TheVariants.{Reader, Writer}
 use Rattle.piper_sides.specs.declared.calls.SideState.{SideState}
@@ -22,21 +22,17 @@ use Rattle.piper_machine.specs.Pipe.{Pipe}
 use Rattle.piper_machine.specs.Move.{with_waker}
 use Rattle.piper_machine.specs.Refusal.{reader_state, writer_state, state_of, cannot_go}
 use Rattle.piper_machine.specs.Action.{logged_of, registration_of, registration, wake_of, woken_if, yield_of}
-use Rattle.piper_machine.specs.Step.{Stepped, stepped, MayLend, MayOffer}
+use Rattle.piper_machine.specs.Step.{Stepped, stepped, went, action_of, MayLend, MayOffer}
 use Rattle.piper_machine.specs.Run.{Runs}
-use Rattle.piper_machine.specs.Alone.{Ended, reader_alone, writer_alone, is_draining, is_filling, yield_waker, waker_if}
+use Rattle.piper_machine.specs.Alone.{Ended, heard, reader_alone, writer_alone, alone_of, is_draining, is_filling, is_copying, wakes_of, yield_waker, waker_if}
 use Rattle.piper_machine.specs.BySteps.{named_by, names_of}
-use Rattle.piper_machine.proofs.Alone.{reads_left, writes_left, reader_rest, read_step, reader-rest, reader-nearer, writer-nearer, writer_rest, writer-rest, plain-step}
+use Rattle.piper_machine.proofs.Alone.{Nearer, reads_left, writes_left, reader_rest, read_step, write_step, reader-rest, reader-nearer, writer-nearer, writer-went, writer_rest, writer-rest, plain-step}
 use Rattle.piper_machine.proofs.Copies.{drain-rest, WriterValid, fill_step, fill-rest}
 use Rattle.piper_machine.proofs.Falling.{drain-falls, reads-some, fill-falls, writes-some}
 use Rattle.piper_machine.proofs.Validity.{IsSettled, ReaderValid, reader-settled, reader-valid, closes_round, writer-settled, writer-valid}
 
 abbrev pub named : List ℕ → Pipe → Pipe
 named names p = record p { woken = names }
-
-abbrev pub alone_of : Side → Pipe → Ended
-alone_of Reader p = reader_alone p.reader p
-alone_of Writer p = writer_alone p.writer p
 
 abbrev pub rest_of : Side → Option Answer → Pipe → Ended
 rest_of side None p = alone_of side p
@@ -271,3 +267,20 @@ finish (suc k) side p names before after q busy valid run ends =
     let step = stepped mid.lent (Go side) (named names p) in
     finish_on k side p names before run.1 after mid q step step.answer (one_step side mid.lent p names busy valid made.lent) made.pipe made.events run.3
     (λ u busy_after valid_after rest. finish k side u names run.1 after q busy_after valid_after rest ends)
+
+-- a step of a call that copies nothing, whose waker is heard: it leaves the rest of the call, and
+-- without an answer it brings it nearer
+pub record IsDriven (side : Side) (p : Pipe) (answer : Option Answer) (q : Pipe) : Type 0 where
+  pub rest : alone_of side p ≡ rest_of side answer q
+  pub on : answer ≡ None → (state_of side q ≡ Busy) × (is_copying side q ≡ false) × Nearer (left_of side p) (left_of side q) (wakes_of side p) (wakes_of side q) (length p.woken) (length q.woken)
+
+pub drives : (side : Side) (p h q : Pipe) (answer : Option Answer) → state_of side p ≡ Busy → is_copying side p ≡ false → h ≡ heard side (action_of side p) p → answer ≡ (stepped q.lent (Go side) h).answer → q ≡ (stepped q.lent (Go side) h).pipe → IsDriven side p answer q
+drives Reader p h q answer busy plain hears answers after =
+    let s = read_step p.reader p in
+    let same : answer ≡ s.answer = answers ∙ ap (λ (v : Pipe). (went Reader v).answer) hears in
+    let is : q ≡ s.pipe = after ∙ ap (λ (v : Pipe). (went Reader v).pipe) hears in
+    rw (same, is) (record { rest = reader-rest p.reader p busy plain ∙ reader-rest_of s.answer s.pipe; on = reader-nearer p.reader p busy plain })
+drives Writer p h q answer busy plain hears answers after =
+    let s = write_step p.writer p in
+    let went = writer-went p h q answer plain hears answers after in
+    rw (went.0, went.1) (record { rest = writer-rest p.writer p busy plain ∙ writer-rest_of s.answer s.pipe; on = writer-nearer p.writer p busy plain })

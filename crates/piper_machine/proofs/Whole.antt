@@ -10,9 +10,7 @@ use Rattle.piper_sides.specs.declared.scripted.SourceAct.{SourceAct}
 use Rattle.piper_sides.specs.declared.scripted.SourceAct.TheVariants as source
 use Rattle.piper_protocol.specs.declared.table.Form.TheVariants.{Try}
 use Rattle.piper_protocol.specs.declared.answer.Answer.TheVariants.{Count}
-use Rattle.piper_protocol.specs.declared.table.ReadPoint.TheVariants as at
 use Rattle.piper_protocol.specs.declared.table.WritePoint.TheVariants as on
-use Rattle.piper_sides.specs.Open.{no_call}
 use Rattle.piper_machine.specs.declared.destination.Destination.{Destination}
 use Rattle.piper_machine.specs.declared.destination.Destination.TheVariants.{Slice, Acts}
 use Rattle.piper_machine.specs.Pipe.{Pipe, begun}
@@ -20,24 +18,16 @@ use Rattle.piper_machine.specs.Look.{reader_look, writer_look}
 use Rattle.piper_machine.specs.Copy.{Copied, answered, filled, unlent, copied_after, drawn, drain_moves, fill_moves, try_drain, try_fill, drain, fill}
 use Rattle.piper_machine.specs.Scripted.{drain_to, fill_from, bytes_given, ends_in_failure, source_answer, fill_moves_more, fill_moves_from}
 use Rattle.piper_machine.specs.Step.{poll_opened, drain_opened, fill_opened}
-use Rattle.piper_machine.specs.Alone.{reader_left, drain_moves_on, writer_ended, moved_answer}
+use Rattle.piper_machine.specs.Alone.{resting, alone_of, drain_moves_on, writer_ended, moved_answer}
 use Rattle.piper_machine.specs.BySteps.{answering, looked_whole, counted_whole, copied_slice, copied_acts}
-use Rattle.piper_machine.proofs.BySteps.{alone_of}
-
--- a side at rest
-abbrev pub reader_resting : Pipe → Pipe
-reader_resting p = reader_left at.Idle p
-
-abbrev pub writer_resting : Pipe → Pipe
-writer_resting p = record p { writer = on.Idle; writer_call = no_call; source = [] }
 
 -- the reader's poll
 module _ (cx : Context) (p : Pipe) where
   abbrev opened_poll : Pipe
-  opened_poll = poll_opened Reader cx (begun (reader_resting p))
+  opened_poll = poll_opened Reader cx (begun (resting Reader p))
 
   abbrev IsPolled : Type 0
-  IsPolled = alone_of Reader opened_poll ≡ looked_whole (reader_look (Some cx) (begun (reader_resting p)))
+  IsPolled = alone_of Reader opened_poll ≡ looked_whole (reader_look (Some cx) (begun (resting Reader p)))
 
   polls : (knows_none none granted : Bool) → (p.known == 0) ≡ knows_none → (length p.unread == 0) ≡ none → cx.luck.register_granted ≡ granted → IsPolled
   polls true true true k u g = rw (k, u, g, u) refl
@@ -69,11 +59,11 @@ count-same n q = let same : 0 + n ≡ n = omega arith in ap (λ (m : ℕ). answe
 
 module _ (cx : Context) (destination : Destination) (p : Pipe) where
   abbrev opened_drain : Pipe
-  opened_drain = drain_opened (Some cx) destination (begun (reader_resting p))
+  opened_drain = drain_opened (Some cx) destination (begun (resting Reader p))
 
   abbrev IsDrained : Type 0
   IsDrained =
-      let look = reader_look (Some cx) (begun (reader_resting p)) in
+      let look = reader_look (Some cx) (begun (resting Reader p)) in
       alone_of Reader opened_drain ≡ copied_acts (copied_after (Some cx) (Ok 0) (drain_moves_on destination 0) look.answer look.pipe)
 
   drains : (knows_none none granted is_drawn yields is_closed : Bool) → (p.known == 0) ≡ knows_none → (length p.unread == 0) ≡ none → cx.luck.register_granted ≡ granted → (cx.luck.draw == 0) ≡ is_drawn → cx.luck.yield_granted ≡ yields → p.is_closed ≡ is_closed → IsDrained
@@ -90,20 +80,20 @@ module _ (cx : Context) (destination : Destination) (p : Pipe) where
   pub drain-whole : IsDrained
   drain-whole = drains (p.known == 0) (length p.unread == 0) cx.luck.register_granted (cx.luck.draw == 0) cx.luck.yield_granted p.is_closed refl refl refl refl refl refl
 
-pub drain-slice : (cx : Context) (size : ℕ) (p : Pipe) → alone_of Reader (drain_opened (Some cx) (Slice size) (begun (reader_resting p))) ≡ copied_slice (drain (Some cx) size (reader_resting p))
+pub drain-slice : (cx : Context) (size : ℕ) (p : Pipe) → alone_of Reader (drain_opened (Some cx) (Slice size) (begun (resting Reader p))) ≡ copied_slice (drain (Some cx) size (resting Reader p))
 drain-slice cx size p =
-    let look = reader_look (Some cx) (begun (reader_resting p)) in
+    let look = reader_look (Some cx) (begun (resting Reader p)) in
     drain-whole cx (Slice size) p ∙ sym (slice-acts cx (drain_moves size) (drain_moves_on (Slice size) 0) (λ q. moves q) look.answer look.pipe)
   where
     moves : (q : Pipe) → copied_slice (drain_moves size q) ≡ copied_acts (drain_moves_on (Slice size) 0 q)
     moves q = let n = min size q.known in let same : n ≡ 0 + n = omega arith in ap (λ (m : ℕ). copied_acts (record { answer = Ready (Ok m); pipe = (drain_moves size q).pipe })) same
 
-pub drain-acts : (cx : Context) (acts : List DestAct) (p : Pipe) → alone_of Reader (drain_opened (Some cx) (Acts acts) (begun (reader_resting p))) ≡ copied_acts (drain_to (Some cx) acts (reader_resting p))
+pub drain-acts : (cx : Context) (acts : List DestAct) (p : Pipe) → alone_of Reader (drain_opened (Some cx) (Acts acts) (begun (resting Reader p))) ≡ copied_acts (drain_to (Some cx) acts (resting Reader p))
 drain-acts cx acts p = drain-whole cx (Acts acts) p
 
 module _ (size : ℕ) (p : Pipe) where
   abbrev IsTryDrained : Type 0
-  IsTryDrained = alone_of Reader (drain_opened None (Slice size) (begun (reader_resting p))) ≡ counted_whole (try_drain size (reader_resting p))
+  IsTryDrained = alone_of Reader (drain_opened None (Slice size) (begun (resting Reader p))) ≡ counted_whole (try_drain size (resting Reader p))
 
   try_drains : (knows_none none is_closed : Bool) → (p.known == 0) ≡ knows_none → (length p.unread == 0) ≡ none → p.is_closed ≡ is_closed → IsTryDrained
   try_drains true true true k u c = rw (k, u, u, c) refl
@@ -117,10 +107,10 @@ module _ (size : ℕ) (p : Pipe) where
 -- the writer's poll
 module _ (cx : Context) (p : Pipe) where
   abbrev opened_writer_poll : Pipe
-  opened_writer_poll = poll_opened Writer cx (begun (writer_resting p))
+  opened_writer_poll = poll_opened Writer cx (begun (resting Writer p))
 
   abbrev IsWriterPolled : Type 0
-  IsWriterPolled = alone_of Writer opened_writer_poll ≡ looked_whole (writer_look (Some cx) (begun (writer_resting p)))
+  IsWriterPolled = alone_of Writer opened_writer_poll ≡ looked_whole (writer_look (Some cx) (begun (resting Writer p)))
 
   writer_polls : (is_closed knows_none none granted : Bool) → p.is_closed ≡ is_closed → (p.room == 0) ≡ knows_none → (p.capacity - length p.unread == 0) ≡ none → cx.luck.register_granted ≡ granted → IsWriterPolled
   writer_polls true knows_none none granted c r u g = rw c refl
@@ -136,10 +126,10 @@ module _ (cx : Context) (p : Pipe) where
 
 module _ (cx : Context) (acts : List SourceAct) (p : Pipe) where
   abbrev opened_fill : Pipe
-  opened_fill = fill_opened (Some cx) acts (begun (writer_resting p))
+  opened_fill = fill_opened (Some cx) acts (begun (resting Writer p))
 
   abbrev IsFilled : Type 0
-  IsFilled = alone_of Writer opened_fill ≡ copied_acts (fill_from (Some cx) acts (writer_resting p))
+  IsFilled = alone_of Writer opened_fill ≡ copied_acts (fill_from (Some cx) acts (resting Writer p))
 
   fills : (is_closed knows_none none granted is_drawn yields : Bool) → p.is_closed ≡ is_closed → (p.room == 0) ≡ knows_none → (p.capacity - length p.unread == 0) ≡ none → cx.luck.register_granted ≡ granted → (cx.luck.draw == 0) ≡ is_drawn → cx.luck.yield_granted ≡ yields → IsFilled
   fills true knows_none none granted is_drawn yields c r u g d y = rw c refl
@@ -178,14 +168,14 @@ module _ (acts : List SourceAct) (bytes : List ℕ) (gives : bytes_given acts �
       ∙ ap (λ (r : Result ℕ Failed). answered (Ready r) (filled (take n bytes) q)) (unfailing-source (nat_lt q.room (length bytes)) (0 + n))
       ∙ ap (λ (m : ℕ). answered (Ready (Ok m)) (filled (take n bytes) q)) same
 
-  pub fill-slice : (cx : Context) (p : Pipe) → alone_of Writer (fill_opened (Some cx) acts (begun (writer_resting p))) ≡ copied_slice (fill (Some cx) bytes (writer_resting p))
+  pub fill-slice : (cx : Context) (p : Pipe) → alone_of Writer (fill_opened (Some cx) acts (begun (resting Writer p))) ≡ copied_slice (fill (Some cx) bytes (resting Writer p))
   fill-slice cx p =
-      let look = writer_look (Some cx) (unlent (begun (writer_resting p))) in
+      let look = writer_look (Some cx) (unlent (begun (resting Writer p))) in
       fill-acts cx acts p
       ∙ sym (slice-acts cx (fill_moves bytes) (fill_moves_from acts) (λ q. ap (λ (m : Copied (Result ℕ Failed)). copied_acts m) (sym (slice-moves q))) look.answer look.pipe)
 
   abbrev IsTryFilled : Pipe → Type 0
-  IsTryFilled p = alone_of Writer (fill_opened None acts (begun (writer_resting p))) ≡ counted_whole (try_fill bytes (writer_resting p))
+  IsTryFilled p = alone_of Writer (fill_opened None acts (begun (resting Writer p))) ≡ counted_whole (try_fill bytes (resting Writer p))
 
   tried : (q : Pipe) → let moved = fill_moves_more 0 acts q in let n = min (length bytes) q.room in
       writer_ended on.Idle (moved_answer Try moved.answer) moved.pipe ≡ writer_ended on.Idle (Count n) (filled (take n bytes) q)
@@ -194,8 +184,8 @@ module _ (acts : List SourceAct) (bytes : List ℕ) (gives : bytes_given acts �
   try_fills : (p : Pipe) (is_closed knows_none none : Bool) → p.is_closed ≡ is_closed → (p.room == 0) ≡ knows_none → (p.capacity - length p.unread == 0) ≡ none → IsTryFilled p
   try_fills p true knows_none none c r u = rw c refl
   try_fills p false true true c r u = rw (c, r, u, u) refl
-  try_fills p false true false c r u = rw (c, r, u) (tried (record (begun (writer_resting p)) { room = p.capacity - length p.unread; is_closed = false }))
-  try_fills p false false none c r u = rw (c, r, r) (tried (record (begun (writer_resting p)) { is_closed = false }))
+  try_fills p false true false c r u = rw (c, r, u) (tried (record (begun (resting Writer p)) { room = p.capacity - length p.unread; is_closed = false }))
+  try_fills p false false none c r u = rw (c, r, r) (tried (record (begun (resting Writer p)) { is_closed = false }))
 
   pub try_fill-whole : (p : Pipe) → IsTryFilled p
   try_fill-whole p = try_fills p p.is_closed (p.room == 0) (p.capacity - length p.unread == 0) refl refl refl

@@ -35,13 +35,13 @@ use Rattle.piper_machine.specs.Pipe.{Pipe, begun}
 use Rattle.piper_machine.specs.Sound.{IsSound}
 use Rattle.piper_machine.specs.Look.{context}
 use Rattle.piper_machine.specs.Lend.{lending}
-use Rattle.piper_machine.specs.Refusal.{reader_state, writer_state, state_of, cannot_begin, cannot_go, unless, or_else, past, refusal_of}
+use Rattle.piper_machine.specs.Refusal.{IsIdle, reader_state, writer_state, state_of, cannot_begin, cannot_go, unless, or_else, past, refusal_of}
 use Rattle.piper_machine.specs.Step.{opened, answer_at_once}
 use Rattle.piper_machine.specs.Run.{Runs}
-use Rattle.piper_machine.specs.Alone.{Ended, read_steps}
-use Rattle.piper_machine.specs.BySteps.{names_of, whole, found_alone, IsWholeBySteps, AreWholeBySteps}
-use Rattle.piper_machine.proofs.BySteps.{named, alone_of, left_of, IsValid, no_more, finish}
-use Rattle.piper_machine.proofs.Whole.{reader_resting, writer_resting, reader-polls, drain-slice, drain-acts, try_drain-whole, writer-polls, given-slice, failure-slice, fill-slice, fill-acts, try_fill-whole}
+use Rattle.piper_machine.specs.Alone.{Ended, read_steps, is_draining, read_wakes, resting, alone_of, is_copying, wakes_of}
+use Rattle.piper_machine.specs.BySteps.{names_of, whole, is_plain, found_alone, IsWholeBySteps, AreWholeBySteps}
+use Rattle.piper_machine.proofs.BySteps.{named, left_of, IsValid, no_more, finish}
+use Rattle.piper_machine.proofs.Whole.{reader-polls, drain-slice, drain-acts, try_drain-whole, writer-polls, given-slice, failure-slice, fill-slice, fill-acts, try_fill-whole}
 
 -- between two calls a side holds nothing of a call
 abbrev pub HoldsNothing : Side → Pipe → Type 0
@@ -56,19 +56,17 @@ writer-idle : (point : WritePoint) → cannot_begin (writer_state point) ≡ Non
 writer-idle on.Idle none = refl
 writer-idle point none = absurd (cc)
 
-abbrev pub resting : Side → Pipe → Pipe
-resting Reader p = reader_resting p
-resting Writer p = writer_resting p
+idle-of : (side : Side) (p : Pipe) → cannot_begin (state_of side p) ≡ None → IsIdle side p
+idle-of Reader p none = reader-idle p.reader none
+idle-of Writer p none = writer-idle p.writer none
 
-rests-is : (side : Side) (p : Pipe) → HoldsNothing side p → cannot_begin (state_of side p) ≡ None → p ≡ resting side p
-rests-is Reader p holds none =
-    let point = reader-idle p.reader none in
+rests-is : (side : Side) (p : Pipe) → HoldsNothing side p → IsIdle side p → p ≡ resting side p
+rests-is Reader p holds point =
     let held = holds point in
     let of_call = held.0 in
     let destination = held.1 in
     λ j. record p { reader = point j; reader_call = of_call j; destination = destination j }
-rests-is Writer p holds none =
-    let point = writer-idle p.writer none in
+rests-is Writer p holds point =
     let held = holds point in
     let of_call = held.0 in
     let source = held.1 in
@@ -170,7 +168,7 @@ makes c p stepped sound holds = record {
       let mid = run.0 in
       let made = run.2.made in
       let fits = begins-within c p run.2.accepted in
-      let is = rests-is side p holds (begins-idle c p run.2.accepted) in
+      let is = rests-is side p holds (idle-of side p (begins-idle c p run.2.accepted)) in
       let opening = subst (λ (r : Pipe). IsOpened c mid.lent q.lent r) (sym is) (opens c mid.lent q.lent p stepped (subst IsSound is sound) (subst (λ (r : Pipe). past c r ≡ None) is fits)) in
       let begins = subst (λ (r : Pipe). Runs r run.1 (replicate k (Go side)) q after) (made.pipe ∙ opening.commutes) run.3 in
       let done = finish k side (opened mid.lent c (begun p)) p.woken run.1 after q opening.busy opening.valid begins ends in
@@ -191,6 +189,44 @@ makes c p stepped sound holds = record {
         },
       );
 }
+
+-- a call that neither copies nor lends, as it is opened to be run whole
+pub record IsPlainOpened (c : Call) (p q : Pipe) : Type 0 where
+  pub busy : state_of (side_of c) q ≡ Busy
+  pub moves : is_copying (side_of c) q ≡ false
+  pub wakes : length q.woken + wakes_of (side_of c) q ≤ 2
+  pub rest : alone_of (side_of c) q ≡ whole [] c p
+
+polls-plain : (knows_none : Bool) → (is_draining (reader_looks_for knows_none purpose.Poll) ≡ false) × (read_wakes (reader_looks_for knows_none purpose.Poll) ≡ 0)
+polls-plain true = (refl, refl)
+polls-plain false = (refl, refl)
+
+is-plain : (c : Call) (lent : List ℕ) (p : Pipe) → is_plain c ≡ true → let q = opened lent c p in (is_lending c ≡ false) × (is_copying (side_of c) q ≡ false) × (wakes_of (side_of c) q ≤ 2)
+unfolding is_lending
+is-plain (call.Query Reader query) lent p plain = (refl, refl, omega arith)
+is-plain (call.IsClosed Reader) lent p plain = (refl, refl, omega arith)
+is-plain (call.Poll Reader waker luck) lent p plain = let polls = polls-plain (p.known == 0) in let none = polls.1 in (refl, polls.0, omega arith)
+is-plain (call.Drop Reader) lent p plain = (refl, refl, omega arith)
+is-plain (call.TryDrain size) lent p plain = absurd (cc)
+is-plain (call.PollDrainBytes waker luck size) lent p plain = absurd (cc)
+is-plain (call.PollDrain waker luck acts) lent p plain = absurd (cc)
+is-plain (call.TryFill bytes) lent p plain = absurd (cc)
+is-plain (call.PollFillBytes waker luck bytes) lent p plain = absurd (cc)
+is-plain (call.PollFill waker luck acts) lent p plain = absurd (cc)
+is-plain (call.WriteBuf most) lent p plain = absurd (cc)
+is-plain c lent p plain = (refl, refl, omega arith)
+
+pub plain-opens : (c : Call) (p b q : Pipe) → is_plain c ≡ true → IsSound p → p ≡ resting (side_of c) p → past c p ≡ None → b ≡ begun p → q ≡ opened q.lent c b → IsPlainOpened c p q
+plain-opens c p b q plain sound is fits begins opens_it =
+    let side = side_of c in
+    let lent = q.lent in
+    let r = opened lent c (begun p) in
+    let plainly = is-plain c lent (begun p) plain in
+    let opening = subst (λ (v : Pipe). IsOpened c lent [] v) (sym is) (opens c lent [] p plainly.0 (subst IsSound is sound) (subst (λ (v : Pipe). past c v ≡ None) is fits)) in
+    let few = plainly.2 in
+    let unwoken = ap (λ (names : List ℕ). length names) opening.unwoken in
+    let same : q ≡ r = opens_it ∙ ap (λ (v : Pipe). opened lent c v) begins in
+    subst (λ (v : Pipe). IsPlainOpened c p v) (sym same) (record { busy = opening.busy; moves = plainly.1; wakes = omega arith; rest = opening.rest })
 
 -- a call of write_buf has no step
 lends : (most : ℕ) (p : Pipe) → IsWholeBySteps (call.WriteBuf most) p
@@ -224,3 +260,6 @@ module _ (m : Inside) (i : IsMachine m) where
 
   pub by_steps : (p : Pipe) → pipe_of m ≡ p → AreWholeBySteps p
   by_steps p e = subst AreWholeBySteps e (λ c. whole-by_steps c (pipe_of m) (sound m i (pipe_of m) refl) (holds-nothing (side_of c)))
+
+  pub rests : (side : Side) (p : Pipe) → pipe_of m ≡ p → IsIdle side p → p ≡ resting side p
+  rests side p e idle = subst (λ (q : Pipe). IsIdle side q → q ≡ resting side q) e (rests-is side (pipe_of m) (holds-nothing side)) idle

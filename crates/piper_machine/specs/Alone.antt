@@ -225,11 +225,11 @@ read_wakes point = 0
 
 -- the writer
 
+abbrev pub writer_left : WritePoint → Pipe → Pipe
+writer_left point p = record p { writer = point; writer_call = no_call; source = [] }
+
 abbrev pub writer_ended : WritePoint → Answer → Pipe → Ended
-writer_ended point answer p = record {
-  answer = answer;
-  pipe = record p { writer = point; writer_call = no_call; source = [] };
-}
+writer_ended point answer p = record { answer = answer; pipe = writer_left point p }
 
 -- a fill leaves nothing lent
 abbrev pub writer_filled : Answer → Pipe → Ended
@@ -423,3 +423,25 @@ write_wakes (on.StoreClosed next) = 1 + wakes_after next
 write_wakes on.TakeWriter = 1
 write_wakes on.WakeWriter = 1
 write_wakes point = 0
+
+-- either side
+
+-- between two calls a side holds nothing of one
+abbrev pub resting : Side → Pipe → Pipe
+resting Reader p = reader_left at.Idle p
+resting Writer p = writer_left on.Idle p
+
+-- what remains of its open call
+abbrev pub alone_of : Side → Pipe → Ended
+alone_of Reader p = reader_alone p.reader p
+alone_of Writer p = writer_alone p.writer p
+
+-- that call is a copy
+abbrev pub is_copying : Side → Pipe → Bool
+is_copying Reader p = is_draining p.reader
+is_copying Writer p = is_filling p.writer
+
+-- the most wakers that it still calls, if it is none
+abbrev pub wakes_of : Side → Pipe → ℕ
+wakes_of Reader p = read_wakes p.reader
+wakes_of Writer p = write_wakes p.writer

@@ -1,5 +1,5 @@
 -- A call made by steps, none of which is the other side's, is the call run whole.
-use Rattle.std.specs.Prelude.{◌≡◌, ℕ, ◌≤◌, List, [], ◌∷◌, ◌++◌, length, replicate, Result, Ok, Err, Some}
+use Rattle.std.specs.Prelude.{◌≡◌, ℕ, ◌≤◌, List, [], ◌∷◌, ◌++◌, length, replicate, Bool, true, false, Result, Ok, Err, Some}
 use Rattle.piper_protocol.specs.declared.table.Side.{Side}
 use Rattle.piper_protocol.specs.declared.table.Side.TheVariants.{Reader, Writer}
 use Rattle.piper_sides.specs.declared.calls.SideState.TheVariants.{Busy}
@@ -10,7 +10,6 @@ use Rattle.piper_protocol.specs.declared.answer.Answer.{Answer}
 use Rattle.piper_protocol.specs.declared.answer.Answer.TheVariants.{Count, Flag, Poll, Copy, Lent, Done}
 use Rattle.piper_sides.specs.declared.events.Event.{Event}
 use Rattle.piper_sides.specs.declared.events.Event.TheVariants.{Woken, Answered}
-use Rattle.piper_sides.specs.declared.polling.Context.{Context}
 use Rattle.piper_protocol.specs.declared.answer.Polled.{Polled}
 use Rattle.piper_protocol.specs.declared.answer.Polled.TheVariants.{Pending, Ready, Memory}
 use Rattle.piper_protocol.specs.declared.answer.Failed.{Failed}
@@ -19,12 +18,12 @@ use Rattle.piper_protocol.specs.Table.{query_answer}
 use Rattle.piper_machine.specs.Pipe.{Pipe, begun}
 use Rattle.piper_machine.specs.Query.{unread_count, is_closed}
 use Rattle.piper_machine.specs.Refresh.{reader_refreshed, writer_refreshed}
-use Rattle.piper_machine.specs.Look.{Look, context, reader_look, writer_look}
+use Rattle.piper_machine.specs.Look.{Look, context, look_of}
 use Rattle.piper_machine.specs.Lend.{lending}
 use Rattle.piper_machine.specs.Move.{produce, consume}
 use Rattle.piper_machine.specs.Copy.{Copied, count_of, fill, drain, try_fill, try_drain}
 use Rattle.piper_machine.specs.Scripted.{fill_from, drain_to}
-use Rattle.piper_machine.specs.Close.{close, drop_reader, drop_writer}
+use Rattle.piper_machine.specs.Close.{close, dropped}
 use Rattle.piper_machine.specs.Refusal.{state_of}
 use Rattle.piper_machine.specs.Counts.{most_steps}
 use Rattle.piper_machine.specs.Run.{Runs}
@@ -58,21 +57,14 @@ copied_slice copied = answering (Copy (unfailing copied.answer)) copied.pipe
 abbrev pub copied_acts : Copied (Result ℕ Failed) → Ended
 copied_acts copied = answering (Copy copied.answer) copied.pipe
 
-abbrev pub polled_whole : Side → Context → Pipe → Ended
-polled_whole Reader cx p = looked_whole (reader_look (Some cx) (begun p))
-polled_whole Writer cx p = looked_whole (writer_look (Some cx) (begun p))
-
-abbrev pub dropped_whole : Side → Pipe → Ended
-dropped_whole Reader p = answering Done (drop_reader (begun p))
-dropped_whole Writer p = answering Done (drop_writer (begun p))
-
 -- what a call returns and leaves that is run whole, with these bytes in what a call of write_buf
 -- lends
 abbrev pub whole : List ℕ → Call → Pipe → Ended
 whole lent (call.Query side query) p =
     answering (query_answer query p.capacity (unread_count p)) (begun p)
 whole lent (call.IsClosed side) p = answering (Flag (is_closed p)) (begun p)
-whole lent (call.Poll side waker luck) p = polled_whole side (context waker luck) p
+whole lent (call.Poll side waker luck) p =
+    looked_whole (look_of side (Some (context waker luck)) (begun p))
 whole lent (call.TryDrain size) p = counted_whole (try_drain size p)
 whole lent (call.PollDrainBytes waker luck size) p =
     copied_slice (drain (Some (context waker luck)) size p)
@@ -87,7 +79,18 @@ whole lent (call.PollFill waker luck acts) p =
 whole lent (call.WriteBuf most) p = answering (Lent (length lent)) (lending lent (begun p))
 whole lent (call.Produced n) p = answering Done (produce n (begun p))
 whole lent call.Close p = answering Done (close (begun p))
-whole lent (call.Drop side) p = dropped_whole side p
+whole lent (call.Drop side) p = answering Done (dropped side (begun p))
+
+-- a call that neither copies bytes nor lends places
+abbrev pub is_plain : Call → Bool
+is_plain (call.TryDrain size) = false
+is_plain (call.PollDrainBytes waker luck size) = false
+is_plain (call.PollDrain waker luck acts) = false
+is_plain (call.TryFill bytes) = false
+is_plain (call.PollFillBytes waker luck bytes) = false
+is_plain (call.PollFill waker luck acts) = false
+is_plain (call.WriteBuf most) = false
+is_plain c = true
 
 -- the wakers that were called
 abbrev pub named_by : Event → List ℕ

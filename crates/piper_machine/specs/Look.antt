@@ -1,6 +1,8 @@
 -- The look that a polling or copying call begins with,
 -- run whole: is there something to read, or room to write?
 use Rattle.std.specs.Prelude.{ℕ, Bool, true, false, Option, None, Some, ◌==◌}
+use Rattle.piper_protocol.specs.declared.table.Side.{Side}
+use Rattle.piper_protocol.specs.declared.table.Side.TheVariants.{Reader, Writer}
 use Rattle.piper_sides.specs.declared.polling.Context.{Context}
 use Rattle.piper_sides.specs.declared.polling.Luck.{Luck}
 use Rattle.piper_protocol.specs.declared.answer.Polled.{Polled}
@@ -71,3 +73,7 @@ writer_looks_if_closed false cx p =
 
 abbrev pub writer_look : Option Context → Pipe → Look
 writer_look cx p = writer_looks_if_closed p.is_closed cx p
+
+abbrev pub look_of : Side → Option Context → Pipe → Look
+look_of Reader cx p = reader_look cx p
+look_of Writer cx p = writer_look cx p

@@ -6,7 +6,6 @@ ghost use Rattle.piper_protocol.specs.Table.{tail_store};
 ghost use Rattle.piper_machine.specs.Pipe.{fresh};
 ghost use Rattle.piper_machine.specs.Buffer.{written};
 ghost use Rattle.piper_machine.specs.Places.{peeked, peeked_count, IsPeekHeld, IsLentHeld};
-ghost use Rattle.piper_machine.specs.BySteps.{AreWholeBySteps};
 ghost use Rattle.piper_machine.specs.Sound.{IsSound};
 ghost use Rattle.piper_machine.specs.Disjoint.{IsDisjoint};
 ghost use Rattle.piper_machine.specs.Lend.{Lendable, lending};
@@ -121,15 +120,8 @@ impl Machine {
         let _ = &self.is_closed;
     }
 
-    // It does nothing, as `learn`. Its clause is that each call which may be opened now is the same
-    // run whole and made by steps alone; a whole call hands it on as `by_steps`.
-    fn learn_steps(&self)
-        ensures { AreWholeBySteps self.now }
-    {
-        let _ = &self.is_closed;
-    }
-
-    fn len(&self) -> usize
+    // How many bytes are unread.
+    fn unread_count(&self) -> usize
         ensures value { result ≡ length self.now.unread }
         ensures sound { IsSound self.now }
     {
@@ -202,7 +194,7 @@ impl Machine {
         ensures { result.0.now ++ result.1.now ≡ self.now.unread }
     {
         let head = self.read.front();
-        let len = self.len();
+        let len = self.unread_count();
         let first = len.min(self.read.capacity() - head);
         (&self.bytes[head..head + first], &self.bytes[..len - first])
     }

@@ -33,7 +33,7 @@ use piper_machine::calls::Step;
 use piper_machine::events::Log;
 use piper_machine::machine::{Machine, run};
 use piper_machine::refusals::RunRefusal;
-use piper_protocol::table::ReadPoint;
+use piper_protocol::table::{ReadPoint, Side};
 use std::alloc::Global;
 
 /// The bytes go in, and come out as they went in.
@@ -83,5 +83,5 @@ pub fn len_alone(machine: &mut Machine) -> usize
         Runs machine.old before (Begin (call.Query Reader Len) ∷ replicate k (Go Reader)) q after →
         IsOutside Reader q → IsReportedLast (Count result) before after }
 {
-    machine.r_len()
+    machine.len(Side::Reader)
 }

@@ -3,7 +3,6 @@
 use Rattle.std.specs.Prelude.{◌≡◌, ℕ, suc, zero, ◌+◌, ◌-◌, List, [], ◌∷◌, take, length, replicate, slice_set, Bool, true, false, Some, Result, if◌then◌else◌}
 use Rattle.std.specs.declared.result.Result.TheVariants as result
 use Rattle.piper_protocol.specs.declared.table.Side.{Side}
-use Rattle.piper_protocol.specs.declared.table.Side.TheVariants.{Reader, Writer}
 use Rattle.piper_protocol.specs.declared.table.Query.{Query}
 use Rattle.piper_protocol.specs.declared.table.Query.TheVariants as ask
 use Rattle.piper_protocol.specs.declared.answer.Polled.{Polled}
@@ -17,12 +16,12 @@ use Rattle.piper_sides.specs.declared.refusals.StepRefusal.{StepRefusal}
 use Rattle.piper_machine.specs.Pipe.{Pipe, begun}
 use Rattle.piper_machine.specs.Places.{peeked}
 use Rattle.piper_machine.specs.Query.{unread_count, is_empty, is_full, is_closed}
-use Rattle.piper_machine.specs.Look.{context, reader_look, writer_look}
+use Rattle.piper_machine.specs.Look.{context, look_of}
 use Rattle.piper_machine.specs.Lend.{lend_limit, lending}
 use Rattle.piper_machine.specs.Move.{produce, consume}
 use Rattle.piper_machine.specs.Copy.{count_of, try_fill, try_drain, fill, drain}
 use Rattle.piper_machine.specs.Scripted.{fill_from, drain_to}
-use Rattle.piper_machine.specs.Close.{close, drop_reader, drop_writer}
+use Rattle.piper_machine.specs.Close.{close, dropped}
 use Rattle.piper_machine.specs.Refusal.{refusal_of}
 
 infixr 80 ◌to◌
@@ -130,8 +129,7 @@ run (Fill bytes) p = let out = try_fill bytes p in ran (Count (count_of out.answ
 run (Drain size) p = let out = try_drain size p in ran (bytes_of p (count_of out.answer)) out.pipe
 run (Ask side query) p = ran (asked query p) (begun p)
 run (IsClosed side) p = ran (Flag (is_closed p)) (begun p)
-run (Poll Reader cx) p = let out = reader_look (Some cx) (begun p) in ran (polled_answer Flag out.answer) out.pipe
-run (Poll Writer cx) p = let out = writer_look (Some cx) (begun p) in ran (polled_answer Flag out.answer) out.pipe
+run (Poll side cx) p = let out = look_of side (Some cx) (begun p) in ran (polled_answer Flag out.answer) out.pipe
 run Peek p = ran_in_passing (Bytes (length (peeked p)) (peeked p)) p
 run (Consume n) p = ran Done (consume n (begun p))
 run (Lend most) p = let count = lent_count most p in ran (Count count) (lending (replicate count 0) (begun p))
@@ -142,8 +140,7 @@ run (PollDrain cx size) p = let out = drain (Some cx) size p in ran (polled_answ
 run (FillFrom cx acts) p = let out = fill_from (Some cx) acts p in ran (scripted_answer out.answer) out.pipe
 run (DrainTo cx acts) p = let out = drain_to (Some cx) acts p in ran (scripted_answer out.answer) out.pipe
 run Close p = ran Done (close (begun p))
-run (Drop Reader) p = ran Done (drop_reader (begun p))
-run (Drop Writer) p = ran Done (drop_writer (begun p))
+run (Drop side) p = ran Done (dropped side (begun p))
 
 -- what each call of a list returns
 abbrev pub answers : Pipe → List Call → List Answer

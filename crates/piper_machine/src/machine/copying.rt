@@ -13,7 +13,7 @@ use super::Machine;
 use crate::destination::{self, Destination};
 use crate::source::{self, Source};
 use piper_protocol::answer::{Answer, Failed, Polled};
-use piper_protocol::table::{Action, MOST_A_ROUND, ReadPoint, WritePoint};
+use piper_protocol::table::{Action, MOST_A_ROUND, ReadPoint, Side, WritePoint};
 use piper_sides::calls::Call;
 use piper_sides::polling::{Context, Luck};
 use piper_sides::scripted::{DestAct, SourceAct};
@@ -57,7 +57,7 @@ impl Machine {
                 acts = rest;
                 self.source_called(if is_failing { Err(Failed) } else { Ok(count) })
             } else {
-                self.hear_writer(action);
+                self.hear(Side::Writer, action);
                 self.writer_goes(action)
             };
             match answer {
@@ -101,7 +101,7 @@ impl Machine {
             if let Action::CallDestination = action {
                 done += self.read_round(&mut dest[done..]);
             }
-            self.hear_reader(action);
+            self.hear(Side::Reader, action);
             match self.reader_goes(action) {
                 Some(answer) => return answer,
                 None => {}
@@ -129,7 +129,7 @@ impl Machine {
                 acts = rest;
                 self.destination_called(taken)
             } else {
-                self.hear_reader(action);
+                self.hear(Side::Reader, action);
                 self.reader_goes(action)
             };
             match answer {
@@ -146,8 +146,7 @@ impl Machine {
         ensures after { self.new ≡ (try_fill bytes.now self.old).pipe }
         ensures by_steps { IsWholeBySteps (Call.TryFill bytes.now) self.old }
     {
-        self.learn_steps();
-        self.begin_writer();
+        self.begin_whole(Side::Writer);
         self.fill_whole(None, bytes, &[]).count()
     }
 
@@ -161,15 +160,14 @@ impl Machine {
         ensures by_steps { IsWholeBySteps (Call.TryDrain (length dest.old)) self.old }
     {
         self.learn();
-        self.learn_steps();
-        self.begin_reader();
+        self.begin_whole(Side::Reader);
         self.drain_slice(None, dest).count()
     }
 
     /// Publishes as many of the first bytes as there is known room, and returns how many: 0 of a
     /// closed pipe.
     ///
-    /// Without room it waits as `w_poll` does. With room it yields where the draw is 0: the
+    /// Without room it waits as `poll` does. With room it yields where the draw is 0: the
     /// caller's own waker is called, the answer is pending, and no byte has moved. `Memory` is
     /// returned exactly where a registration or a yield is needed and not granted. Nothing stays
     /// lent, whatever is returned.
@@ -180,8 +178,7 @@ impl Machine {
         ensures after { self.new ≡ (fill (Some (context waker luck)) bytes.now self.old).pipe }
         ensures by_steps { IsWholeBySteps (Call.PollFillBytes waker luck bytes.now) self.old }
     {
-        self.learn_steps();
-        self.begin_writer();
+        self.begin_whole(Side::Writer);
         without_failure(
             self.fill_whole(Some(Context { waker, luck }), bytes, &[])
                 .copied(),
@@ -191,7 +188,7 @@ impl Machine {
     /// Moves as many of the known bytes as fit to the front of `dest`, and returns how many: 0 at
     /// the end of a closed pipe.
     ///
-    /// Without a byte it waits as `r_poll` does. With one it yields where the draw is 0: the
+    /// Without a byte it waits as `poll` does. With one it yields where the draw is 0: the
     /// caller's own waker is called, the answer is pending, and no byte has moved. `Memory` is
     /// returned exactly where a registration or a yield is needed and not granted.
     pub fn r_poll_drain_bytes(&mut self, waker: u32, luck: Luck, dest: &mut [u8]) -> Polled<usize>
@@ -207,8 +204,7 @@ impl Machine {
             (Call.PollDrainBytes waker luck (length dest.old)) self.old }
     {
         self.learn();
-        self.learn_steps();
-        self.begin_reader();
+        self.begin_whole(Side::Reader);
         without_failure(
             self.drain_slice(Some(Context { waker, luck }), dest)
                 .copied(),
@@ -233,8 +229,7 @@ impl Machine {
         ensures after { self.new ≡ (fill_from (Some (context waker luck)) acts.now self.old).pipe }
         ensures by_steps { IsWholeBySteps (Call.PollFill waker luck acts.now) self.old }
     {
-        self.learn_steps();
-        self.begin_writer();
+        self.begin_whole(Side::Writer);
         self.fill_whole(Some(Context { waker, luck }), &[], acts)
             .copied()
     }
@@ -256,8 +251,7 @@ impl Machine {
         ensures after { self.new ≡ (drain_to (Some (context waker luck)) acts.now self.old).pipe }
         ensures by_steps { IsWholeBySteps (Call.PollDrain waker luck acts.now) self.old }
     {
-        self.learn_steps();
-        self.begin_reader();
+        self.begin_whole(Side::Reader);
         self.drain_script(Some(Context { waker, luck }), acts)
             .copied()
     }

@@ -52,7 +52,7 @@ fn yield_event(context: Option<Context>) -> Option<Event>
 
 impl Machine {
     // What the open call of the side holds.
-    fn call(&self, side: Side) -> OpenCall
+    pub(super) fn call(&self, side: Side) -> OpenCall
         ensures { result ≡ call_of side self.now }
     {
         match side {
@@ -71,9 +71,9 @@ impl Machine {
         let call = self.call(side);
         let event = match action {
             Action::Rest | Action::Take(_) => None,
-            Action::LoadHead => Some(Event::Looked(side, Seen::Head(self.len()))),
-            Action::LoadTail => Some(Event::Looked(side, Seen::Tail(self.len()))),
-            Action::Refresh => Some(refresh_event(side, self.len())),
+            Action::LoadHead => Some(Event::Looked(side, Seen::Head(self.unread_count()))),
+            Action::LoadTail => Some(Event::Looked(side, Seen::Tail(self.unread_count()))),
+            Action::Refresh => Some(refresh_event(side, self.unread_count())),
             Action::LoadClosed => Some(Event::Looked(side, Seen::Closed(self.is_closed))),
             Action::Register => registration(side, call.context),
             Action::StoreHead(n) => Some(Event::Consumed(self.front_bytes(n)?)),

@@ -66,7 +66,7 @@ impl Machine {
     }
 
     // Opens a call of a side that is idle, and returns at once where the call makes no step.
-    fn open(
+    pub(super) fn open(
         &mut self,
         call: &Call,
         destination: &mut Destination,
@@ -132,7 +132,7 @@ impl Machine {
         self.source = source;
     }
 
-    pub(super) fn open_query(&mut self, side: Side, query: Query)
+    fn open_query(&mut self, side: Side, query: Query)
         requires { IsIdle side self.old }
         ensures { self.new ≡ query_opened side query self.old }
     {
@@ -142,7 +142,7 @@ impl Machine {
         }
     }
 
-    pub(super) fn open_is_closed(&mut self, side: Side)
+    fn open_is_closed(&mut self, side: Side)
         requires { IsIdle side self.old }
         ensures { self.new ≡ is_closed_opened side self.old }
     {
@@ -152,7 +152,7 @@ impl Machine {
         }
     }
 
-    pub(super) fn open_poll(&mut self, side: Side, context: Context)
+    fn open_poll(&mut self, side: Side, context: Context)
         requires { IsIdle side self.old }
         ensures { self.new ≡ poll_opened side context self.old }
     {
@@ -172,7 +172,7 @@ impl Machine {
         }
     }
 
-    pub(super) fn open_drop(&mut self, side: Side)
+    fn open_drop(&mut self, side: Side)
         requires { IsIdle side self.old }
         ensures { self.new ≡ drop_opened side self.old }
     {

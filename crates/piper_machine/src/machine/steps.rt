@@ -157,7 +157,7 @@ impl Machine {
         ensures found { result ≡ found_by Side.Reader action self.old }
     {
         match action {
-            Action::LoadTail => Found::Unread(self.len()),
+            Action::LoadTail => Found::Unread(self.unread_count()),
             Action::LoadClosed => Found::Flag(self.is_closed),
             Action::Register => Found::Granted(register(
                 &mut self.reader_slot,
@@ -322,7 +322,7 @@ impl Machine {
         ensures found { result ≡ found_by Side.Writer action self.old }
     {
         match action {
-            Action::LoadHead => Found::Unread(self.len()),
+            Action::LoadHead => Found::Unread(self.unread_count()),
             Action::LoadClosed => Found::Flag(self.is_closed),
             Action::Register => Found::Granted(register(
                 &mut self.writer_slot,

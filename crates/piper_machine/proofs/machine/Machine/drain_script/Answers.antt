@@ -11,8 +11,8 @@ use Rattle.piper_machine.proofs.machine.Machine.drain_script.Goals.{Joined-actio
 pub steps-init : goal.steps-init
 steps-init c = record { draining = opened c.args.context (Acts c.args.acts.now) c.args.self.now c.open_drain.new.self c.learn.ensures c.requires.woken c.open_drain.ensures }
 
-pub hear_reader-requires : goal.hear_reader-requires
-hear_reader-requires c =
+pub hear-requires : goal.hear-requires
+hear-requires c =
     let p = c.steps.self in
     let room = wake-room p.reader p c.steps.invariant.draining.wakes in
     record { next = c.reader_next-action.ensures.step; wakes = λ wakes. room; yields = λ yields. room }
@@ -35,8 +35,8 @@ gone c =
                 c.steps.invariant.draining found (record { answer_is = w.destination_called-answer.ensures.answer; after = w.destination_called-answer.ensures.after })))
             | in_default w ↦
                 rw (w.self-is, w.answer-is, w.acts-is)
-                (goes-on p q w.hear_reader.new.self w.reader_goes-answer.new.self (Acts left) w.reader_goes-answer.result c.steps.invariant.draining
-                (λ calls. w.in_default.not-CallDestination (c.reader_next-action.ensures.step ∙ calls)) w.hear_reader.ensures.after w.reader_goes-answer.ensures.answer w.reader_goes-answer.ensures.after)
+                (goes-on p q w.hear.new.self w.reader_goes-answer.new.self (Acts left) w.reader_goes-answer.result c.steps.invariant.draining
+                (λ calls. w.in_default.not-CallDestination (c.reader_next-action.ensures.step ∙ calls)) w.hear.ensures.after w.reader_goes-answer.ensures.answer w.reader_goes-answer.ensures.after)
           ];
     }
 

@@ -16,14 +16,14 @@ steps-init c =
     let opened = opened-slice c.args.context (length c.args.dest.now) c.args.self.now c.open_drain.new.self c.learn.ensures c.requires.woken c.open_drain.ensures in
     record { within = omega arith; known = omega arith; bytes = refl; read = opened.1; draining = opened.0 }
 
-pub hear_reader-requires : goal.hear_reader-requires
-hear_reader-requires c =
+pub hear-requires : goal.hear-requires
+hear-requires c =
     let p = c.steps.self in
     let room = wake-room p.reader p c.steps.invariant.draining.wakes in
     record { next = c.reader_next-action.ensures.step; wakes = λ wakes. room; yields = λ yields. room }
 
 gone : (c : After-reader_goes) → IsGone (drain_opened c.args.context (Slice (length c.args.dest.now)) c.args.self.now) c.reader_goes.new.self.destination c.steps.self c.reader_goes.result c.reader_goes.new.self
-gone c = goes-along (drain_opened c.args.context (Slice (length c.args.dest.now)) c.args.self.now) c.steps.self c.hear_reader.new.self c.reader_goes.new.self c.reader_goes.result c.steps.invariant.draining c.hear_reader.ensures.after c.reader_goes.ensures.answer c.reader_goes.ensures.after
+gone c = goes-along (drain_opened c.args.context (Slice (length c.args.dest.now)) c.args.self.now) c.steps.self c.hear.new.self c.reader_goes.new.self c.reader_goes.result c.steps.invariant.draining c.hear.ensures.after c.reader_goes.ensures.answer c.reader_goes.ensures.after
 
 -- what is copied in front of the step is what it takes in
 copied : (c : After-reader_goes) → IsCopied c.args.self.now.unread c.args.dest.now (c.steps.done + took (read_action c.steps.self.reader) (length c.args.dest.now - c.steps.done) c.steps.self) c.match-action.done c.match-action.dest
@@ -59,7 +59,7 @@ read c =
     let size = length c.args.dest.now in
     let inv = c.steps.invariant in
     subst (λ (n : ℕ). IsReadOn before size n c.reader_goes.result c.reader_goes.new.self) (sym (copied c).count)
-    (takes-in before size c.steps.done c.steps.self c.hear_reader.new.self c.reader_goes.new.self c.reader_goes.result inv.draining.drains inv.read c.hear_reader.ensures.after c.reader_goes.ensures.answer c.reader_goes.ensures.after)
+    (takes-in before size c.steps.done c.steps.self c.hear.new.self c.reader_goes.new.self c.reader_goes.result inv.draining.drains inv.read c.hear.ensures.after c.reader_goes.ensures.answer c.reader_goes.ensures.after)
 
 pub steps-preserved : goal.steps-preserved
 steps-preserved c =

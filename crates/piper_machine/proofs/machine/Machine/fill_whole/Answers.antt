@@ -32,8 +32,8 @@ gone c =
                 (record { answer_is = w.source_called-answer.ensures.answer; after = w.source_called-answer.ensures.after }))
             | in_default w ↦
                 rw (w.self-is, w.answer-is, w.bytes-is, w.acts-is)
-                (goes-on p c.steps.self w.hear_writer.new.self w.writer_goes-answer.new.self acts w.writer_goes-answer.result c.steps.invariant.filling
-                (λ calls. w.in_default.not-CallSource (c.writer_next-action.ensures.step ∙ calls)) w.hear_writer.ensures.after w.writer_goes-answer.ensures.answer w.writer_goes-answer.ensures.after)
+                (goes-on p c.steps.self w.hear.new.self w.writer_goes-answer.new.self acts w.writer_goes-answer.result c.steps.invariant.filling
+                (λ calls. w.in_default.not-CallSource (c.writer_next-action.ensures.step ∙ calls)) w.hear.ensures.after w.writer_goes-answer.ensures.answer w.writer_goes-answer.ensures.after)
           ];
     }
 
@@ -46,8 +46,8 @@ steps-init c =
 pub source_called-answer-requires-clause-lent : goal.source_called-answer-requires-clause-lent
 source_called-answer-requires-clause-lent c = lent-anew c.steps.self c.write_round-count.new.self c.write_round-count.ensures.lent c.write_round-count.ensures.after
 
-pub hear_writer-requires : goal.hear_writer-requires
-hear_writer-requires c =
+pub hear-requires : goal.hear-requires
+hear-requires c =
     let p = c.steps.self in
     let room = wake-room p.writer p c.steps.invariant.filling.wakes in
     record { next = c.writer_next-action.ensures.step; wakes = λ wakes. room; yields = λ yields. room }

@@ -8,15 +8,15 @@ use Rattle.piper_machine.proofs.machine.Machine.r_poll_drain.Goals as goal
 
 pub returns-clause-answer : goal.returns-clause-answer
 returns-clause-answer c =
-    let begins = c.begin_reader.ensures in
-    let ended = drains-to (context c.args.waker c.args.luck) c.args.acts.now c.args.self.now c.begin_reader.new.self (record { idle = c.requires.idle; of_call = begins.call; destination = begins.destination; begins = begins.after }) in
+    let begins = c.begin_whole.ensures in
+    let ended = drains-to (context c.args.waker c.args.luck) c.args.acts.now c.args.self.now c.begin_whole.new.self begins.after begins.rests in
     c.copied.ensures ∙ ap copied_in c.drain_script.ensures.answer ∙ ap (λ (e : Ended). copied_in e.answer) ended
 
 pub returns-clause-after : goal.returns-clause-after
 returns-clause-after c =
-    let begins = c.begin_reader.ensures in
-    let ended = drains-to (context c.args.waker c.args.luck) c.args.acts.now c.args.self.now c.begin_reader.new.self (record { idle = c.requires.idle; of_call = begins.call; destination = begins.destination; begins = begins.after }) in
+    let begins = c.begin_whole.ensures in
+    let ended = drains-to (context c.args.waker c.args.luck) c.args.acts.now c.args.self.now c.begin_whole.new.self begins.after begins.rests in
     c.drain_script.ensures.after ∙ ap (λ (e : Ended). e.pipe) ended
 
 pub returns-clause-by_steps : goal.returns-clause-by_steps
-returns-clause-by_steps c = c.learn_steps.ensures (call.PollDrain c.args.waker c.args.luck c.args.acts.now)
+returns-clause-by_steps c = c.begin_whole.ensures.by_steps (call.PollDrain c.args.waker c.args.luck c.args.acts.now)

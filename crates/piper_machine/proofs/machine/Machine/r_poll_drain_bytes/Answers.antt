@@ -13,8 +13,8 @@ pub returns-clause-answer : goal.returns-clause-answer
 returns-clause-answer c =
     let cx = context c.args.waker c.args.luck in
     let size = length c.args.dest.now in
-    let begins = c.begin_reader.ensures in
-    let ended = drains cx size c.args.self.now c.begin_reader.new.self (record { idle = c.requires.idle; of_call = begins.call; destination = begins.destination; begins = begins.after }) in
+    let begins = c.begin_whole.ensures in
+    let ended = drains cx size c.args.self.now c.begin_whole.new.self begins.after begins.rests in
     c.without_failure.ensures
     ∙ ap without_failure (c.copied.ensures ∙ ap copied_in c.drain_slice.ensures.answer ∙ ap (λ (e : Ended). copied_in e.answer) ended)
     ∙ without_failure-unfailing (drain (Some cx) size c.args.self.now).answer
@@ -23,9 +23,9 @@ pub returns-clause-bytes : goal.returns-clause-bytes
 returns-clause-bytes c =
     let p = c.args.self.now in
     let size = length c.args.dest.now in
-    let begins = c.begin_reader.ensures in
+    let begins = c.begin_whole.ensures in
     let cx = context c.args.waker c.args.luck in
-    let ended = drains cx size p c.begin_reader.new.self (record { idle = c.requires.idle; of_call = begins.call; destination = begins.destination; begins = begins.after }) in
+    let ended = drains cx size p c.begin_whole.new.self begins.after begins.rests in
     let count : count_of c.without_failure.result ≡ count_of (drain (Some cx) size p).answer = ap count_of (returns-clause-answer c) in
     let left = ap (λ (e : Ended). e.pipe.unread) ended in
     let counts = drain-counts (Some cx) size p c.learn.ensures.known in
@@ -35,9 +35,9 @@ returns-clause-bytes c =
 
 pub returns-clause-after : goal.returns-clause-after
 returns-clause-after c =
-    let begins = c.begin_reader.ensures in
-    let ended = drains (context c.args.waker c.args.luck) (length c.args.dest.now) c.args.self.now c.begin_reader.new.self (record { idle = c.requires.idle; of_call = begins.call; destination = begins.destination; begins = begins.after }) in
+    let begins = c.begin_whole.ensures in
+    let ended = drains (context c.args.waker c.args.luck) (length c.args.dest.now) c.args.self.now c.begin_whole.new.self begins.after begins.rests in
     c.drain_slice.ensures.after ∙ ap (λ (e : Ended). e.pipe) ended
 
 pub returns-clause-by_steps : goal.returns-clause-by_steps
-returns-clause-by_steps c = c.learn_steps.ensures (call.PollDrainBytes c.args.waker c.args.luck (length c.args.dest.now))
+returns-clause-by_steps c = c.begin_whole.ensures.by_steps (call.PollDrainBytes c.args.waker c.args.luck (length c.args.dest.now))

@@ -9,16 +9,16 @@ use Rattle.piper_machine.proofs.machine.Machine.r_try_drain.Goals as goal
 
 pub returns-clause-count : goal.returns-clause-count
 returns-clause-count c =
-    let begins = c.begin_reader.ensures in
-    let ended = try_drains (length c.args.dest.now) c.args.self.now c.begin_reader.new.self (record { idle = c.requires; of_call = begins.call; destination = begins.destination; begins = begins.after }) in
+    let begins = c.begin_whole.ensures in
+    let ended = try_drains (length c.args.dest.now) c.args.self.now c.begin_whole.new.self begins.after begins.rests in
     c.count.ensures ∙ ap count_in c.drain_slice.ensures.answer ∙ ap (λ (e : Ended). count_in e.answer) ended
 
 pub returns-clause-bytes : goal.returns-clause-bytes
 returns-clause-bytes c =
     let p = c.args.self.now in
     let size = length c.args.dest.now in
-    let begins = c.begin_reader.ensures in
-    let ended = try_drains size p c.begin_reader.new.self (record { idle = c.requires; of_call = begins.call; destination = begins.destination; begins = begins.after }) in
+    let begins = c.begin_whole.ensures in
+    let ended = try_drains size p c.begin_whole.new.self begins.after begins.rests in
     let count : c.count.result ≡ count_of (try_drain size p).answer = c.count.ensures ∙ ap count_in c.drain_slice.ensures.answer ∙ ap (λ (e : Ended). count_in e.answer) ended in
     let left = ap (λ (e : Ended). e.pipe.unread) ended in
     let counts = drain-counts None size p c.learn.ensures.known in
@@ -28,9 +28,9 @@ returns-clause-bytes c =
 
 pub returns-clause-after : goal.returns-clause-after
 returns-clause-after c =
-    let begins = c.begin_reader.ensures in
-    let ended = try_drains (length c.args.dest.now) c.args.self.now c.begin_reader.new.self (record { idle = c.requires; of_call = begins.call; destination = begins.destination; begins = begins.after }) in
+    let begins = c.begin_whole.ensures in
+    let ended = try_drains (length c.args.dest.now) c.args.self.now c.begin_whole.new.self begins.after begins.rests in
     c.drain_slice.ensures.after ∙ ap (λ (e : Ended). e.pipe) ended
 
 pub returns-clause-by_steps : goal.returns-clause-by_steps
-returns-clause-by_steps c = c.learn_steps.ensures (call.TryDrain (length c.args.dest.now))
+returns-clause-by_steps c = c.begin_whole.ensures.by_steps (call.TryDrain (length c.args.dest.now))

@@ -8,15 +8,15 @@ use Rattle.piper_machine.proofs.machine.Machine.w_poll_fill.Goals as goal
 
 pub returns-clause-answer : goal.returns-clause-answer
 returns-clause-answer c =
-    let begins = c.begin_writer.ensures in
-    let ended = fills-from (context c.args.waker c.args.luck) c.args.acts.now c.args.self.now c.begin_writer.new.self (record { idle = c.requires.idle; of_call = begins.call; source = begins.source; begins = begins.after }) in
+    let begins = c.begin_whole.ensures in
+    let ended = fills-from (context c.args.waker c.args.luck) c.args.acts.now c.args.self.now c.begin_whole.new.self begins.after begins.rests in
     c.copied.ensures ∙ ap copied_in c.fill_whole.ensures.answer ∙ ap (λ (e : Ended). copied_in e.answer) ended
 
 pub returns-clause-after : goal.returns-clause-after
 returns-clause-after c =
-    let begins = c.begin_writer.ensures in
-    let ended = fills-from (context c.args.waker c.args.luck) c.args.acts.now c.args.self.now c.begin_writer.new.self (record { idle = c.requires.idle; of_call = begins.call; source = begins.source; begins = begins.after }) in
+    let begins = c.begin_whole.ensures in
+    let ended = fills-from (context c.args.waker c.args.luck) c.args.acts.now c.args.self.now c.begin_whole.new.self begins.after begins.rests in
     c.fill_whole.ensures.after ∙ ap (λ (e : Ended). e.pipe) ended
 
 pub returns-clause-by_steps : goal.returns-clause-by_steps
-returns-clause-by_steps c = c.learn_steps.ensures (call.PollFill c.args.waker c.args.luck c.args.acts.now)
+returns-clause-by_steps c = c.begin_whole.ensures.by_steps (call.PollFill c.args.waker c.args.luck c.args.acts.now)

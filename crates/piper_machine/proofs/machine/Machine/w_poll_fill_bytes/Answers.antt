@@ -11,17 +11,17 @@ use Rattle.piper_machine.proofs.machine.Machine.w_poll_fill_bytes.Goals as goal
 pub returns-clause-answer : goal.returns-clause-answer
 returns-clause-answer c =
     let cx = context c.args.waker c.args.luck in
-    let begins = c.begin_writer.ensures in
-    let ended = fills cx c.args.bytes.now c.args.self.now c.begin_writer.new.self (record { idle = c.requires.idle; of_call = begins.call; source = begins.source; begins = begins.after }) in
+    let begins = c.begin_whole.ensures in
+    let ended = fills cx c.args.bytes.now c.args.self.now c.begin_whole.new.self begins.after begins.rests in
     c.without_failure.ensures
     ∙ ap without_failure (c.copied.ensures ∙ ap copied_in c.fill_whole.ensures.answer ∙ ap (λ (e : Ended). copied_in e.answer) ended)
     ∙ without_failure-unfailing (fill (Some cx) c.args.bytes.now c.args.self.now).answer
 
 pub returns-clause-after : goal.returns-clause-after
 returns-clause-after c =
-    let begins = c.begin_writer.ensures in
-    let ended = fills (context c.args.waker c.args.luck) c.args.bytes.now c.args.self.now c.begin_writer.new.self (record { idle = c.requires.idle; of_call = begins.call; source = begins.source; begins = begins.after }) in
+    let begins = c.begin_whole.ensures in
+    let ended = fills (context c.args.waker c.args.luck) c.args.bytes.now c.args.self.now c.begin_whole.new.self begins.after begins.rests in
     c.fill_whole.ensures.after ∙ ap (λ (e : Ended). e.pipe) ended
 
 pub returns-clause-by_steps : goal.returns-clause-by_steps
-returns-clause-by_steps c = c.learn_steps.ensures (call.PollFillBytes c.args.waker c.args.luck c.args.bytes.now)
+returns-clause-by_steps c = c.begin_whole.ensures.by_steps (call.PollFillBytes c.args.waker c.args.luck c.args.bytes.now)

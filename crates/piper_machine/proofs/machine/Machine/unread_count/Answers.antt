@@ -1,7 +1,7 @@
 use Rattle.std.proofs.Common.{ap, length}
 use Rattle.piper_machine.specs.Pipe.{Pipe}
 use Rattle.piper_machine.proofs.Soundness.{length-unread}
-use Rattle.piper_machine.proofs.machine.Machine.len.Goals as goal
+use Rattle.piper_machine.proofs.machine.Machine.unread_count.Goals as goal
 
 pub returns-clause-value : goal.returns-clause-value
 returns-clause-value c =
