@@ -2,7 +2,8 @@
 
 ghost use Rattle.std.specs.Prelude.{◌≡◌, ◌≤◌, ◌++◌, length, take, drop, IfOk, IfErr};
 ghost use Rattle.piper_machine.specs.Refusal.{refusal_of};
-ghost use Rattle.piper_interpreter.specs.Makes.{Makes, room_for, slice_copied, drained_by, IsSilent};
+ghost use Rattle.piper_machine.specs.BySteps.{unfailing};
+ghost use Rattle.piper_interpreter.specs.Makes.{Makes, room_for, drained_by, IsSilent};
 ghost use Rattle.piper_interpreter.specs.Whole.{IsReady};
 
 use piper_machine::answer::{Answer, Failed, Polled};
@@ -40,8 +41,8 @@ pub fn room_for(call: &Call) -> usize
 }
 
 // A copy over a slice never fails.
-fn slice_copied(polled: Polled<usize>) -> Polled<Result<usize, Failed>>
-    ensures { result ≡ slice_copied polled }
+fn unfailing(polled: Polled<usize>) -> Polled<Result<usize, Failed>>
+    ensures { result ≡ unfailing polled }
 {
     match polled {
         Polled::Pending => Polled::Pending,
@@ -70,10 +71,10 @@ pub fn answer(machine: &mut Machine, call: &Call, dest: &mut [u8]) -> Answer
         Call::TryDrain(_) => Answer::Count(machine.r_try_drain(dest)),
         Call::PollFillBytes(waker, luck, bytes) => {
             let polled = machine.w_poll_fill_bytes(*waker, *luck, bytes.as_slice());
-            Answer::Copy(slice_copied(polled))
+            Answer::Copy(unfailing(polled))
         }
         Call::PollDrainBytes(waker, luck, _) => {
-            Answer::Copy(slice_copied(machine.r_poll_drain_bytes(*waker, *luck, dest)))
+            Answer::Copy(unfailing(machine.r_poll_drain_bytes(*waker, *luck, dest)))
         }
         Call::PollFill(waker, luck, acts) => {
             Answer::Copy(machine.w_poll_fill(*waker, *luck, acts.as_slice()))
