@@ -10,33 +10,70 @@ ghost use Rattle.piper_protocol.specs.declared.answer.Polled.TheVariants.{Pendin
 use piper_protocol::answer::Polled;
 use piper_protocol::indices::{ReadIndices, WriteIndices};
 use piper_protocol::read_steps::{knows_byte, knows_none};
-use piper_protocol::steps::{HasWork, OfPoll, storing};
+use piper_protocol::steps::{HasWork, OfPoll, TakeOther, storing};
 use piper_protocol::write_steps::looking;
 
-/// What a reader reaches of the pipe that it shares, by one access each.
-pub trait ReadWords {
+/// What a side reaches of the pipe that it shares, by one access each.
+pub trait Words {
+    /// Loads the closed flag.
+    fn load_closed(&mut self) -> bool;
+
+    /// Puts the caller's waker into the side's own slot.
+    fn put_own(&mut self);
+
+    /// Empties the side's own slot.
+    fn take_own(&mut self);
+
+    /// Empties the other side's slot, and keeps the waker that was there, if one was.
+    fn take_other(&mut self) -> bool;
+
+    /// Calls the waker that was taken.
+    fn wake_other(&mut self);
+}
+
+/// What a reader reaches besides.
+pub trait ReadWords: Words {
     /// Loads the writer's index, which is no more than a turn past the reader's own.
     fn load_tail(&mut self, indices: &ReadIndices) -> usize
         ensures index { result < 2 * indices.now.capacity }
         ensures within { known_in (tail_seen result indices.now) ≤ indices.now.capacity };
 
-    /// Loads the closed flag.
-    fn load_closed(&mut self) -> bool;
-
     /// Stores the reader's own index.
     fn store_head(&mut self, head: usize);
+}
 
-    /// Puts the caller's waker into the reader's slot.
-    fn put_own(&mut self);
+/// What a writer reaches besides.
+pub trait WriteWords: Words {
+    /// Loads the reader's index, which is no more than a turn after the writer's own, and leaves
+    /// room for what is lent.
+    fn load_head(&mut self, indices: &WriteIndices) -> usize
+        ensures index { result < 2 * indices.now.capacity }
+        ensures within { distance indices.now.capacity result indices.now.tail
+            ≤ indices.now.capacity }
+        ensures lent { indices.now.lent ≤ room_in (head_seen result indices.now) };
 
-    /// Empties the reader's slot.
-    fn take_own(&mut self);
+    /// Stores the writer's own index.
+    fn store_tail(&mut self, tail: usize);
+}
 
-    /// Empties the writer's slot, and keeps the waker that was there, if one was.
-    fn take_writer(&mut self) -> bool;
+// Ends a poll that knows of a byte, or of room.
+fn found(words: &mut impl Words, call: HasWork<OfPoll>) -> Polled<bool>
+    ensures { result ≡ Ready true }
+{
+    words.take_own();
+    call.took_own();
+    Polled::Ready(true)
+}
 
-    /// Calls the waker that was taken.
-    fn wake_writer(&mut self);
+// Wakes the other side after a store.
+fn wake(words: &mut impl Words, call: TakeOther<()>) {
+    if words.take_other() {
+        let call = call.took_waker();
+        words.wake_other();
+        call.woke()
+    } else {
+        call.took_none()
+    }
 }
 
 /// A reader of a shared pipe.
@@ -53,17 +90,17 @@ impl<W: ReadWords> Reader<W> {
         ensures no_memory { result ≢ Memory }
     {
         if !self.indices.knows_none() {
-            return self.found(knows_byte(OfPoll));
+            return found(&mut self.words, knows_byte(OfPoll));
         }
         let call = knows_none(OfPoll);
         if !self.refresh() {
-            return self.found(call.found());
+            return found(&mut self.words, call.found());
         }
         let call = call.found_none();
         self.words.put_own();
         let call = call.registered().loaded(self.words.load_closed());
         if !self.refresh() {
-            return self.found(call.found());
+            return found(&mut self.words, call.found());
         }
         if call.found_none() {
             Polled::Ready(false)
@@ -80,14 +117,7 @@ impl<W: ReadWords> Reader<W> {
         let call = storing(n);
         self.indices.gives(call.count());
         self.words.store_head(self.indices.head());
-        let call = call.stored();
-        if self.words.take_writer() {
-            let call = call.took_waker();
-            self.words.wake_writer();
-            call.woke()
-        } else {
-            call.took_none()
-        }
+        wake(&mut self.words, call.stored())
     }
 
     // Loads the tail, and reports whether no byte is known even now.
@@ -98,45 +128,6 @@ impl<W: ReadWords> Reader<W> {
         self.indices.sees(tail);
         self.indices.knows_none()
     }
-
-    // Ends a poll that knows of a byte.
-    fn found(&mut self, call: HasWork<OfPoll>) -> Polled<bool>
-        ensures answer { result ≡ Ready true }
-        ensures kept { self.new.indices ≡ self.old.indices }
-    {
-        self.words.take_own();
-        call.took_own();
-        Polled::Ready(true)
-    }
-}
-
-/// What a writer reaches of the pipe that it shares, by one access each.
-pub trait WriteWords {
-    /// Loads the reader's index, which is no more than a turn after the writer's own, and leaves
-    /// room for what is lent.
-    fn load_head(&mut self, indices: &WriteIndices) -> usize
-        ensures index { result < 2 * indices.now.capacity }
-        ensures within { distance indices.now.capacity result indices.now.tail
-            ≤ indices.now.capacity }
-        ensures lent { indices.now.lent ≤ room_in (head_seen result indices.now) };
-
-    /// Loads the closed flag.
-    fn load_closed(&mut self) -> bool;
-
-    /// Stores the writer's own index.
-    fn store_tail(&mut self, tail: usize);
-
-    /// Puts the caller's waker into the writer's slot.
-    fn put_own(&mut self);
-
-    /// Empties the writer's slot. Whether a waker was there.
-    fn take_own(&mut self) -> bool;
-
-    /// Empties the reader's slot, and keeps the waker that was there, if one was.
-    fn take_reader(&mut self) -> bool;
-
-    /// Calls the waker that was taken.
-    fn wake_reader(&mut self);
 }
 
 /// A writer to a shared pipe.
@@ -159,17 +150,17 @@ impl<W: WriteWords> Writer<W> {
             return Polled::Ready(false);
         }
         if !self.indices.knows_none() {
-            return self.found(call.knows_room());
+            return found(&mut self.words, call.knows_room());
         }
         let call = call.knows_none();
         if !self.refresh() {
-            return self.found(call.found());
+            return found(&mut self.words, call.found());
         }
         let call = call.found_none();
         self.words.put_own();
         let call = call.registered();
         if !self.refresh() {
-            return self.found(call.found());
+            return found(&mut self.words, call.found());
         }
         let call = call.found_none();
         let is_closed = self.words.load_closed();
@@ -189,14 +180,7 @@ impl<W: WriteWords> Writer<W> {
         let call = storing(n);
         self.indices.publishes(call.count());
         self.words.store_tail(self.indices.tail());
-        let call = call.stored();
-        if self.words.take_reader() {
-            let call = call.took_waker();
-            self.words.wake_reader();
-            call.woke()
-        } else {
-            call.took_none()
-        }
+        wake(&mut self.words, call.stored())
     }
 
     // Loads the head, and reports whether no room is known even now.
@@ -207,15 +191,5 @@ impl<W: WriteWords> Writer<W> {
         let head = self.words.load_head(&self.indices);
         self.indices.sees(head);
         self.indices.knows_none()
-    }
-
-    // Ends a poll that knows of room.
-    fn found(&mut self, call: HasWork<OfPoll>) -> Polled<bool>
-        ensures answer { result ≡ Ready true }
-        ensures kept { self.new.indices ≡ self.old.indices }
-    {
-        self.words.take_own();
-        call.took_own();
-        Polled::Ready(true)
     }
 }
