@@ -1,4 +1,6 @@
 //! A stored script with its answers, and its replay.
+ghost use Rattle.std.specs.Prelude.{IfOk, IsTrue, ◌↔◌};
+ghost use Rattle.piper_compare.specs.Answers.{GivesAnswers};
 
 use anyhow::Context;
 use piper_differential::modes::{play_on_both, play_on_handles};
@@ -30,6 +32,15 @@ impl Vector<'_> {
             status: line.get("status")?.as_u64()?,
             stderr: text_of(line, "stderr").unwrap_or(""),
         })
+    }
+
+    // Whether a replay that printed this, and ended so, gave just the answers that it should.
+    fn is_answered(&self, ended: Ended, printed: &[u8]) -> bool
+        ensures { IsTrue result ↔ GivesAnswers self.now ended printed.now }
+    {
+        printed == self.output.as_bytes()
+            && u64::from(ended.status) == self.status
+            && ended.text == self.stderr
     }
 }
 
@@ -91,25 +102,25 @@ fn first_difference<'text>(wanted: &'text str, given: &'text str) -> Option<Diff
 }
 
 /// Whether a script gave the answers that it should; if not, reports what differs.
-fn is_alike(
-    rt: &HostRuntime,
-    vector: &Vector<'_>,
-    ended: Ended,
-    output: &[u8],
-) -> io::Result<bool> {
+fn is_alike(rt: &HostRuntime, vector: &Vector<'_>, ended: Ended, output: &[u8]) -> io::Result<bool>
+    ensures { IfOk result (λ alike. IsTrue alike ↔ GivesAnswers vector.now ended output.now) }
+{
+    if vector.is_answered(ended, output) {
+        return Ok(true);
+    }
     let given = str::from_utf8(output).unwrap_or("no text");
-    if let Some(difference) = first_difference(vector.output, given) {
-        report_difference(rt, &difference)?;
-        return Ok(false);
+    match first_difference(vector.output, given) {
+        Some(difference) => report_difference(rt, &difference)?,
+        None => report_end(rt, vector, ended)?,
     }
-    if u64::from(ended.status) != vector.status || ended.text != vector.stderr {
-        println!(rt;
-            "status {} {} in place of {} {}",
-            ended.status, ended.text, vector.status, vector.stderr
-        )?;
-        return Ok(false);
-    }
-    Ok(true)
+    Ok(false)
+}
+
+fn report_end(rt: &HostRuntime, vector: &Vector<'_>, ended: Ended) -> io::Result<()> {
+    println!(rt;
+        "status {} {} in place of {} {}",
+        ended.status, ended.text, vector.status, vector.stderr
+    )
 }
 
 fn report_difference(rt: &HostRuntime, difference: &Difference<'_>) -> io::Result<()> {
