@@ -1,11 +1,12 @@
 -- How the pump ends after a transfer, and the exit status that reports it.
 use Rattle.std.specs.Prelude.{◌≡◌, ◌≢◌, ◌⊎◌, ℕ, Bool, true, false, List, Result, Ok, Err, ⊤, string_bytes}
 use Rattle.std.specs.IoError.{error_kind}
+use Rattle.std.specs.declared.io.Error.{Error as IoError}
 use Rattle.std.specs.declared.io.ErrorKind.TheVariants.{BrokenPipe}
 use Rattle.clap.specs.Words.{kind_of}
 use Rattle.clap.specs.declared.error.kind.ErrorKind.TheVariants.{DisplayHelp, DisplayVersion}
 use Rattle.clap.specs.declared.error.Error.{Error}
-use Rattle.piper_protocol.specs.Reported.{HasFailed}
+use Rattle.piper_protocol.specs.Reported.{HasFailed, IsOfStd}
 use Rattle.piper_transfer.specs.declared.error.TransferError.{TransferError}
 use Rattle.piper_transfer.specs.declared.error.TransferError.TheVariants.{Read, Write, Full, Memory, Turns}
 use Rattle.pump_engine.specs.declared.ended.Ended.{Ended}
@@ -78,12 +79,18 @@ IsToldOf name other = ⊥
 abbrev pub IsShown : Error → Type 0
 IsShown error = (kind_of error ≡ DisplayHelp) ⊎ (kind_of error ≡ DisplayVersion)
 
--- the exit status that reports it: of words on the command line 0 where they ask for the help or
--- the version, or 4 where that could not be printed; and else 2
+-- the exit status that reports whether the help or the version was printed: 0, or 4 where that failed
+abbrev pub IsOfPrint : ℕ → Type 0
+IsOfPrint n =
+    ((n ≡ 0) × IsOfStd {T = Unit {0}} {E = IoError} (Ok tt))
+    ⊎ ((n ≡ 4) × (e : IoError) × IsOfStd {T = Unit {0}} (Err e))
+
+-- the exit status that reports it: of words on the command line that of the print where they ask for
+-- the help or the version, and else 2
 abbrev pub HasStatus : Ended → ℕ → Type 0
 HasStatus ended.Moved n = n ≡ 0
 HasStatus (ended.Words error) n =
-    (IsShown error → (n ≡ 0) ⊎ (n ≡ 4)) × (¬ IsShown error → n ≡ 2)
+    (IsShown error → IsOfPrint n) × (¬ IsShown error → n ≡ 2)
 HasStatus ended.NotText n = n ≡ 2
 HasStatus (ended.Value option) n = n ≡ 2
 HasStatus (ended.NoInput file) n = n ≡ 3

@@ -1,8 +1,8 @@
 //! How the program ends: what it says, and its exit status.
-ghost use Rattle.std.specs.Prelude.{◌≡◌, ◌⊎◌, IfErr, IfOk, string_bytes};
+ghost use Rattle.std.specs.Prelude.{◌≡◌, IfErr, IfOk, string_bytes};
 ghost use Rattle.std.specs.Process.{exit_status};
 ghost use Rattle.piper_protocol.specs.Reported.{HasFailed};
-ghost use Rattle.pump_engine.specs.Ended.{EndsAs, HasStatus, IsOfOption, IsOfRange, IsShown, IsUnopened};
+ghost use Rattle.pump_engine.specs.Ended.{EndsAs, HasStatus, IsOfOption, IsOfPrint, IsOfRange, IsShown, IsUnopened};
 ghost use Rattle.pump_engine.specs.Why.{IsWhySaid, SaysWhy, why_text};
 
 use piper_protocol::reported::reported;
@@ -189,7 +189,7 @@ impl Display for Why<'_> {
 // Prints the help or the version, or why the words are refused. A help that can't be printed is an
 // output that failed.
 fn report_words<R: Print + Eprint + AllocGlobal>(rt: &R, error: &clap::Error) -> u8
-    ensures shown { IsShown error.now → (result ≡ 0) ⊎ (result ≡ 4) }
+    ensures shown { IsShown error.now → IsOfPrint result }
     ensures refused { ¬ IsShown error.now → result ≡ 2 }
 {
     let status = error.exit_code() as u8;
@@ -198,7 +198,7 @@ fn report_words<R: Print + Eprint + AllocGlobal>(rt: &R, error: &clap::Error) ->
         let _ = print_refused(rt, error);
         return status;
     }
-    match error.print(rt) {
+    match reported(error.print(rt)) {
         Err(failed) => {
             let _ = eprintln!(rt; "piper_pump: writing the output failed: {failed}");
             4
