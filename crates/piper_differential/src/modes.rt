@@ -3,7 +3,7 @@
 use crate::halt::{Halt, finish};
 use crate::hands::Hands;
 use crate::random::Drawn;
-use crate::twin::{Compared, Twin};
+use crate::twin::{Compared, Difference, Twin};
 use piper_interpreter::replay::Ended;
 use piper_interpreter::stream::{Lines, write_reply};
 use piper_script::parser::parse;
@@ -16,11 +16,21 @@ use std::random::RandomSource;
 /// The seed of the generators where a script is read.
 const SEED: u64 = 1;
 
-/// How a comparison ended that was made to its end, or stopped.
-fn end_of(played: Result<bool, Stop>) -> Ended {
+/// What came of scripts.
+enum Played {
+    /// They were played to their end, and nothing differed.
+    Whole,
+    /// A line was refused.
+    Refused,
+    Differ(Difference),
+}
+
+/// How a program ends by what came of its scripts, or what stopped it.
+fn end_of(played: Result<Played, Stop>) -> Ended {
     match played {
-        Ok(true) => Ended::DONE,
-        Ok(false) => Ended::REFUSED,
+        Ok(Played::Whole) => Ended::DONE,
+        Ok(Played::Refused) => Ended::REFUSED,
+        Ok(Played::Differ(difference)) => difference.ended(),
         Err(stop) => Ended::from(stop),
     }
 }
@@ -54,8 +64,8 @@ where
     end_of(draw_twin(rt, seed, count, output))
 }
 
-// Plays a script on the handles. The answer is whether it was played to its end.
-fn play_handles<H, I: Read, O: Write>(rt: &H, input: &mut I, output: &mut O) -> Result<bool, Stop>
+// Plays a script on the handles.
+fn play_handles<H, I: Read, O: Write>(rt: &H, input: &mut I, output: &mut O) -> Result<Played, Stop>
 where
     H: RandomSource + AllocGlobal + Clone + Drop,
 {
@@ -65,13 +75,13 @@ where
     play_each(&mut lines, &mut hands, &mut reply, output)
 }
 
-// Plays each line on the handles, and writes the reply. The answer is whether none was refused.
+// Plays each line on the handles, and writes the reply.
 fn play_each<H, I: Read, O: Write>(
     lines: &mut Lines<'_, I>,
     hands: &mut Hands<H>,
     reply: &mut Reply,
     output: &mut O,
-) -> Result<bool, Stop>
+) -> Result<Played, Stop>
 where
     H: RandomSource + AllocGlobal + Drop,
 {
@@ -89,15 +99,14 @@ where
         let is_refused = finish(played, number, reply)?;
         write_reply(reply, output)?;
         if is_refused {
-            return Ok(false);
+            return Ok(Played::Refused);
         }
     }
-    Ok(true)
+    Ok(Played::Whole)
 }
 
-// Plays a script on both, and reports where the answers differ. Returns whether it was played to
-// its end.
-fn play_twin<H, I: Read, O: Write>(rt: &H, input: &mut I, output: &mut O) -> Result<bool, Stop>
+// Plays a script on both, and tells where the answers differ.
+fn play_twin<H, I: Read, O: Write>(rt: &H, input: &mut I, output: &mut O) -> Result<Played, Stop>
 where
     H: RandomSource + AllocGlobal + Clone + Drop,
 {
@@ -106,13 +115,12 @@ where
     compare_each(&mut lines, &mut twin, output)
 }
 
-// Plays each line on both, and reports the first difference. Returns whether there is none, and no
-// line was refused.
+// Plays each line on both, and tells the first difference.
 fn compare_each<H, I: Read, O: Write>(
     lines: &mut Lines<'_, I>,
     twin: &mut Twin<H>,
     output: &mut O,
-) -> Result<bool, Stop>
+) -> Result<Played, Stop>
 where
     H: RandomSource + AllocGlobal + Clone + Drop,
 {
@@ -126,18 +134,37 @@ where
             Compared::Alike => write_reply(&twin.handles, output)?,
             Compared::Refused => {
                 write_reply(&twin.handles, output)?;
-                return Ok(false);
+                return Ok(Played::Refused);
             }
-            Compared::Differ => {
-                write_difference(twin, number, line, output)?;
-                return Ok(false);
+            Compared::Differ(difference) => {
+                let told = tell(difference, None, twin, number, line, output)?;
+                return Ok(Played::Differ(told));
             }
         }
     }
-    Ok(true)
+    Ok(Played::Whole)
+}
+
+// Writes where they differ, in the script of that seed, if it was drawn.
+fn tell<H, O: Write>(
+    difference: Difference,
+    seed: Option<u64>,
+    twin: &Twin<H>,
+    number: u64,
+    line: &[u8],
+    output: &mut O,
+) -> Result<Difference, Stop>
+where
+    H: RandomSource + AllocGlobal + Clone + Drop,
+{
+    match write_difference(seed, twin, number, line, output) {
+        Ok(()) => Ok(difference),
+        Err(stop) => Err(difference.untold(stop)),
+    }
 }
 
 fn write_difference<H, O: Write>(
+    seed: Option<u64>,
     twin: &Twin<H>,
     number: u64,
     line: &[u8],
@@ -146,6 +173,9 @@ fn write_difference<H, O: Write>(
 where
     H: RandomSource + AllocGlobal + Clone + Drop,
 {
+    if let Some(seed) = seed {
+        write!(output, "seed {seed}, ").map_err(|_| Stop::Write)?;
+    }
     write!(output, "line {number}: ").map_err(|_| Stop::Write)?;
     output.write_all(line).map_err(|_| Stop::Write)?;
     write!(output, "\nmachine: ").map_err(|_| Stop::Write)?;
@@ -154,27 +184,29 @@ where
     write_reply(&twin.handles, output)
 }
 
-// Plays so many drawn scripts on both, and reports the first difference. Returns whether there is
-// none.
-fn draw_twin<H, O: Write>(rt: &H, seed: u64, count: u64, output: &mut O) -> Result<bool, Stop>
+// Plays so many drawn scripts on both, and tells the first difference.
+fn draw_twin<H, O: Write>(rt: &H, seed: u64, count: u64, output: &mut O) -> Result<Played, Stop>
 where
     H: RandomSource + AllocGlobal + Clone + Drop,
 {
     let mut lines = 0u64;
     for index in 0..count {
-        let seed = seed.wrapping_add(index);
-        match play_drawn(rt, seed, output)? {
-            Some(played) => lines = lines.saturating_add(played),
-            None => return Ok(false),
+        match play_drawn(rt, seed.wrapping_add(index), &mut lines, output)? {
+            Some(difference) => return Ok(Played::Differ(difference)),
+            None => {}
         }
     }
     writeln!(output, "{count} scripts, {lines} lines: no difference").map_err(|_| Stop::Write)?;
-    Ok(true)
+    Ok(Played::Whole)
 }
 
-// Plays the script that is drawn from the seed. The answer is how many lines it has, if none
-// differs.
-fn play_drawn<H, O: Write>(rt: &H, seed: u64, output: &mut O) -> Result<Option<u64>, Stop>
+// Plays the script that is drawn from the seed, and counts its lines, up to the first that differs.
+fn play_drawn<H, O: Write>(
+    rt: &H,
+    seed: u64,
+    lines: &mut u64,
+    output: &mut O,
+) -> Result<Option<Difference>, Stop>
 where
     H: RandomSource + AllocGlobal + Clone + Drop,
 {
@@ -183,35 +215,26 @@ where
     let mut line = String::new(rt.alloc());
     let count = 20 + u64::from(drawn.below(60));
     for number in 1..count + 1 {
-        if !play_next(&mut drawn, &mut twin, &mut line, (seed, number), output)? {
-            return Ok(None);
+        draw_line(&mut drawn, number, &mut line)?;
+        match twin.play(number, line.as_bytes())? {
+            Compared::Differ(difference) => {
+                let line = line.as_bytes();
+                return tell(difference, Some(seed), &twin, number, line, output).map(Some);
+            }
+            Compared::Silent | Compared::Alike | Compared::Refused => {}
         }
+        *lines = lines.saturating_add(1);
     }
-    Ok(Some(count))
+    Ok(None)
 }
 
-// Draws the line of that number in the script of that seed, and plays it on both. Returns whether
-// they do not differ.
-fn play_next<H, O: Write>(
-    drawn: &mut Drawn,
-    twin: &mut Twin<H>,
-    line: &mut String,
-    (seed, number): (u64, u64),
-    output: &mut O,
-) -> Result<bool, Stop>
-where
-    H: RandomSource + AllocGlobal + Clone + Drop,
-{
+// Draws the line of that number: the first makes a pipe.
+fn draw_line(drawn: &mut Drawn, number: u64, line: &mut String) -> Result<(), Stop> {
     line.clear();
     if number == 1 {
         drawn.write_pipe(line)?;
     } else {
         drawn.write_line(line)?;
     }
-    let Compared::Differ = twin.play(number, line.as_bytes())? else {
-        return Ok(true);
-    };
-    write!(output, "seed {seed}, ").map_err(|_| Stop::Write)?;
-    write_difference(twin, number, line.as_bytes(), output)?;
-    Ok(false)
+    Ok(())
 }

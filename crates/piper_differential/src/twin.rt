@@ -4,6 +4,7 @@ ghost use Rattle.std.specs.Prelude.{◌≡◌, IfOk};
 use crate::halt::{Halt, finish};
 use crate::hands::Hands;
 use piper_interpreter::player::Player;
+use piper_interpreter::replay::Ended;
 use piper_script::parser::parse;
 use piper_script::reply::Reply;
 use piper_script::stop::Stop;
@@ -21,14 +22,37 @@ pub struct Twin<H: Drop> {
 }
 
 /// What came of a line that both answered.
-#[derive(Clone, Copy)]
 pub enum Compared {
     /// It is no command.
     Silent,
     Alike,
     /// Both refused it.
     Refused,
-    Differ,
+    Differ(Difference),
+}
+
+/// The two differ. It can't be dropped, so no comparison passes over it: it ends by it, or since it
+/// can't be told.
+pub struct Difference {
+    _made: (),
+}
+
+impl Difference {
+    /// How a comparison ends that came to it.
+    pub fn ended(self) -> Ended
+        ensures { result.status ≡ 1 }
+    {
+        let Difference { _made: _ } = self;
+        Ended::REFUSED
+    }
+
+    /// It can't be told, since that stopped.
+    pub fn untold(self, stop: Stop) -> Stop
+        ensures { result ≡ stop }
+    {
+        let Difference { _made: _ } = self;
+        stop
+    }
 }
 
 impl<H: RandomSource + AllocGlobal + Drop> Twin<H> {
@@ -69,7 +93,7 @@ impl<H: RandomSource + AllocGlobal + Drop> Twin<H> {
         let played = self.hands.play(command, &mut self.handles);
         finish(played, number, &mut self.handles)?;
         Ok(if self.machine.as_bytes() != self.handles.as_bytes() {
-            Compared::Differ
+            Compared::Differ(Difference { _made: () })
         } else if is_refused {
             Compared::Refused
         } else {
