@@ -79,14 +79,14 @@ IsToldOf name other = ⊥
 abbrev pub IsShown : Error → Type 0
 IsShown error = (kind_of error ≡ DisplayHelp) ⊎ (kind_of error ≡ DisplayVersion)
 
--- the exit status that reports whether the help or the version was printed: 0, or 4 where that failed
+-- the exit status of a help or a version: 0 where it was printed, and 4 where that failed
 abbrev pub IsOfPrint : ℕ → Type 0
 IsOfPrint n =
     ((n ≡ 0) × IsOfStd {T = Unit {0}} {E = IoError} (Ok tt))
     ⊎ ((n ≡ 4) × (e : IoError) × IsOfStd {T = Unit {0}} (Err e))
 
--- the exit status that reports it: of words on the command line that of the print where they ask for
--- the help or the version, and else 2
+-- the exit status that reports it; of words on the command line it is that of the print where they
+-- ask for the help or the version, and else 2
 abbrev pub HasStatus : Ended → ℕ → Type 0
 HasStatus ended.Moved n = n ≡ 0
 HasStatus (ended.Words error) n =
