@@ -113,7 +113,7 @@ GIVES_NONE = {
 }
 
 # The crates that hold memory which two threads share, or which belongs to C.
-UNSAFE = {"lent_space", "piper_c", "piper_ring", "token_cell"}
+UNSAFE = {"piper_c", "piper_cells", "piper_ring"}
 
 DECLARES = re.compile(r"^((?:(?:abbrev|unfoldable|opaque|pub)\s+)*)([^\s:(){}]+)\s*:(?=\s)", re.M)
 HOLDS_OF_ALL = re.compile(r"^([^\s(]+)((?: [a-z]\w*)*) = ⊤$", re.M)

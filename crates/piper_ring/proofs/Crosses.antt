@@ -4,10 +4,10 @@ use Rattle.std.proofs.Common.{drop}
 use base.Shift.{Keyless}
 use Rattle.std.proofs.Crossing.{frees}
 use Rattle.piper_ring.specs.Block.{purpose, size_of_block}
-use Rattle.lent_space.specs.Space.{lease}
+use Rattle.piper_cells.specs.Space.{lease}
 use Rattle.piper_ring.specs.Shared.{rights, spare}
 use Rattle.piper_ring.proofs.Evidence.{announced-Keyless, took-Keyless, raised-Keyless}
-use Rattle.token_cell.proofs.Crosses.{right-Keyless}
+use Rattle.piper_cells.proofs.CellCrosses.{right-Keyless}
 use Rattle.piper_ring.proofs.PlacesLaws.{run-Keyless, span-Keyless}
 
 pub where-Keyless : (b : Bool) (F : Fml) → Keyless F → Keyless (where_gone b F)

@@ -9,9 +9,9 @@ use denote.Shadow.{makes_shadow}
 use denote.Struct.Struct.{within}
 use denote.Ref.{NamedLft}
 use Rattle.piper_ring.specs.contracts.ring.slots.SlotWords as SlotWords
-use Rattle.lent_space.specs.contracts.Lease as Lease
-use Rattle.lent_space.specs.contracts.Lender as Lender
-use Rattle.lent_space.specs.contracts.Space as Space
+use Rattle.piper_cells.specs.contracts.lent_space.Lease as Lease
+use Rattle.piper_cells.specs.contracts.lent_space.Lender as Lender
+use Rattle.piper_cells.specs.contracts.lent_space.Space as Space
 use Rattle.piper_ring.specs.contracts.ring.memory.Frame as Frame
 use Rattle.piper_ring.specs.contracts.ring.memory.Memory as Memory
 use Rattle.piper_ring.specs.contracts.ring.memory.Parts as Parts

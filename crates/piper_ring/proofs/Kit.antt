@@ -67,5 +67,5 @@ pub use Rattle.rtrb.proofs.Walks.{proved, leaves}
 pub use Rattle.rtrb.specs.Fifo.{position_of, slot_of}
 pub use Rattle.rtrb.specs.Shared.{run, span}
 pub use Rattle.std_alloc.proofs.RcSteps.{word-Good}
-pub use Rattle.token_cell.proofs.Fields.{right_val, RightData, right_made, right_told}
-pub use Rattle.token_cell.specs.TokenCell.{right}
+pub use Rattle.piper_cells.proofs.CellFields.{right_val, RightData, right_made, right_told}
+pub use Rattle.piper_cells.specs.TokenCell.{right}

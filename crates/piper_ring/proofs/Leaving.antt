@@ -7,7 +7,7 @@ use Rattle.piper_ring.proofs.PlacesParts.{forgets}
 use mir.Raw.{raw as bare}
 use Rattle.piper_ring.specs.Places.{fact}
 use Rattle.piper_ring.proofs.Steps.{flag_small, Rest, OneStays, ReaderSees, WriterSees, reader_opens, writer_opens, closes, inside, raise}
-use Rattle.lent_space.specs.Space.{lease}
+use Rattle.piper_cells.specs.Space.{lease}
 use Rattle.piper_ring.specs.Block.{space_room}
 use types.Kit.{group}
 use Rattle.piper_ring.specs.Shared.{block_room, bytes_room, found_left, four_rooms, frame as frame_of, leases, left_in, one_gone, titles, wakers_left, whole}

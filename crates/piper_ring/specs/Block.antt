@@ -6,7 +6,7 @@ use denote.Builtin.{u64}
 use denote.RawPtr.{Ptr, block_ptr, block_of, count_of}
 use Rattle.std_heap.specs.contracts.GlobalAllocator.TheImpl.{ghosts}
 use Rattle.core.specs.Allocator.{HasLayout, owned_block, array_of}
-use Rattle.lent_space.specs.Space.{room}
+use Rattle.piper_cells.specs.Space.{room}
 use Rattle.piper_ring.specs.Places.{fact}
 
 -- of cache lines: head, the writer's slot, closed with the reader's slot, and tail, and one word that

@@ -1,6 +1,6 @@
 -- The places of the wakers of a ring's two sides.
 use Rattle.std.specs.Prelude.{◌≡◌, ℕ, Option, IsSome}
-use Rattle.lent_space.specs.declared.Placed.{Placed}
+use Rattle.piper_cells.specs.declared.lent_space.Placed.{Placed}
 use Rattle.piper_ring.specs.Shared.{Names}
 use Rattle.piper_ring.specs.Loads.{FoundGone, FoundLeft}
 use Rattle.piper_ring.specs.declared.ends.cells.LeftWakers.{LeftWakers}

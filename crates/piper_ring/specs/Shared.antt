@@ -15,8 +15,8 @@ use Rattle.core.specs.Allocator.{array_of}
 use Rattle.std.specs.Coded.{Coded, code_by, coded×}
 use Rattle.rtrb.specs.Fifo.{position_of}
 use Rattle.rtrb.specs.Shared.{run, span}
-use Rattle.token_cell.specs.TokenCell.{right as right_to}
-use Rattle.lent_space.specs.Space.{lease, lender}
+use Rattle.piper_cells.specs.TokenCell.{right as right_to}
+use Rattle.piper_cells.specs.Space.{lease, lender}
 use Rattle.piper_ring.specs.Block.{behind, heap_token, purpose, size_of_block, space_of, space_room, space_words}
 use Rattle.piper_ring.specs.Places.{fact, byte, unset}
 pub use Rattle.piper_ring.specs.Streams.{Stream}

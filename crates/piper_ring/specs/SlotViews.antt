@@ -1,6 +1,6 @@
 -- What is known of the slots, as values.
 use Rattle.std.specs.Prelude.{◌≡◌, ℕ, Bool, true, false}
-use Rattle.token_cell.specs.declared.Token.{Token}
+use Rattle.piper_cells.specs.declared.token_cell.Token.{Token}
 use Rattle.piper_ring.specs.Shared.{Names}
 use Rattle.piper_ring.specs.Loads.{FoundLeft}
 use Rattle.piper_ring.specs.Slots.{Stored, nothing_stored, Waits as WaitsOf, Wakes as WakesOf}

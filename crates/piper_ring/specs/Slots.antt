@@ -8,7 +8,7 @@ use base.Fml.{Fml, fsep, fex, fauth}
 use denote.RawPtr.{Ptr}
 use Rattle.std.specs.Coded.{Coded, code_by, coded×, coded_list, coded_ℕ, coded_bool}
 use Rattle.piper_ring.specs.Places.{fact}
-use Rattle.token_cell.specs.TokenCell.{right}
+use Rattle.piper_cells.specs.TokenCell.{right}
 use Rattle.piper_ring.specs.Words.{word}
 
 -- What a side has stored for the other to find: the bytes that the writer published, or how many

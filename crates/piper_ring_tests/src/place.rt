@@ -1,7 +1,7 @@
 //! A place is filled and emptied, and lets go what lies there at last.
+use piper_cells::token_cell::TokenCell;
 use std::sync::Arc;
 use std::test::Fail;
-use token_cell::TokenCell;
 
 #[test]
 fn what_was_put_is_taken(rt: HostRuntime) -> Result<(), Fail> {

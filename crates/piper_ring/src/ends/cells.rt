@@ -1,7 +1,7 @@
 //! Where the wakers of both sides lie while they are registered.
 ghost use Rattle.std.specs.Prelude.{◌≡◌, true, false};
 
-use token_cell::{Token, TokenCell};
+use piper_cells::token_cell::{Token, TokenCell};
 
 /// The places of both sides' wakers, of any type.
 #[derive(Drop)]

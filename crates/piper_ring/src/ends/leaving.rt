@@ -12,9 +12,9 @@ use crate::ring::memory::block_size;
 use crate::ring::places::Blank;
 use crate::ring::remains::Remains;
 use crate::ring::seats::{ReadSeat, WriteSeat};
-use lent_space::{Lease, Placed};
+use piper_cells::lent_space::{Lease, Placed};
+use piper_cells::token_cell::{Token, TokenCell};
 use std::alloc::Global;
-use token_cell::{Token, TokenCell};
 
 /// The reader's end, which has closed the ring. The places of the bytes that it knew of go to
 /// whoever frees them.

@@ -1,7 +1,7 @@
 //! A ring is opened.
 ghost use Rattle.std.specs.Prelude.{◌≡◌, ℕ, ◌*◌, ◌<◌, ◌^◌, [], true, false, IfErr, IfOk};
 ghost use Rattle.piper_protocol.specs.Reported.{HasFailed};
-ghost use Rattle.lent_space.specs.Space.{Fits};
+ghost use Rattle.piper_cells.specs.Space.{Fits};
 ghost use Rattle.piper_ring.specs.Block.{size_of_block, space_of, space_words};
 ghost use Rattle.piper_ring.specs.contracts.ends.cells.WakerCells.{the_row as cells_row};
 ghost use Rattle.piper_ring.specs.Opened.{FreshReadEnd, FreshReadSlots, FreshWriteEnd, FreshWriteSlots};
@@ -15,11 +15,11 @@ use crate::ends::slots::{ReadRegistrations, ReadSlotParts, WriteRegistrations, W
 use crate::ends::writer::{WriteEnd, WriteParts};
 use crate::ring::memory::{Memory, Parts, block_size};
 use crate::ring::seats::open;
-use lent_space::{Lease, Lender};
+use piper_cells::lent_space::{Lease, Lender};
+use piper_cells::token_cell::Token;
 use piper_protocol::indices::{ReadIndices, WriteIndices};
 use piper_protocol::memory::OutOfMemory;
 use std::alloc::{AllocError, Global};
-use token_cell::Token;
 
 /// The two ends of a new ring for `capacity` bytes. Where memory is refused, all that was got is
 /// given back.

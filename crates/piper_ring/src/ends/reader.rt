@@ -6,7 +6,7 @@ use crate::ends::writer::WriteEnd;
 use crate::ring::marks::{LastReadMark, ReadMark, Saw, WriteMark};
 use crate::ring::places::Places;
 use crate::ring::seats::ReadSeat;
-use lent_space::Lease;
+use piper_cells::lent_space::Lease;
 use piper_protocol::indices::ReadIndices;
 use std::alloc::Global;
 use std::marker::Model;

@@ -8,8 +8,8 @@ pub(crate) mod writer;
 
 use crate::ring::marks::{ReadMark, Saw, WriteMark};
 use crate::ring::slots::{Waits, Wakes};
+use piper_cells::token_cell::Token;
 use std::marker::Model;
-use token_cell::Token;
 
 /// The other end has the place of this end's waker: the waker was not registered any more, and the
 /// place was not handed back.

@@ -5,7 +5,7 @@ use crate::ends::leaving::LeavingWriter;
 use crate::ends::room::Room;
 use crate::ring::marks::{LastReadMark, ReadMark, Saw, WriteMark};
 use crate::ring::seats::WriteSeat;
-use lent_space::Lease;
+use piper_cells::lent_space::Lease;
 use piper_protocol::indices::WriteIndices;
 use std::alloc::Global;
 use std::marker::Model;

@@ -5,7 +5,7 @@ ghost use Rattle.piper_protocol.specs.Reported.{HasFailed};
 ghost use Rattle.piper_ring.specs.Block.{IsClaim, size_of_block, space_of, space_words, unused};
 ghost use Rattle.piper_ring.specs.Parts.{framed, parted};
 
-use lent_space::Space;
+use piper_cells::lent_space::Space;
 use piper_protocol::memory::OutOfMemory;
 use std::alloc::{Allocator, Global};
 use std::marker::Model;

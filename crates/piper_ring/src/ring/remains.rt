@@ -6,9 +6,9 @@ ghost use Rattle.piper_ring.specs.Shared.{Names, names_code, remains_own};
 ghost use Rattle.piper_ring.specs.SlotViews.{IsLeft};
 
 use crate::ring::memory::{Frame, READER_FLAG, SPACE_WORD, WRITER_FLAG};
-use lent_space::{Lease, Lender};
+use piper_cells::lent_space::{Lease, Lender};
+use piper_cells::token_cell::Token;
 use std::marker::{Model, PhantomData};
-use token_cell::Token;
 
 /// What the end gets that leaves: all of the ring's memory where it is the last, else nothing.
 pub(crate) struct Remains {

@@ -16,11 +16,11 @@ use crate::ring::memory::{
 use crate::ring::places::{Base, Blank, Places};
 use crate::ring::remains::Remains;
 use crate::ring::slots::{Waits, Wakes};
-use lent_space::{Lease, Lender};
+use piper_cells::lent_space::{Lease, Lender};
+use piper_cells::token_cell::Token;
 use std::marker::{Brand, Model, PhantomData, Send, Sync};
 use std::sync::atomic::Ordering::SeqCst;
 use std::sync::atomic::raw;
-use token_cell::Token;
 
 /// The reader's side of the words. `have` is all that it consumed, followed by all that it knows
 /// of.

@@ -9,10 +9,10 @@ ghost use Rattle.piper_ring.specs.Slots.{Stored, as_stored, stored_code};
 use crate::ring::marks::{ReadMark, Saw, WriteMark};
 use crate::ring::memory::{READER_FLAG, WRITER_FLAG};
 use crate::ring::seats::{ReadSeat, WriteSeat};
+use piper_cells::token_cell::Token;
 use std::marker::{Brand, Model, PhantomData, Send, Sync};
 use std::sync::atomic::Ordering::SeqCst;
 use std::sync::atomic::raw;
-use token_cell::Token;
 
 /// A side, at the slot in which it waits: the reader at its own where `for_reader` is `true`, else
 /// the writer at its own. `owns` is whether it has the place of the waker, `tickets` how often it

@@ -10,7 +10,7 @@ use crate::ends::slots::{Away, ReadRegistrations, WriteRegistrations};
 use crate::ring::marks::LastReadMark;
 use crate::ring::memory::{READER_BACK, READER_FLAG, WRITER_BACK, WRITER_FLAG};
 use crate::ring::slots::SlotWords;
-use lent_space::Placed;
+use piper_cells::lent_space::Placed;
 
 /// The reader's side of a ring whose sides can wait.
 #[derive(Drop)]

@@ -7,11 +7,11 @@ use Rattle.piper_ring.specs.SlotViews.{IsUnused, LooksFirst}
 use Rattle.piper_ring.specs.contracts.ring.slots.Waits as Waits
 use Rattle.piper_ring.specs.contracts.ring.slots.Wakes as Wakes
 use Rattle.piper_ring.proofs.Opening.{as_places, begins, Slotted, IsNamed}
-use Rattle.lent_space.specs.Space.{lender}
-use Rattle.lent_space.specs.contracts.Lender as Lender
+use Rattle.piper_cells.specs.Space.{lender}
+use Rattle.piper_cells.specs.contracts.lent_space.Lender as Lender
 use Rattle.piper_ring.specs.Block.{behind, size_of_block, space_of}
 use Rattle.piper_ring.specs.Parts.{token_of}
-use Rattle.token_cell.specs.contracts.Token as Token
+use Rattle.piper_cells.specs.contracts.token_cell.Token as Token
 use Rattle.piper_ring.specs.contracts.ring.memory.Parts as Parts
 use Rattle.piper_ring.specs.contracts.ring.places.Blank as Blank
 use Rattle.piper_ring.specs.contracts.ring.seats.ReadSeat as ReadSeat

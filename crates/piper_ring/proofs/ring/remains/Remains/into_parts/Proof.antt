@@ -1,8 +1,8 @@
 -- `into_parts` takes apart what both ends left. Assumes `Logic`.
 use Rattle.piper_ring.proofs.Kit.{◌+◌, arith, load, through, look, u64, vint, w64, flt_i, feq_i, List, fwand, flag, use2, word_room, RightData, right_made, right_val, false, join, first, blocks, bin, lit, sets_last, exec, at_ret, use1, after as from_on, ◌≡◌, ℕ, ◌<◌, ◌^◌, Bool, true, [], ◌∷◌, refl, ap, Val, SProp, emp, ftrue, ‵, raw, ◌⊛◌, given, ◌$◌, ◌∵◌, !, qed, by, move, keep, drop, split, fsplit, fjoin, fpick, fpack, learn, use0, rewrite, stop, fld, of_opd, no_more, and_then, returns, enter, alloc_all, pass_all, free_all, look_at, get, get_in, sets, is, env, agg, sub, whole, fact, fact_i, tables, yes, owns, types_at, plain, Ptr, block_ptr, ptr_val, block_of, count_of, at_block, nothing, alive, Stays, stay_dropped, walk_of, Goes-dropped, word-Good, proved, leaves, Names, heap_token, where_gone}
 use types.Kit.{group}
-use Rattle.lent_space.specs.contracts.Lease as Lease
-use Rattle.lent_space.specs.contracts.Lender as Lender
+use Rattle.piper_cells.specs.contracts.lent_space.Lease as Lease
+use Rattle.piper_cells.specs.contracts.lent_space.Lender as Lender
 use Rattle.piper_ring.specs.Block.{purpose, size_of_block, space_of}
 use Rattle.piper_ring.specs.Parts.{IsPlaced}
 use Rattle.piper_ring.specs.Shared as shared
@@ -13,7 +13,7 @@ use Rattle.piper_ring.specs.Loads.{as_lying}
 use Rattle.piper_ring.specs.SlotViews.{IsLeft}
 use Rattle.piper_ring.specs.Shared.{block_room}
 use Rattle.piper_ring.specs.Block.{space_room}
-use Rattle.token_cell.specs.contracts.Token as Token
+use Rattle.piper_cells.specs.contracts.token_cell.Token as Token
 use mir.Syntax.{Ty, ty_int}
 use Rattle.piper_ring.specs.contracts.ring.memory.Frame as Frame
 use Rattle.piper_ring.specs.contracts.ring.remains.Remains as Remains

@@ -8,8 +8,8 @@ use Rattle.piper_ring.proofs.Fields.{seat_val, ghost_val, write_told, blank_told
 use Rattle.piper_ring.proofs.Rights.{common_twice}
 use Rattle.piper_ring.proofs.Steps.{flag_small}
 use Rattle.piper_ring.proofs.Leaving.{Left, writer_leaves}
-use Rattle.lent_space.specs.contracts.Lease as Lease
-use Rattle.lent_space.specs.Space.{lease}
+use Rattle.piper_cells.specs.contracts.lent_space.Lease as Lease
+use Rattle.piper_cells.specs.Space.{lease}
 use Rattle.piper_ring.specs.contracts.ring.places.Blank as Blank
 use Rattle.piper_ring.specs.contracts.ring.seats.WriteSeat as WriteSeat
 use Rattle.piper_ring.specs.contracts.ring.remains.Remains as Remains

@@ -5,7 +5,7 @@ use Rattle.piper_ring.proofs.Fields.{lent_val, lent_told}
 use Rattle.piper_ring.proofs.Rights.{known_halves}
 use Rattle.piper_ring.proofs.Slots.{flag_fits, Woke, TakesHeld, take_waker}
 use Rattle.piper_ring.specs.Loads.{FoundWaiter, as_waiter}
-use Rattle.token_cell.specs.contracts.Token as Token
+use Rattle.piper_cells.specs.contracts.token_cell.Token as Token
 use Rattle.piper_ring.specs.contracts.ring.slots.Wakes as Slot
 use Rattle.piper_ring.specs.contracts.ring.slots.SlotWords as SlotWords
 use Rattle.piper_ring.specs.contracts.ring.slots.SlotWords.take_waker.{ended, clauses}

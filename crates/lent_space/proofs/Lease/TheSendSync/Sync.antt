@@ -1,8 +1,0 @@
--- Threads may share it.
-use denote.Param.Send.{IsSync, sendable}
-use denote.Struct.Struct.{Struct}
-use denote.Struct.Owning.{shape}
-use Rattle.lent_space.specs.contracts.Lease.{the_row, the_type}
-
-pub sync : IsSync the_row
-sync = let fields : IsSync (Struct (shape the_type)) = search sendable depth 20 in record { shared = λ d b o κ. (fields.shared (tt, tt) b o κ, λ q. tt) }

@@ -1,3 +1,0 @@
-pub mod Kit
-pub mod Fields
-pub mod Steps

@@ -1,0 +1,13 @@
+-- Threads may share it, where they may share the value.
+use mathlib.Core.List.{[], ◌∷◌}
+use denote.Builtin.{RawPtr}
+use denote.Param.Send.{IsSync, sendable, struct_sync}
+use denote.RattleType.{RattleType}
+use denote.Struct.Owning.{shape}
+use Rattle.std_alloc.proofs.SendSync.{seen}
+use Rattle.piper_cells.specs.contracts.lent_space.Placed.{the_row, the_type}
+
+pub sync : (T : RattleType) → IsSync T → IsSync (the_row T)
+sync T y = let pointer : IsSync RawPtr = search sendable in record {
+  shared = λ d b o κ. ((struct_sync (shape (the_type T)) (pointer, tt)).shared (d.at, tt) b o κ, seen T y d.at d.value (d.life ∷ []));
+}

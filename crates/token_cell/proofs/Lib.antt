@@ -1,3 +1,0 @@
-pub mod Crosses
-pub mod Fields
-pub mod Steps
