@@ -84,12 +84,12 @@ SEALS = {
     "as_at_once": ("piper_transfer/specs/Threads", ["piper_transfer/proofs/threads/at_once"]),
     "as_slept": ("piper_transfer/specs/Turns", ["piper_transfer/proofs/sleeping/sleep"]),
     "as_counted": ("piper_transfer/specs/Turns", ["piper_transfer/proofs/meter/Side/add_bytes"]),
-    "as_words": ("pump_engine/specs/CommandLine", ["pump_engine/proofs/command_line/CommandLine/read"]),
+    "as_words": ("piper_pump/specs/CommandLine", ["piper_pump/proofs/command_line/CommandLine/read"]),
     "as_failed_so": (
-        "pump_engine/specs/Outcome",
-        ["pump_engine/proofs/ends/Outlet/open", "pump_engine/proofs/ends/OutletDestination/write"],
+        "piper_pump/specs/Outcome",
+        ["piper_pump/proofs/ends/Outlet/open", "piper_pump/proofs/ends/OutletDestination/write"],
     ),
-    "as_returned": ("pump_engine/specs/Outcome", ["pump_engine/proofs/running/run"]),
+    "as_returned": ("piper_pump/specs/Outcome", ["piper_pump/proofs/running/run"]),
     "as_opened": ("pump_files/specs/Handle", ["pump_files/proofs/handle/Handle/open"]),
     "as_answer_of": ("pump_files/specs/Handle", ["pump_files/proofs/handle/Handle/metadata"]),
     "as_answer_for": ("pump_files/specs/Handle", ["pump_files/proofs/handle/ask"]),
@@ -109,7 +109,7 @@ GIVES_NONE = {
     ("piper_transfer/specs/Threads", "shows_prop"),
     ("pump_files/specs/AllOpen", "are_all_open_prop"),
     ("pump_files/specs/Made", "was_made_prop"),
-    ("pump_engine/specs/CommandLine", "are_words_prop"),
+    ("piper_pump/specs/CommandLine", "are_words_prop"),
 }
 
 # The crates that hold memory which two threads share, or which belongs to C.

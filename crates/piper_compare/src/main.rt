@@ -1,13 +1,23 @@
 //! Compares the handles of a pipe, the pure machine and stored answers.
 #![tactic(auto)]
 
+mod calls;
+mod draws;
+mod ends;
+mod halt;
+mod hands;
 mod mode;
+mod pair;
+mod playing;
+mod random;
 mod stored;
+mod tasks;
+mod twin;
 mod vector;
 
 use crate::mode::{Mode, mode_of};
+use crate::playing::{play_drawn_on_both, play_on_both, play_on_handles};
 use crate::stored::{Reported, compare};
-use piper_differential::modes::{play_drawn_on_both, play_on_both, play_on_handles};
 use piper_interpreter::replay::Ended;
 use std::env;
 use std::io::ErrorKind;

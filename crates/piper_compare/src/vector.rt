@@ -2,8 +2,8 @@
 ghost use Rattle.std.specs.Prelude.{IfOk, IsTrue, ◌↔◌};
 ghost use Rattle.piper_compare.specs.Answers.{GivesAnswers};
 
+use crate::playing::{play_on_both, play_on_handles};
 use anyhow::Context;
-use piper_differential::modes::{play_on_both, play_on_handles};
 use piper_interpreter::replay::{self, Ended};
 use serde_json::Value;
 use std::alloc::{AllocGlobal, Global};

@@ -2,11 +2,23 @@
 //! it to standard output.
 #![tactic(auto)]
 
+mod accepting;
+mod command_line;
+mod ended;
+mod ends;
+mod opening;
+mod outcome;
+mod outputs;
+mod program;
+mod progress;
+mod running;
+mod streams;
+
+use crate::command_line::CommandLine;
+use crate::outcome::Outcome;
+use crate::program::{Nothing, STACK, run_and_report};
+use crate::streams::{Streams, is_open};
 use piper_transfer::Plain;
-use pump_engine::command_line::CommandLine;
-use pump_engine::outcome::Outcome;
-use pump_engine::program::{Nothing, STACK, run_and_report};
-use pump_engine::streams::{Streams, is_open};
 use pump_files::files::SystemFile;
 use std::io::IsTerminal;
 use std::process::ExitCode;

@@ -1,0 +1,78 @@
+-- The plan of a run: the numbers that the words ask for, and the files that they name.
+use Rattle.std.specs.Prelude.{◌≡◌, [], ℕ, true, false, List, Option, Some, None, Result, IfSome, codes}
+use Rattle.std.specs.declared.fs.Metadata.{Metadata}
+use Rattle.std.specs.declared.io.Error.{Error}
+use Rattle.piper_transfer.specs.declared.both_sides.Sizes.{Sizes}
+use Rattle.clap.specs.Words.{Text, fault_of, first_of, one_of}
+use Rattle.pump_words.specs.Arguments.{IsSizeOf, ShowsAsAsked, capacity_text, chunk_text, pump_command, said_by}
+use Rattle.piper_pump.specs.Asked.{HaveGot}
+use Rattle.piper_pump.specs.Ends.{Awaits, IsAwaited}
+use Rattle.piper_pump.specs.Opening.{AreFoundApart, HoldNothing, ReadsNamed, WritesNamed}
+use Rattle.pump_files.specs.Pace.{HasRate}
+use Rattle.pump_words.specs.Plan.{IsLevelOf, IsOfStream, IsRead, KnowsTotal}
+use Rattle.piper_pump.specs.declared.ends.Inlet.{Inlet}
+use Rattle.piper_pump.specs.declared.ends.Outlet.{Outlet}
+use Rattle.piper_pump.specs.declared.running.Plan.{Plan}
+use Rattle.piper_pump.specs.declared.streams.Streams.{Streams}
+
+-- what these words have after an option
+abbrev pub after : Text → List Text → Option Text
+after option words = first_of option (said_by words)
+
+-- these words say that files which hold bytes are not to be overwritten
+abbrev pub SparesBytes : List Text → Type 0
+SparesBytes words = one_of (codes "force") (said_by words) ≡ Some (codes "false")
+
+-- the pipe holds so many bytes, and moves so many at a time, as these words ask for
+pub record AreSizedBy (words : List Text) (sizes : Sizes) : Type 0 where
+  pub capacity : IsSizeOf (capacity_text words) sizes.capacity
+  pub chunk : IsSizeOf (chunk_text words) sizes.chunk
+
+-- the numbers of the plan are those that these words ask for
+pub record HasNumbers (words : List Text) (streams : Streams) (plan : Plan) : Type 0 where
+  pub sizes : AreSizedBy words plan.sizes
+  pub level : IsLevelOf plan.sizes.capacity (after (codes "start-at") words) plan.sizes.level
+  pub rate : IsRead IsSizeOf (after (codes "rate") words) plan.rate
+  pub shown : ShowsAsAsked words plan.asked
+  pub watched : IfSome plan.asked (λ w. (w.capacity ≡ plan.sizes.capacity) × (w.redraws ≡ streams.redraws))
+  pub total : IfSome plan.asked (λ w. KnowsTotal (after (codes "size") words) w.total)
+
+-- what is read and written is what these words name, or a standard stream that is open; the system was
+-- asked of each, and no two are one file; and none that is written held a byte, if those are spared
+pub record HasFiles {R S D F : Type 0}
+    (name : F → Option (List ℕ))
+    (answers : F → Result Metadata Error → Type 0)
+    (words : List Text)
+    (streams : Streams)
+    (plan : Plan)
+    (i j : Inlet S F)
+    (o p : Outlet R D F) : Type 0 where
+  pub read : ReadsNamed name (after (codes "input") words) i j
+  pub written : WritesNamed name (after (codes "output") words) plan.places.output o.drain p.drain
+  pub has_input : IsOfStream (after (codes "input") words) → streams.has_input ≡ true
+  pub has_output : IsOfStream (after (codes "output") words) → streams.has_output ≡ true
+  pub apart : AreFoundApart answers (after (codes "input") words) (after (codes "output") words)
+      plan.places j p.copies.tees.items
+  pub spared : SparesBytes words
+      → HoldNothing (after (codes "output") words) plan.places.output p.copies.tees.items
+
+-- the run goes on from here: nothing has passed, the copies and the rate are those that these words ask
+-- for, and no file is open that is written
+pub record IsPlanned {R S D F : Type 0}
+    (name written : F → Option (List ℕ))
+    (fails : F → Error → Type 0)
+    (answers : F → Result Metadata Error → Type 0)
+    (words : List Text)
+    (streams : Streams)
+    (i : Inlet S F)
+    (o : Outlet R D F)
+    (plan : Plan)
+    (j : Inlet S F)
+    (p : Outlet R D F) : Type 0 where
+  pub taken : fault_of pump_command words ≡ []
+  pub numbers : HasNumbers words streams plan
+  pub files : HasFiles name answers words streams plan i j o p
+  pub copies : HaveGot name written fails words p.copies []
+  pub paced : HasRate plan.rate p.copies.pace
+  pub awaited : IsAwaited p.opening
+  pub spares : SparesBytes words → Awaits false p.opening

@@ -1,0 +1,15 @@
+-- What holds of all files that are written.
+use Rattle.std.specs.Prelude.{List, ⊤}
+use Rattle.std.specs.List.{All}
+use Rattle.piper_pump.specs.declared.ends.Drain.{Drain}
+use Rattle.piper_pump.specs.declared.ends.Drain.TheVariants as drain
+use Rattle.pump_files.specs.declared.sinks.Sink.{Sink}
+
+-- this holds of the file that is written in place of standard output, if there is one
+abbrev pub HasDrain : {D F : Type 0} → (Sink F → Type 0) → Drain D F → Type 0
+HasDrain P (drain.Standard d) = ⊤
+HasDrain P (drain.File sink) = P sink
+
+-- this holds of all files that are written
+abbrev pub HaveAll : {D F : Type 0} → (Sink F → Type 0) → Drain D F → List (Sink F) → Type 0
+HaveAll P d sinks = HasDrain P d × All P sinks

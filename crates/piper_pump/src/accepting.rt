@@ -1,0 +1,80 @@
+//! What the words ask for, once all is refused in them that can be without a look at a file.
+ghost use Rattle.std.specs.Prelude.{◌≡◌, None, IfErr, IfOk, OnOk, true};
+ghost use Rattle.piper_pump.specs.Ended.{IsEarly};
+ghost use Rattle.piper_pump.specs.Streams.{IsOfClosed};
+ghost use Rattle.pump_words.specs.Arguments.{IsSizeOf, text_in};
+ghost use Rattle.pump_words.specs.Plan.{IsLevelOf, IsOfStream, IsRead, IsTotalOf};
+
+use crate::ended::{Ended, Unopened, not_taken};
+use crate::streams::Streams;
+use piper_transfer::Sizes;
+use pump_words::arguments::{Arguments, Texts};
+use pump_words::plan::{named, numbers_of, refuse_dashes};
+use std::alloc::Global;
+use std::io;
+
+/// The numbers that are asked for.
+#[derive(Clone, Copy)]
+pub struct Accepted {
+    pub sizes: Sizes,
+    pub rate: Option<usize>,
+    /// How many bytes come, if that was reported.
+    pub total: Option<u64>,
+}
+
+/// Reads the numbers after the options. A copy to `-` is refused, and a standard stream that was
+/// closed, where no file is named in its place.
+pub fn accept(alloc: Global, arguments: &Arguments<'_>, streams: Streams) -> Result<Accepted, Ended>
+    ensures early { IfErr result IsEarly }
+    ensures capacity { IfOk result (λ a.
+        a.sizes.capacity ≡ arguments.now.amounts.capacity) }
+    ensures chunk { IfOk result (λ a. a.sizes.chunk ≡ arguments.now.amounts.chunk) }
+    ensures level { IfOk result (λ a. IsLevelOf arguments.now.amounts.capacity
+        (text_in arguments.now.texts.start_at) a.sizes.level) }
+    ensures rate { IfOk result (λ a.
+        IsRead IsSizeOf (text_in arguments.now.texts.rate) a.rate) }
+    ensures total { IfOk result (λ a.
+        IsRead IsTotalOf (text_in arguments.now.texts.size) a.total) }
+    ensures input { OnOk result (IsOfStream (text_in arguments.now.texts.input)
+        → streams.has_input ≡ true) }
+    ensures output { OnOk result (IsOfStream (text_in arguments.now.texts.output)
+        → streams.has_output ≡ true) }
+{
+    let numbers = match numbers_of(arguments.amounts.capacity, arguments.texts) {
+        Ok(numbers) => numbers,
+        Err(word) => return Err(not_taken(alloc, word)),
+    };
+    match refuse_dashes(arguments.tees.as_slice()) {
+        Ok(()) => {}
+        Err(word) => return Err(not_taken(alloc, word)),
+    }
+    refuse_closed(alloc, arguments.texts, streams)?;
+    Ok(Accepted {
+        sizes: Sizes {
+            capacity: arguments.amounts.capacity,
+            chunk: arguments.amounts.chunk,
+            level: numbers.level,
+        },
+        rate: numbers.rate,
+        total: numbers.total,
+    })
+}
+
+// Refuses a standard stream that was closed, where no file is named in its place.
+fn refuse_closed(alloc: Global, texts: Texts<'_>, streams: Streams) -> Result<(), Ended>
+    ensures early { IfErr result IsEarly }
+    ensures closed { IfErr result (IsOfClosed texts.entry streams) }
+    ensures input { OnOk result (IsOfStream (text_in texts.entry.input)
+        → streams.has_input ≡ true) }
+    ensures output { OnOk result (IsOfStream (text_in texts.entry.output)
+        → streams.has_output ≡ true) }
+{
+    let closed = io::Error::other("it is closed");
+    if named(texts.input).is_none() && !streams.has_input {
+        return Err(Ended::NoInput(Unopened::new(alloc, "standard input", closed)?));
+    }
+    if named(texts.output).is_none() && !streams.has_output {
+        return Err(Ended::NoOutput(Unopened::new(alloc, "standard output", closed)?));
+    }
+    Ok(())
+}

@@ -1,0 +1,223 @@
+//! How the program ends: what it says, and its exit status.
+ghost use Rattle.std.specs.Prelude.{◌≡◌, IfErr, IfOk, string_bytes};
+ghost use Rattle.std.specs.Process.{exit_status};
+ghost use Rattle.piper_protocol.specs.Reported.{HasFailed};
+ghost use Rattle.piper_pump.specs.Ended.{EndsAs, HasStatus, IsOfOption, IsOfPrint, IsOfRange, IsShown, IsUnopened};
+ghost use Rattle.piper_pump.specs.Why.{IsWhySaid, SaysWhy, why_text};
+
+use piper_protocol::reported::reported;
+use piper_transfer::TransferError;
+use pump_files::saying::say;
+use pump_words::plan::Untaken;
+use std::alloc::{AllocGlobal, Global};
+use std::fmt::{Display, Formatter};
+use std::io::ErrorKind;
+use std::process::ExitCode;
+use std::{fmt, io};
+
+/// A file that can't be opened, and why.
+#[derive(Drop)]
+pub struct Unopened {
+    pub name: String,
+    pub error: io::Error,
+}
+
+impl Unopened {
+    /// The name of the file, and why it can't be opened.
+    pub(crate) fn new(alloc: Global, name: &str, error: io::Error) -> Result<Unopened, Ended>
+        ensures named { IfOk result (λ file. string_bytes file.name ≡ name.now) }
+        ensures error { IfOk result (λ file. file.error ≡ error) }
+        ensures memory { IfErr result (λ e. e ≡ Ended.Memory) }
+        ensures refused { IfErr result HasFailed }
+    {
+        let name = reported(String::from_str(alloc, name).map_err(|_| Ended::Memory))?;
+        Ok(Unopened { name, error })
+    }
+
+    fn again(&self, alloc: Global) -> Result<Unopened, Ended>
+        ensures { IfErr result IsUnopened }
+    {
+        Unopened::new(alloc, self.name.as_str(), self.error)
+    }
+}
+
+/// A word after an option that is no number which the option takes.
+#[derive(Drop)]
+pub struct NotTaken {
+    pub option: &'static str,
+    pub text: String,
+    /// Which numbers it takes.
+    pub range: &'static str,
+}
+
+/// That the option does not take this word.
+pub fn not_taken(alloc: Global, word: Untaken<'_>) -> Ended
+    ensures named { IsOfOption word.entry.option.now word.entry.text.now result }
+    ensures range { IsOfRange word.entry.range.now result }
+{
+    let Untaken {
+        option,
+        text,
+        range,
+    } = word;
+    match reported(String::from_str(alloc, text).map_err(|_| Ended::Memory)) {
+        Ok(text) => Ended::Value(NotTaken {
+            option,
+            text,
+            range,
+        }),
+        Err(refused) => refused,
+    }
+}
+
+/// How the program ends.
+#[derive(Drop)]
+pub enum Ended {
+    /// All bytes were moved.
+    Moved,
+    /// The words on the command line are none that it takes, or ask for its help.
+    Words(clap::Error),
+    /// A word on the command line is no text.
+    NotText,
+    /// The word after this option is no number that it takes.
+    Value(NotTaken),
+    /// The file that is to be read can't be opened.
+    NoInput(Unopened),
+    /// A file that is to be written can't be opened.
+    NoOutput(Unopened),
+    /// The input failed. What came before was written.
+    Input(TransferError),
+    /// The output failed.
+    Output(TransferError),
+    /// The program that reads the output has ended.
+    Closed,
+    /// All bytes were moved, and a file did not get its copy, which was reported.
+    Copies,
+    /// Memory was refused.
+    Memory,
+}
+
+impl Ended {
+    /// How a run ends whose transfer ended so, and which may have failed to make a copy.
+    pub fn of(moved: Result<(), TransferError>, has_copy_failed: bool) -> Ended
+        ensures { EndsAs moved has_copy_failed result }
+    {
+        match moved {
+            Ok(()) if has_copy_failed => Ended::Copies,
+            Ok(()) => Ended::Moved,
+            Err(TransferError::Read(error)) => Ended::Input(TransferError::Read(error)),
+            Err(TransferError::Write(error)) if error.kind() == ErrorKind::BrokenPipe => {
+                Ended::Closed
+            }
+            Err(TransferError::Write(error)) => Ended::Output(TransferError::Write(error)),
+            Err(TransferError::Full) => Ended::Output(TransferError::Full),
+            Err(TransferError::Memory) | Err(TransferError::Turns(_)) => Ended::Memory,
+        }
+    }
+
+    /// The same again, of an end for a file that can't be opened.
+    pub(crate) fn again(&self, alloc: Global) -> Ended
+        ensures { IsUnopened self.now → IsUnopened result }
+    {
+        match self {
+            Ended::NoInput(file) => match file.again(alloc) {
+                Ok(file) => Ended::NoInput(file),
+                Err(refused) => refused,
+            },
+            Ended::NoOutput(file) => match file.again(alloc) {
+                Ok(file) => Ended::NoOutput(file),
+                Err(refused) => refused,
+            },
+            _ => Ended::Memory,
+        }
+    }
+
+    /// Says why it ended early, if it did, and returns the status.
+    pub fn report(&self, rt: &(impl Print + Eprint + AllocGlobal)) -> ExitCode
+        ensures status { HasStatus self.now (exit_status result) }
+        ensures said { SaysWhy self.now }
+    {
+        match self {
+            Ended::Moved => ExitCode::from(0),
+            Ended::Copies => ExitCode::from(7),
+            Ended::Words(error) => ExitCode::from(report_words(rt, error)),
+            Ended::NotText | Ended::Value(_) => self.say_why(rt, 2),
+            Ended::NoInput(_) | Ended::Input(_) => self.say_why(rt, 3),
+            Ended::NoOutput(_) | Ended::Output(_) => self.say_why(rt, 4),
+            Ended::Closed => self.say_why(rt, 5),
+            Ended::Memory => self.say_why(rt, 6),
+        }
+    }
+
+    fn say_why(&self, rt: &impl Eprint, status: u8) -> ExitCode
+        ensures status { exit_status result ≡ status }
+        ensures said { IsWhySaid self.now }
+    {
+        say(rt, Why { ended: self });
+        ExitCode::from(status)
+    }
+}
+
+/// Why the program ended, after its name. An option is refused in the words that others are refused in.
+#[derive(Clone, Copy)]
+pub struct Why<'a> {
+    ended: &'a Ended,
+}
+
+impl Display for Why<'_> {
+    ghost output = { λ why. why_text why.ended.now };
+
+    fn fmt<W: fmt::Write>(&self, f: &mut Formatter<W>) -> fmt::Result {
+        match self.ended {
+            Ended::Moved | Ended::Copies | Ended::Words(_) => Ok(()),
+            Ended::NotText => f.write_str("piper_pump: an argument is not UTF-8"),
+            Ended::Value(word) => write!(
+                f,
+                "piper_pump: invalid value '{}' for '{}': {}\n\nFor more information, try '--help'.",
+                word.text, word.option, word.range
+            ),
+            Ended::NoInput(file) | Ended::NoOutput(file) => {
+                write!(f, "piper_pump: {}: {}", file.name, file.error)
+            }
+            Ended::Input(error) | Ended::Output(error) => write!(f, "piper_pump: {error}"),
+            Ended::Closed => f.write_str("piper_pump: the output was closed"),
+            Ended::Memory => f.write_str("piper_pump: out of memory"),
+        }
+    }
+}
+
+// Prints the help or the version, or why the words are refused. A help that can't be printed is an
+// output that failed.
+fn report_words<R: Print + Eprint + AllocGlobal>(rt: &R, error: &clap::Error) -> u8
+    ensures shown { IsShown error.now → IsOfPrint result }
+    ensures refused { ¬ IsShown error.now → result ≡ 2 }
+{
+    let status = error.exit_code() as u8;
+    if status != 0 {
+        // There is nowhere left to say that standard error is closed.
+        let _ = print_refused(rt, error);
+        return status;
+    }
+    match reported(error.print(rt)) {
+        Err(failed) => {
+            let _ = eprintln!(rt; "piper_pump: writing the output failed: {failed}");
+            4
+        }
+        Ok(()) => status,
+    }
+}
+
+// Prints why the words are refused, after the program's name, as all that it tells.
+fn print_refused<R>(rt: &R, error: &clap::Error) -> io::Result<()>
+where
+    R: Print + Eprint + AllocGlobal,
+{
+    let Ok(text) = format!(in rt.alloc(); "{error}") else {
+        return error.print(rt);
+    };
+    let text = text.as_str();
+    eprint!(rt;
+        "piper_pump: {}",
+        text.strip_prefix("error: ").unwrap_or(text)
+    )
+}

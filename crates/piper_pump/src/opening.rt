@@ -1,0 +1,378 @@
+//! The files that are named: the input is opened, and those that are to be written are looked at.
+//! Those that may not be written are refused, before one of them is opened.
+ghost use Rattle.std.specs.Prelude.{◌≡◌, ◌++◌, ◌∷◌, [], None, Ok, OnErr, OnOk, IfErr, IfOk, IfSome, IsSomeAnd, Result, Some, codes, false, map, string_bytes};
+ghost use Rattle.std.specs.Fs.{IsFile, file_type, metadata_len};
+ghost use Rattle.std.specs.List.{All};
+ghost use Rattle.std.specs.declared.fs.Metadata.{Metadata};
+ghost use Rattle.std.specs.declared.io.Error.{Error};
+ghost use Rattle.piper_protocol.specs.Reported.{IsOfStd};
+ghost use Rattle.pump_words.specs.Arguments.{text_in};
+ghost use Rattle.pump_files.specs.Copies.{HavePassed, IsCopy, names_of};
+ghost use Rattle.piper_pump.specs.Asked.{parts_wanted};
+ghost use Rattle.piper_pump.specs.Ended.{IsOfFailure, IsToldOf, IsUnopened};
+ghost use Rattle.piper_pump.specs.Ends.{Awaits};
+ghost use Rattle.pump_files.specs.Files.{IsJust};
+ghost use Rattle.pump_files.specs.Found.{IsFound};
+ghost use Rattle.pump_files.specs.Handle.{IsAnswerFor};
+ghost use Rattle.piper_pump.specs.Opening.{AreApart, AreDistinct, AreFoundApart, HoldNothing};
+ghost use Rattle.piper_pump.specs.Opening.{IsFoundAt, IsFoundByName, IsFoundOpen, OpensNamed};
+ghost use Rattle.piper_pump.specs.Opening.{ReadsNamed, TellsSize, WritesNamed, founds_of, ids_of};
+ghost use Rattle.pump_files.specs.Pace.{HasRate};
+
+use crate::ended::{Ended, Unopened};
+use crate::ends::{Drain, Inlet, Opening, Outlet};
+use piper_protocol::reported::reported;
+use piper_transfer::{Destination, Source};
+use pump_files::files::{NamedFile, Opens};
+use pump_files::found::{FileId, Found, STANDARD_INPUT};
+use pump_files::handle::ask;
+use pump_files::sinks::{HOLDS_BYTES, Sink};
+use pump_words::arguments::Arguments;
+use pump_words::plan::named;
+use std::alloc::{AllocGlobal, Global};
+use std::fs::{Files, Metadata};
+use std::sync::Wait;
+use std::time::Clock;
+use std::{fs, io};
+
+/// What was found of what is read, and of what is written: files, or the standard streams.
+#[derive(Clone, Copy)]
+pub struct Places {
+    pub input: Found,
+    pub output: Found,
+}
+
+/// The files that are read and written in place of the standard streams, and the others that are
+/// written.
+#[derive(Drop)]
+struct Opened<F: NamedFile> {
+    input: Option<F>,
+    output: Option<Sink<F>>,
+    tees: Vec<Sink<F>>,
+    places: Places,
+}
+
+/// Opens the input that is named, looks at the files that are to be written, and takes them in place
+/// of what represents them. Where one is refused, both stay. A regular file is refused that is the
+/// input or another output, too; and one that holds bytes, unless those are to be overwritten.
+/// Returns what the system reports of what is read, and of what is written.
+pub fn open_files<R, F, S, D>(
+    rt: &R,
+    arguments: &Arguments<'_>,
+    rate: Option<usize>,
+    input: &mut Inlet<S, F>,
+    output: &mut Outlet<'_, R, D, F>,
+) -> Result<Places, Ended>
+where
+    R: Files + Opens<F> + Wait + Clock + Eprint + AllocGlobal,
+    F: NamedFile,
+    S: Source + Drop,
+    D: Destination + Drop,
+    ensures early { IfErr result IsUnopened }
+    ensures stays { OnErr result
+        ((input.new ≡ input.old) × (output.new.drain ≡ output.old.drain)) }
+    ensures input { OnOk result (ReadsNamed F.name (text_in arguments.now.texts.input)
+        input.old input.new) }
+    ensures output { IfOk result (λ places. WritesNamed F.name
+        (text_in arguments.now.texts.output) places.output output.old.drain output.new.drain) }
+    ensures awaited { OnOk result (Awaits arguments.now.overwrites output.new.opening) }
+    ensures copies { OnOk result (HavePassed F.name F.written F.fails output.new.copies
+        (parts_wanted arguments.now) [] × HasRate rate output.new.copies.pace) }
+    ensures apart { IfOk result (λ places. AreFoundApart F.answers
+        (text_in arguments.now.texts.input) (text_in arguments.now.texts.output) places
+        input.new output.new.copies.tees.items) }
+    ensures spared { arguments.now.overwrites ≡ false → IfOk result (λ places.
+        HoldNothing (text_in arguments.now.texts.output) places.output
+        output.new.copies.tees.items) }
+{
+    let opened = open_all(rt, arguments)?;
+    refuse_shared(rt.alloc(), &opened)?;
+    refuse_overwritten(rt.alloc(), arguments.overwrites, &opened)?;
+    let Opened {
+        input: source,
+        output: dest,
+        tees,
+        places,
+    } = opened;
+    take_input(input, source);
+    take_output(&mut output.drain, dest);
+    output.copies.ask(tees, arguments.shows_sum, rate);
+    output.opening = Opening::Awaited {
+        overwrites: arguments.overwrites,
+    };
+    Ok(places)
+}
+
+// The file is read in place of what was read before, if there is one.
+fn take_input<S, F>(input: &mut Inlet<S, F>, file: Option<F>)
+where
+    F: NamedFile,
+    S: Source + Drop,
+    ensures none { file ≡ None → input.new ≡ input.old }
+    ensures some { IfSome file (λ f. input.new ≡ Inlet.File f) }
+{
+    if let Some(file) = file {
+        *input = Inlet::File(file);
+    }
+}
+
+// Likewise, of what is written.
+fn take_output<D, F>(output: &mut Drain<D, F>, sink: Option<Sink<F>>)
+where
+    F: NamedFile,
+    D: Destination + Drop,
+    ensures none { sink ≡ None → output.new ≡ output.old }
+    ensures some { IfSome sink (λ s. output.new ≡ Drain.File s) }
+{
+    if let Some(sink) = sink {
+        *output = Drain::File(sink);
+    }
+}
+
+// Opens the input that is named, and looks at the files that are to be written.
+fn open_all<R, F>(rt: &R, arguments: &Arguments<'_>) -> Result<Opened<F>, Ended>
+where
+    R: Files + Opens<F> + AllocGlobal,
+    F: NamedFile,
+    ensures early { IfErr result IsUnopened }
+    ensures input { IfOk result (λ opened. OpensNamed F.name
+        (text_in arguments.now.texts.input) opened.input) }
+    ensures output { IfOk result (λ opened. OpensNamed (λ sink. F.name sink.file)
+        (text_in arguments.now.texts.output) opened.output) }
+    ensures found { IfOk result (λ opened. IfSome opened.output
+        (λ sink. sink.found ≡ opened.places.output)) }
+    ensures input_found { IfOk result (λ opened.
+        IsFoundOpen F.answers opened.input opened.places.input) }
+    ensures output_found { IfOk result (λ opened. IsFoundAt
+        (text_in arguments.now.texts.output) (codes "/proc/self/fd/1") opened.places.output) }
+    ensures tees_found { IfOk result (λ opened. All IsFoundByName opened.tees.items) }
+    ensures names { IfOk result (λ opened. names_of opened.tees.items
+        ≡ map (λ name. name.now) arguments.now.tees.items) }
+    ensures copies { IfOk result (λ opened.
+        All (IsCopy F.name F.written F.fails []) opened.tees.items) }
+{
+    let input = open_input(rt, rt.alloc(), named(arguments.texts.input))?;
+    let output = look_at_output(rt, rt.alloc(), named(arguments.texts.output))?;
+    let tees = look_at_tees(rt, rt.alloc(), arguments.tees.as_slice())?;
+    let places = Places {
+        input: found_of_input(rt, &input),
+        output: found_of_output(rt, &output),
+    };
+    Ok(Opened {
+        input,
+        output,
+        tees,
+        places,
+    })
+}
+
+fn found_of_input<F: NamedFile>(files: &impl Files, input: &Option<F>) -> Found
+    ensures { IsFoundOpen F.answers input.now result }
+{
+    match input {
+        Some(file) => Found::of_input(file),
+        None => Found::at_input(files),
+    }
+}
+
+fn found_of_output<F: NamedFile>(files: &impl Files, output: &Option<Sink<F>>) -> Found
+    ensures file { IfSome output.now (λ sink. sink.found ≡ result) }
+    ensures stream { output.now ≡ None → IsFound (IsAnswerFor (codes "/proc/self/fd/1")) result }
+{
+    match output {
+        Some(sink) => sink.found,
+        None => Found::at_output(files),
+    }
+}
+
+// Opens the file that is read, if one is named.
+fn open_input<R, F>(rt: &R, alloc: Global, name: Option<&str>) -> Result<Option<F>, Ended>
+where
+    R: Opens<F>,
+    F: NamedFile,
+    ensures early { IfErr result IsUnopened }
+    ensures named { IfErr result (λ e. IfSome name.entry (λ text. IsToldOf text.now e)) }
+    ensures failed { IfErr result IsOfFailure }
+    ensures none { name.entry ≡ None → result ≡ Ok None }
+    ensures file { IfSome name.entry (λ text. IfOk result (λ opened.
+        IsSomeAnd opened (λ file. IsJust (F.name file) text.now))) }
+{
+    match name {
+        None => Ok(None),
+        Some(name) => match rt.open(name) {
+            Ok(file) => Ok(Some(file)),
+            Err(error) => Err(Ended::NoInput(Unopened::new(alloc, name, error)?)),
+        },
+    }
+}
+
+// Looks at the file that is written in place of standard output, if one is named.
+fn look_at_output<R, F>(rt: &R, alloc: Global, name: Option<&str>) -> Result<Option<Sink<F>>, Ended>
+where
+    R: Opens<F>,
+    F: NamedFile,
+    ensures early { IfErr result IsUnopened }
+    ensures none { name.entry ≡ None → result ≡ Ok None }
+    ensures file { IfSome name.entry (λ text. IfOk result (λ opened.
+        IsSomeAnd opened (λ sink. IsJust (F.name sink.file) text.now))) }
+    ensures found { IfSome name.entry (λ text. IfOk result (λ opened.
+        IsSomeAnd opened (λ sink. IsFound (IsAnswerFor text.now) sink.found))) }
+    ensures failed { IfErr result IsOfFailure }
+{
+    match name {
+        None => Ok(None),
+        Some(name) => Ok(Some(look_at(rt, alloc, name)?)),
+    }
+}
+
+// Looks at a file that is to be written.
+fn look_at<R, F>(rt: &R, alloc: Global, name: &str) -> Result<Sink<F>, Ended>
+where
+    R: Opens<F>,
+    F: NamedFile,
+    ensures early { IfErr result IsUnopened }
+    ensures named { IfErr result (IsToldOf name.now) }
+    ensures name { IfOk result (λ sink. string_bytes sink.name ≡ name.now) }
+    ensures copy { IfOk result (IsCopy F.name F.written F.fails []) }
+    ensures found { IfOk result (λ sink. IsFound (IsAnswerFor name.now) sink.found) }
+    ensures failed { IfErr result IsOfFailure }
+{
+    match Sink::look(rt, alloc, name) {
+        Ok(sink) => Ok(sink),
+        Err(error) => Err(Ended::NoOutput(Unopened::new(alloc, name, error)?)),
+    }
+}
+
+// Looks at the files that get what passes, too.
+fn look_at_tees<R, F>(rt: &R, alloc: Global, names: &[&str]) -> Result<Vec<Sink<F>>, Ended>
+where
+    R: Opens<F>,
+    F: NamedFile,
+    ensures early { IfErr result IsUnopened }
+    ensures names { IfOk result (λ tees. names_of tees.items ≡ map (λ name. name.now) names.now) }
+    ensures copies { IfOk result (λ tees. All (IsCopy F.name F.written F.fails []) tees.items) }
+    ensures found { IfOk result (λ tees. All IsFoundByName tees.items) }
+    ensures failed { IfErr result IsOfFailure }
+{
+    let mut tees = Vec::new(alloc);
+    for name in names {
+        let sink = look_at(rt, alloc, *name)?;
+        add_tee(&mut tees, sink)?;
+    }
+    Ok(tees)
+}
+
+fn add_tee<F: NamedFile>(tees: &mut Vec<Sink<F>>, sink: Sink<F>) -> Result<(), Ended>
+    ensures early { IfErr result IsUnopened }
+    ensures items { OnOk result (tees.new.items ≡ tees.old.items ++ sink ∷ []) }
+    ensures failed { IfErr result IsOfFailure }
+{
+    reported(tees.push(sink).map_err(|_| Ended::Memory))
+}
+
+// Refuses a regular file that is the input or another output, too.
+fn refuse_shared<F: NamedFile>(alloc: Global, opened: &Opened<F>) -> Result<(), Ended>
+    ensures early { IfErr result IsUnopened }
+    ensures apart { OnOk result (AreApart (opened.now.places.input ∷ opened.now.places.output
+        ∷ founds_of opened.now.tees.items)) }
+{
+    let mut known = Vec::new(alloc);
+    let name = match &opened.output {
+        Some(sink) => sink.name.as_str(),
+        None => "standard output",
+    };
+    add(&mut known, "the input", opened.places.input)?;
+    add(&mut known, name, opened.places.output)?;
+    for tee in opened.tees.iter() {
+        add(&mut known, tee.name.as_str(), tee.found)?;
+    }
+    Ok(())
+}
+
+// Adds a file to those that are known, unless it is one of them.
+fn add(known: &mut Vec<FileId>, name: &str, found: Found) -> Result<(), Ended>
+    ensures early { IfErr result IsUnopened }
+    ensures named { IfErr result (IsToldOf name.now) }
+    ensures added { OnOk result (known.new.items ≡ known.old.items ++ ids_of (found ∷ [])) }
+    ensures distinct { OnOk result (AreDistinct known.old.items → AreDistinct known.new.items) }
+{
+    let Some(id) = found.id else {
+        return Ok(());
+    };
+    if known.contains(&id) {
+        let error = io::Error::other("it is the input or another output, too");
+        return Err(Ended::NoOutput(Unopened::new(*known.allocator(), name, error)?));
+    }
+    reported(known.push(id).map_err(|_| Ended::Memory))
+}
+
+// Refuses files that hold bytes, unless those are to be overwritten.
+fn refuse_overwritten<F>(alloc: Global, overwrites: bool, opened: &Opened<F>) -> Result<(), Ended>
+where
+    F: NamedFile,
+    ensures early { IfErr result IsUnopened }
+    ensures output { overwrites ≡ false → OnOk result (IfSome opened.now.output
+        (λ sink. sink.found.held ≡ 0)) }
+    ensures tees { overwrites ≡ false → OnOk result
+        (All (λ sink. sink.found.held ≡ 0) opened.now.tees.items) }
+{
+    if overwrites {
+        return Ok(());
+    }
+    if let Some(sink) = &opened.output {
+        refuse_held(alloc, sink)?;
+    }
+    for tee in opened.tees.iter() {
+        refuse_held(alloc, tee)?;
+    }
+    Ok(())
+}
+
+fn refuse_held<F: NamedFile>(alloc: Global, sink: &Sink<F>) -> Result<(), Ended>
+    ensures early { IfErr result IsUnopened }
+    ensures named { IfErr result (IsToldOf (string_bytes sink.now.name)) }
+    ensures none { OnOk result (sink.now.found.held ≡ 0) }
+{
+    if sink.found.held == 0 {
+        return Ok(());
+    }
+    let error = io::Error::other(HOLDS_BYTES);
+    Err(Ended::NoOutput(Unopened::new(alloc, sink.name.as_str(), error)?))
+}
+
+/// How many bytes the input has, from where it is read on, if it is a regular file.
+pub fn size_of<R, F, S>(rt: &R, input: &Inlet<S, F>) -> Option<u64>
+where
+    R: Files + AllocGlobal,
+    F: NamedFile,
+    S: Source + Drop,
+    ensures { (read : Result Metadata Error) × IsOfStd read × TellsSize read result }
+{
+    match input {
+        Inlet::File(file) => len_of(&file.attributes().ok()?),
+        Inlet::Standard(_) => {
+            let len = len_of(&ask(rt, STANDARD_INPUT).ok()?)?;
+            Some(len.saturating_sub(position(rt).unwrap_or(0)))
+        }
+    }
+}
+
+fn len_of(attributes: &Metadata) -> Option<u64>
+    ensures file { IsFile (file_type attributes.now)
+        → result ≡ Some (metadata_len attributes.now) }
+    ensures other { ¬ IsFile (file_type attributes.now) → result ≡ None }
+{
+    if attributes.is_file() {
+        Some(attributes.len())
+    } else {
+        None
+    }
+}
+
+// How many bytes of standard input were read before, as the system reports in its first line:
+// `pos:` and a number.
+fn position<R: Files + AllocGlobal>(rt: &R) -> Option<u64> {
+    let reported = fs::read_to_string(rt, "/proc/self/fdinfo/0").ok()?;
+    let line = reported.as_str().lines().next()?;
+    line.strip_prefix("pos:")?.trim().parse::<u64>().ok()
+}

@@ -1,0 +1,178 @@
+//! What the first thread waits for: the end of the run, or a failed output, after which the run can
+//! end late, since a read that is under way is not cut short.
+ghost use Rattle.std.specs.Prelude.{IfErr, IfSome};
+ghost use Rattle.std.specs.Process.{exit_status};
+ghost use Rattle.piper_pump.specs.Ended.{IsOfFailure};
+ghost use Rattle.piper_pump.specs.Outcome.{EndsBy, IsOfRun, IsTold, OutputFailed, ReportsRun};
+
+use crate::ended::Ended;
+use piper_protocol::reported::reported;
+use piper_transfer::TransferError;
+use std::alloc::{AllocGlobal, Global};
+use std::process::ExitCode;
+use std::sync::{Arc, Condvar, Mutex, Wait};
+use std::time::{Clock, Duration};
+use std::{io, mem};
+
+/// For how many milliseconds the run may still end by itself once its output has failed.
+const GRACE: u64 = 200;
+
+/// How an output failed.
+#[derive(Drop)]
+pub enum Failure {
+    /// A file that is to be written can't be opened, which ends the run so.
+    Unopened(Ended),
+    /// A write failed with this error.
+    Write(io::Error),
+    /// A write took no byte.
+    Full,
+}
+
+/// How the run has ended.
+#[derive(Drop)]
+struct Over {
+    ended: Ended,
+    ghost of_run: { ∥ IsOfRun ended ∥₁ },
+}
+
+/// How its output has failed.
+#[derive(Drop)]
+struct Failed {
+    failure: Failure,
+    ghost of_output: { ∥ OutputFailed failure ∥₁ },
+}
+
+/// What was reported so far.
+#[derive(Drop)]
+enum Told {
+    Nothing,
+    Failed(Failed),
+    Over(Over),
+}
+
+/// The place where a run reports how it goes. Another thread may wait for that.
+#[derive(Drop)]
+pub struct Outcome {
+    reported: Mutex<Told>,
+    changed: Condvar,
+}
+
+impl Failure {
+    // How a run ends that fails so.
+    fn ended(self) -> Ended
+        ensures { EndsBy self result }
+    {
+        match self {
+            Failure::Unopened(ended) => ended,
+            Failure::Write(error) => Ended::of(Err(TransferError::Write(error)), false),
+            Failure::Full => Ended::of(Err(TransferError::Full), false),
+        }
+    }
+}
+
+impl Over {
+    fn into_ended(self) -> Ended
+        ensures { IsTold result }
+    {
+        let Over { ended } = self;
+        ended
+    }
+}
+
+impl Failed {
+    fn into_ended(self) -> Ended
+        ensures { IsTold result }
+    {
+        let Failed { failure } = self;
+        failure.ended()
+    }
+}
+
+impl Told {
+    // How the program ends by that, if it was reported.
+    fn into_ended(self) -> Option<Ended>
+        ensures { IfSome result IsTold }
+    {
+        match self {
+            Told::Over(over) => Some(over.into_ended()),
+            Told::Failed(failed) => Some(failed.into_ended()),
+            Told::Nothing => None,
+        }
+    }
+}
+
+impl Outcome {
+    /// Nothing is reported yet.
+    pub fn new() -> Outcome {
+        Outcome {
+            reported: Mutex::new(Told::Nothing),
+            changed: Condvar::new(),
+        }
+    }
+
+    /// The same, for two threads.
+    pub fn for_two(alloc: Global) -> Result<(Arc<Outcome, Global>, Arc<Outcome, Global>), Ended>
+        ensures failed { IfErr result IsOfFailure }
+    {
+        let ours = reported(Arc::new(alloc, Outcome::new()).map_err(|_| Ended::Memory))?;
+        let theirs = reported(Arc::try_clone(&ours).map_err(|_| Ended::Memory))?;
+        Ok((ours, theirs))
+    }
+
+    /// Reports that the output has failed: not that a write is to be made again.
+    pub(crate) fn fail(&self, rt: &impl Wait, failure: Failure)
+        requires { OutputFailed failure }
+    {
+        let failed = Failed { failure };
+        *self.reported.lock(rt) = Told::Failed(failed);
+        self.changed.notify_all();
+    }
+
+    /// Reports how the run has ended.
+    pub(crate) fn end(&self, rt: &impl Wait, ended: Ended)
+        requires { IsOfRun ended }
+    {
+        let over = Over { ended };
+        *self.reported.lock(rt) = Told::Over(over);
+        self.changed.notify_all();
+    }
+
+    /// Waits until the run has ended, and says why if that was early. Where its output has failed, it
+    /// waits for at most a fifth of a second more, and then says that. Returns the status.
+    pub fn report<R>(&self, rt: &R) -> ExitCode
+    where
+        R: Wait + Clock + Print + Eprint + AllocGlobal,
+        ensures { ReportsRun (exit_status result) }
+    {
+        self.wait(rt).report(rt)
+    }
+
+    // How the program ends.
+    fn wait(&self, rt: &(impl Wait + Clock)) -> Ended
+        ensures { IsTold result }
+    {
+        for _ in rt.forever() {
+            if let Some(ended) = self.take(rt).into_ended() {
+                return ended;
+            }
+        }
+        unreachable!()
+    }
+
+    // What was reported, once something was, and where the output has failed, so much later.
+    fn take(&self, rt: &(impl Wait + Clock)) -> Told {
+        let reported = self.changed.wait_while(
+            rt,
+            self.reported.lock(rt),
+            |reported| matches!(reported, Told::Nothing),
+        );
+        let grace = Duration::from_millis(GRACE);
+        let (mut reported, _) = self.changed.wait_timeout_while(
+            rt,
+            reported,
+            grace,
+            |reported| !matches!(reported, Told::Over(_)),
+        );
+        mem::replace(&mut *reported, Told::Nothing)
+    }
+}

@@ -1,0 +1,231 @@
+//! The whole run, from the words on the command line to how it ends.
+ghost use Rattle.std.specs.Prelude.{◌≡◌, ◌≢◌, [], None, OnErr, OnOk, IfOk, IfErr, IfSome, codes, false, map, string_bytes, true};
+ghost use Rattle.clap.specs.Words.{fault_of};
+ghost use Rattle.piper_transfer.specs.Transfer.{IsOfSide, Transfers, WritesAll};
+ghost use Rattle.pump_words.specs.Arguments.{IsSizeOf, ShowsAsAsked, pump_command};
+ghost use Rattle.piper_pump.specs.Asked.{HaveGot};
+ghost use Rattle.pump_files.specs.Copies.{has_failed};
+ghost use Rattle.piper_pump.specs.Ended.{IsEarly};
+ghost use Rattle.piper_pump.specs.Ends.{drain_bytes, inlet_bytes, AreAllFlushed, Awaits, HaveTaken};
+ghost use Rattle.piper_pump.specs.Ends.{InletFails, IsAwaited, IsDone, IsFull, IsRefused};
+ghost use Rattle.piper_pump.specs.Ends.{OutletFails, OutletTook};
+ghost use Rattle.piper_pump.specs.Opening.{AreFoundApart, HoldNothing, ReadsNamed, WritesNamed};
+ghost use Rattle.piper_pump.specs.Outcome.{RunReturned};
+ghost use Rattle.pump_files.specs.Pace.{HasRate};
+ghost use Rattle.pump_words.specs.Plan.{IsLevelOf, IsOfStream, IsRead, KnowsTotal};
+ghost use Rattle.piper_pump.specs.Planned.{AreSizedBy, IsPlanned, SparesBytes, after};
+ghost use Rattle.piper_pump.specs.Running.{EndsWithTransfer, Runs};
+
+use crate::accepting::accept;
+use crate::ended::Ended;
+use crate::ends::{Inlet, Outlet};
+use crate::opening::{Places, open_files, size_of};
+use crate::progress::{Over, Watched, watch};
+use crate::streams::Streams;
+use piper_transfer::{Destination, Meter, Sizes, Source, TransferError, transfer};
+use pump_files::files::{NamedFile, Opens};
+use pump_words::arguments::read_words;
+use std::alloc::AllocGlobal;
+use std::fs::Files;
+use std::marker::Send;
+use std::random::RandomSource;
+use std::sync::Wait;
+use std::thread::{Threads, join_mut};
+use std::time::Clock;
+
+/// What is done, once the files that the words name are found.
+#[derive(Clone, Copy)]
+pub struct Plan {
+    pub places: Places,
+    pub sizes: Sizes,
+    /// How many bytes may pass in a second.
+    pub rate: Option<usize>,
+    /// What is told of the transfer, if progress is asked for.
+    pub asked: Option<Watched>,
+}
+
+/// Does what the words ask for, between an input and an output that represent files that are not
+/// named. One that was closed, and would be used, ends it.
+///
+/// Words that are refused end it before a byte is moved. Else it ends as the transfer does: with
+/// success only where all that the input gave was written and flushed, and each copy, too.
+/// Progress, told or not, changes neither.
+pub fn run<R, F, S, D>(
+    rt: &R,
+    words: &[String],
+    input: &mut Inlet<S, F>,
+    output: &mut Outlet<'_, R, D, F>,
+    streams: Streams,
+) -> Ended
+where
+    R: Wait + Threads + Clock + RandomSource + AllocGlobal + Files + Opens<F>,
+    R: Eprint + Clone + Drop + Send + Sync,
+    F: NamedFile + Send,
+    S: Source + Send + Drop,
+    D: Destination + Drop,
+    ensures returned { RunReturned (map string_bytes words.now) streams result }
+    ensures refused { fault_of pump_command (map string_bytes words.now) ≢ [] →
+        IsEarly result × (input.new ≡ input.old) × (output.new.drain ≡ output.old.drain) }
+    ensures runs { Runs (IsPlanned F.name F.written F.fails F.answers
+        (map string_bytes words.now) streams input.old output.old)
+        input.old input.new output.old output.new
+        (λ i o. EndsWithTransfer (inlet_bytes S.remaining F.remaining i)
+        (inlet_bytes S.remaining F.remaining input.new)
+        (drain_bytes D.contents F.written o.drain)
+        (drain_bytes D.contents F.written output.new.drain)
+        (λ passed. HaveTaken output.new.opening (HaveGot F.name F.written F.fails
+        (map string_bytes words.now) output.new.copies passed) passed)
+        (AreAllFlushed D.flushed F.flushed output.new.opening output.new.drain
+        output.new.copies.tees.items)
+        (IsDone output.new.opening) (IsRefused output.new.opening)
+        (IsOfSide (InletFails S.fails F.fails input.new)
+        (OutletFails D.fails F.fails output.new.opening output.new.drain)
+        (IsFull D.full F.full output.new.drain))
+        (has_failed output.new.copies.tees.items) result) result }
+{
+    let plan = match prepare(rt, words, input, output, streams) {
+        Ok(plan) => plan,
+        Err(ended) => return ended,
+    };
+    let watched = output.ask_progress(plan.asked);
+    let moved = move_all(rt, input, output, plan.sizes, watched);
+    output.report_rest(&moved);
+    output.ended(moved)
+}
+
+// Moves all bytes. The files that are written are opened by that, also where there are none.
+fn move_all<R, F, S, D>(
+    rt: &R,
+    input: &mut Inlet<S, F>,
+    output: &mut Outlet<'_, R, D, F>,
+    sizes: Sizes,
+    watched: Option<Watched>,
+) -> Result<(), TransferError>
+where
+    R: Wait + Threads + Clock + RandomSource + AllocGlobal + Files + Opens<F>,
+    R: Eprint + Clone + Drop + Send + Sync,
+    F: NamedFile + Send,
+    S: Source + Send + Drop,
+    D: Destination + Drop,
+    ensures moved { Transfers result (inlet_bytes S.remaining F.remaining input.old)
+        (inlet_bytes S.remaining F.remaining input.new)
+        (λ o. drain_bytes D.contents F.written o.drain)
+        (OutletTook F.name F.written F.fails) output.old output.new }
+    ensures flushed { WritesAll result → AreAllFlushed D.flushed F.flushed output.new.opening
+        output.new.drain output.new.copies.tees.items }
+    ensures opened { OnOk result (IsDone output.new.opening) }
+    ensures reported { IfErr result (IsOfSide (InletFails S.fails F.fails input.new)
+        (OutletFails D.fails F.fails output.new.opening output.new.drain)
+        (IsFull D.full F.full output.new.drain)) }
+{
+    let meter = output.meter;
+    match pump(rt, input, output, sizes, meter, watched) {
+        Ok(()) if output.opening.is_awaited() => output.conclude(),
+        moved => moved,
+    }
+}
+
+// Reads the words, and opens the files that they name.
+#[tactic(auto, using(crate::proofs::Named::early_unopened))]
+fn prepare<R, F, S, D>(
+    rt: &R,
+    words: &[String],
+    input: &mut Inlet<S, F>,
+    output: &mut Outlet<'_, R, D, F>,
+    streams: Streams,
+) -> Result<Plan, Ended>
+where
+    R: Wait + Clock + Eprint + AllocGlobal + Files + Opens<F>,
+    F: NamedFile,
+    S: Source + Drop,
+    D: Destination + Drop,
+    ensures early { IfErr result IsEarly }
+    ensures stays { OnErr result
+        ((input.new ≡ input.old) × (output.new.drain ≡ output.old.drain)) }
+    ensures taken { IfOk result (λ _. fault_of pump_command (map string_bytes words.now) ≡ []) }
+    ensures sizes { IfOk result (λ plan. AreSizedBy (map string_bytes words.now) plan.sizes) }
+    ensures level { IfOk result (λ plan. IsLevelOf plan.sizes.capacity
+        (after (codes "start-at") (map string_bytes words.now)) plan.sizes.level) }
+    ensures rate { IfOk result (λ plan.
+        IsRead IsSizeOf (after (codes "rate") (map string_bytes words.now)) plan.rate) }
+    ensures shown { IfOk result (λ plan.
+        ShowsAsAsked (map string_bytes words.now) plan.asked) }
+    ensures watched { IfOk result (λ plan. IfSome plan.asked (λ w.
+        (w.capacity ≡ plan.sizes.capacity) × (w.redraws ≡ streams.redraws))) }
+    ensures total { IfOk result (λ plan. IfSome plan.asked (λ w.
+        KnowsTotal (after (codes "size") (map string_bytes words.now)) w.total)) }
+    ensures input { OnOk result (ReadsNamed F.name
+        (after (codes "input") (map string_bytes words.now)) input.old input.new) }
+    ensures output { IfOk result (λ plan. WritesNamed F.name
+        (after (codes "output") (map string_bytes words.now)) plan.places.output
+        output.old.drain output.new.drain) }
+    ensures has_input { OnOk result (IsOfStream (after (codes "input")
+        (map string_bytes words.now)) → streams.has_input ≡ true) }
+    ensures has_output { OnOk result (IsOfStream (after (codes "output")
+        (map string_bytes words.now)) → streams.has_output ≡ true) }
+    ensures apart { IfOk result (λ plan. AreFoundApart F.answers
+        (after (codes "input") (map string_bytes words.now))
+        (after (codes "output") (map string_bytes words.now))
+        plan.places input.new output.new.copies.tees.items) }
+    ensures spared { SparesBytes (map string_bytes words.now) → IfOk result (λ plan.
+        HoldNothing (after (codes "output") (map string_bytes words.now)) plan.places.output
+        output.new.copies.tees.items) }
+    ensures copies { OnOk result (HaveGot F.name F.written F.fails
+        (map string_bytes words.now) output.new.copies []) }
+    ensures paced { IfOk result (λ plan. HasRate plan.rate output.new.copies.pace) }
+    ensures awaited { OnOk result (IsAwaited output.new.opening) }
+    ensures spares { SparesBytes (map string_bytes words.now)
+        → OnOk result (Awaits false output.new.opening) }
+{
+    let arguments = match read_words(rt.alloc(), words) {
+        Ok(arguments) => arguments,
+        Err(error) => return Err(Ended::Words(error)),
+    };
+    let numbers = accept(rt.alloc(), &arguments, streams)?;
+    let places = open_files(rt, &arguments, numbers.rate, input, output)?;
+    let watched = Watched {
+        capacity: numbers.sizes.capacity,
+        total: numbers.total.or(size_of(rt, input)),
+        redraws: streams.redraws,
+    };
+    let shows_progress = arguments.shows_progress && !arguments.is_quiet;
+    Ok(Plan {
+        places,
+        sizes: numbers.sizes,
+        rate: numbers.rate,
+        asked: if shows_progress { Some(watched) } else { None },
+    })
+}
+
+/// Moves all bytes, and reports meanwhile how far it is where that is asked for. Told or not, the
+/// bytes and the answer are those of the transfer.
+pub(crate) fn pump<R, S, D>(
+    rt: &R,
+    source: &mut S,
+    dest: &mut D,
+    sizes: Sizes,
+    meter: &Meter,
+    watched: Option<Watched>,
+) -> Result<(), TransferError>
+where
+    R: Wait + Threads + Clock + RandomSource + AllocGlobal + Eprint + Clone + Drop + Send + Sync,
+    S: Source + Send,
+    D: Destination,
+    ensures moved { Transfers result (S.remaining source.old) (S.remaining source.new)
+        D.contents D.took dest.old dest.new }
+    ensures flushed { WritesAll result → D.flushed dest.new }
+    ensures reported { IfErr result
+        (IsOfSide (S.fails source.new) (D.fails dest.new) (D.full dest.new)) }
+{
+    let Some(watched) = watched else {
+        return transfer(rt, source, dest, sizes, meter);
+    };
+    let over = Over::new();
+    let done = &over;
+    let (_, moved) = join_mut(
+        rt,
+        &mut || watch(rt, meter, watched, done),
+        &mut || done.report(rt, transfer(rt, source, dest, sizes, meter)),
+    );
+    moved.into_inner()
+}

@@ -1,8 +1,0 @@
--- None of those before the index held bytes.
-use Rattle.std.proofs.Common.{◌≡◌}
-use Rattle.std.specs.List.{AllWithin}
-use Rattle.pump_engine.proofs.opening.refuse_overwritten.Given as goal
-
-abbrev pub invariant-loop-tee : goal.invariant-loop-tee
-invariant-loop-tee g l =
-    AllWithin (λ sink. sink.found.held ≡ 0) l.opened.tees.items 0 l.tee-index

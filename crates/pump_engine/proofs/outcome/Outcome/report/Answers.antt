@@ -1,4 +1,0 @@
-use Rattle.pump_engine.proofs.outcome.Outcome.report.Goals as goal
-
-pub returns : goal.returns
-returns g c = (c.wait.result, c.wait.ensures, c.report.ensures.status)
