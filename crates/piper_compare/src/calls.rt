@@ -4,11 +4,11 @@ use crate::ends::{Destination, Source};
 use crate::halt::Halt;
 use futures::task::Poll;
 use futures::test::MockTask;
+use model_sides::calls::Call;
 use piper::{Inner, OutOfMemory, PipeError, Reader, Writer};
 use piper_protocol::answer::{Answer, Failed, Polled};
 use piper_protocol::table::Query;
 use piper_script::command::Refusal;
-use piper_sides::calls::Call;
 
 /// Makes a call of the reader without a waker, and returns what it returns. Bytes that it takes go to the front
 /// of `dest`.

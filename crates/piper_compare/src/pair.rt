@@ -5,13 +5,13 @@ use crate::draws::Draws;
 use crate::halt::Halt;
 use crate::tasks::{Tasks, rest};
 use futures::test::MockTask;
+use model_sides::calls::Call;
+use model_sides::polling::Context;
 use piper::{OwnedReader, OwnedWriter, pipe};
 use piper_protocol::answer::{Answer, Polled};
 use piper_protocol::table::Side;
 use piper_script::command::{MOST, Refusal};
 use piper_script::stop::Stop;
-use piper_sides::calls::Call;
-use piper_sides::polling::Context;
 use std::alloc::{AllocError, AllocGlobal, Global};
 use std::random::RandomSource;
 

@@ -3,11 +3,11 @@ use Rattle.std.proofs.Common.{◌≡◌, ℕ, ◌+◌, ◌<◌, List, [], ◌∷
 use Rattle.std.specs.Io.KnownBytes.{Appends}
 use Rattle.std.proofs.lemmas.List.{take_more, flat_map_more}
 use Rattle.std.proofs.lemmas.Option.{slice_get_within}
-use Rattle.piper_sides.specs.declared.calls.Step.{Step}
-use Rattle.piper_sides.specs.declared.events.Event.{Event}
-use Rattle.piper_sides.specs.declared.refusals.StepRefusal.{StepRefusal}
-use Rattle.piper_machine.specs.Pipe.{Pipe, fresh}
-use Rattle.piper_machine.specs.Run.{Runs, RefusedAt}
+use Rattle.model_sides.specs.declared.calls.Step.{Step}
+use Rattle.model_sides.specs.declared.events.Event.{Event}
+use Rattle.model_sides.specs.declared.refusals.StepRefusal.{StepRefusal}
+use Rattle.model.specs.Pipe.{Pipe, fresh}
+use Rattle.model.specs.Run.{Runs, RefusedAt}
 use Rattle.piper_script.specs.declared.stop.Stop.{Stop}
 use Rattle.piper_script.specs.declared.stop.Stop.TheVariants.{Refused, Memory, Read, Write}
 use Rattle.piper_script.specs.Event.{event_line}

@@ -2,7 +2,7 @@
 use Rattle.std.proofs.Common.{◌≡◌, ℕ, ◌⊎◌, inl, inr, List, [], Option, None, Some, Result, Ok, Err, IfErr, MatchOption, length, refl, sym, ap, subst, ◌∙◌, arith}
 use Rattle.std.specs.Io.KnownBytes.{Keeps}
 use Rattle.std.proofs.KnownBytes.{Keeps-refl}
-use Rattle.piper_sides.specs.declared.calls.Step.{Step}
+use Rattle.model_sides.specs.declared.calls.Step.{Step}
 use Rattle.piper_script.specs.declared.stop.Stop.{Stop}
 use Rattle.piper_script.specs.declared.stop.Stop.TheVariants.{Refused, Memory, Read, Write}
 use Rattle.piper_interpreter.specs.Output.{EndsAs, Reports, ReportsRun, RunsScript, WritesRun}

@@ -3,7 +3,7 @@ use Rattle.std.proofs.Common.{◌≡◌, ℕ, ◌+◌, ◌≤◌, ◌⊎◌, inl
 use Rattle.std.proofs.lemmas.Fn.{FoldsTo-push}
 use Rattle.std.specs.Io.KnownBytes.{Appends, IsAtEnd, Keeps}
 use Rattle.std.proofs.KnownBytes.{Appends-nil, Appends-trans}
-use Rattle.piper_machine.specs.Pipe.{Pipe}
+use Rattle.model.specs.Pipe.{Pipe}
 use Rattle.piper_script.specs.Limits.{longest_line}
 use Rattle.piper_script.specs.declared.stop.Stop.{Stop}
 use Rattle.piper_script.specs.declared.stop.Stop.TheVariants.{Read, Memory}

@@ -6,14 +6,14 @@ use Rattle.std.proofs.lemmas.List.{take_more, append-nil, get_or_default, map-ap
 use Rattle.std.proofs.lemmas.List.Elements.{filter_map-append, All-cons}
 use Rattle.piper_protocol.specs.declared.table.Side.{Side}
 use Rattle.piper_protocol.specs.declared.answer.Answer.TheVariants.{Done}
-use Rattle.piper_sides.specs.declared.events.Event.{Event}
-use Rattle.piper_machine.specs.BySteps.{named_by, names_of}
+use Rattle.model_sides.specs.declared.events.Event.{Event}
+use Rattle.model.specs.BySteps.{named_by, names_of}
 use Rattle.piper_interpreter.specs.declared.trial.Move.{Move}
 use Rattle.piper_interpreter.specs.Trial.{answer_in, answer_of, HasNoOther, IsLastOther, Tried, GoesMoves}
-use Rattle.piper_sides.specs.declared.calls.Step.{Step}
-use Rattle.piper_sides.specs.declared.calls.Step.TheVariants.{Go}
-use Rattle.piper_machine.specs.Run.{Made, Runs}
-use Rattle.piper_machine.proofs.Runs.{runs_more}
+use Rattle.model_sides.specs.declared.calls.Step.{Step}
+use Rattle.model_sides.specs.declared.calls.Step.TheVariants.{Go}
+use Rattle.model.specs.Run.{Made, Runs}
+use Rattle.model.proofs.Runs.{runs_more}
 
 one_more : (es : List Event) (i : ℕ) (e : Event) → i < length es → e ≡ get_or es i e → take (i + 1) es ≡ take i es ++ e ∷ []
 one_more es i e within is = take_more es i e within ∙ ap (λ (x : Event). take i es ++ x ∷ []) (sym is)

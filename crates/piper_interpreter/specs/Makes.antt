@@ -1,14 +1,14 @@
 -- What a call made whole returns, and the pipe that it leaves.
 use Rattle.std.specs.Prelude.{◌≡◌, ℕ, Ok}
-use Rattle.piper_sides.specs.declared.calls.Call.{Call}
-use Rattle.piper_sides.specs.declared.calls.Call.TheVariants as call
-use Rattle.piper_sides.specs.declared.calls.Step.TheVariants.{Begin}
+use Rattle.model_sides.specs.declared.calls.Call.{Call}
+use Rattle.model_sides.specs.declared.calls.Call.TheVariants as call
+use Rattle.model_sides.specs.declared.calls.Step.TheVariants.{Begin}
 use Rattle.piper_protocol.specs.declared.answer.Answer.{Answer}
 use Rattle.piper_protocol.specs.declared.answer.Answer.TheVariants.{Count, Copy}
 use Rattle.piper_protocol.specs.declared.answer.Polled.TheVariants.{Ready}
-use Rattle.piper_machine.specs.Pipe.{Pipe}
-use Rattle.piper_machine.specs.Step.{MayLend}
-use Rattle.piper_machine.specs.BySteps.{whole}
+use Rattle.model.specs.Pipe.{Pipe}
+use Rattle.model.specs.Step.{MayLend}
+use Rattle.model.specs.BySteps.{whole}
 
 -- what a call of write_buf lends, and how many places, is read off the new pipe
 pub record Makes (c : Call) (p : Pipe) (answer : Answer) (new : Pipe) : Type 0 where

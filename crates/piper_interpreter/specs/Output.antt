@@ -2,11 +2,11 @@
 use Rattle.std.specs.Prelude.{◌≡◌, ℕ, ◌⊎◌, List, [], ◌++◌, codes, Option, None, MatchOption, ⊤}
 use Rattle.std.specs.List.{flat_map}
 use Rattle.std.specs.Io.KnownBytes.{Appends, Keeps}
-use Rattle.piper_sides.specs.declared.calls.Step.{Step}
-use Rattle.piper_sides.specs.declared.events.Event.{Event}
-use Rattle.piper_sides.specs.declared.refusals.StepRefusal.{StepRefusal}
-use Rattle.piper_machine.specs.Pipe.{Pipe, fresh}
-use Rattle.piper_machine.specs.Run.{Runs, RefusedAt}
+use Rattle.model_sides.specs.declared.calls.Step.{Step}
+use Rattle.model_sides.specs.declared.events.Event.{Event}
+use Rattle.model_sides.specs.declared.refusals.StepRefusal.{StepRefusal}
+use Rattle.model.specs.Pipe.{Pipe, fresh}
+use Rattle.model.specs.Run.{Runs, RefusedAt}
 use Rattle.piper_script.specs.declared.command.Refusal.{Refusal}
 use Rattle.piper_script.specs.declared.stop.Stop.{Stop}
 use Rattle.piper_script.specs.declared.stop.Stop.TheVariants.{Refused, Memory, Write}

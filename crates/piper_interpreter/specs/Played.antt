@@ -2,16 +2,16 @@
 -- before.
 use Rattle.std.specs.Prelude.{◌≡◌, ℕ, List, [], ◌++◌, codes, take, Option, None, Some, Ok}
 use Rattle.piper_protocol.specs.declared.table.Side.{Side}
-use Rattle.piper_sides.specs.declared.calls.Call.{Call}
-use Rattle.piper_sides.specs.declared.calls.Call.TheVariants.{TryDrain, PollDrainBytes}
-use Rattle.piper_sides.specs.declared.calls.Step.TheVariants as step
+use Rattle.model_sides.specs.declared.calls.Call.{Call}
+use Rattle.model_sides.specs.declared.calls.Call.TheVariants.{TryDrain, PollDrainBytes}
+use Rattle.model_sides.specs.declared.calls.Step.TheVariants as step
 use Rattle.piper_protocol.specs.declared.answer.Polled.TheVariants.{Ready}
 use Rattle.piper_protocol.specs.declared.answer.Answer.{Answer}
 use Rattle.piper_protocol.specs.declared.answer.Answer.TheVariants.{Count, Copy}
-use Rattle.piper_sides.specs.declared.events.Event.{Event}
-use Rattle.piper_machine.specs.Pipe.{Pipe, fresh}
-use Rattle.piper_machine.specs.Places.{peeked}
-use Rattle.piper_machine.specs.Run.{Made}
+use Rattle.model_sides.specs.declared.events.Event.{Event}
+use Rattle.model.specs.Pipe.{Pipe, fresh}
+use Rattle.model.specs.Places.{peeked}
+use Rattle.model.specs.Run.{Made}
 use Rattle.piper_script.specs.declared.command.SaidCall.{SaidCall}
 use Rattle.piper_script.specs.declared.command.Steps.{Steps}
 use Rattle.piper_script.specs.declared.command.Command.{Command}

@@ -2,7 +2,7 @@
 use Rattle.std.specs.Prelude.{◌≡◌, ℕ, ◌+◌, List, [], ◌++◌, length, Option, None, IfSome}
 use Rattle.std.specs.List.{FoldsTo}
 use Rattle.std.specs.Io.KnownBytes.{Appends}
-use Rattle.piper_machine.specs.Pipe.{Pipe}
+use Rattle.model.specs.Pipe.{Pipe}
 use Rattle.piper_script.specs.declared.command.Refusal.{Refusal}
 use Rattle.piper_script.specs.declared.stop.Stop.{Stop}
 use Rattle.piper_script.specs.declared.stop.Stop.TheVariants.{Refused}

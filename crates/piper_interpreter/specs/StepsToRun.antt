@@ -1,9 +1,9 @@
 -- What the lines of a script of steps add to it, and which line says a step.
 use Rattle.std.specs.Prelude.{◌≡◌, ℕ, ◌≤◌, ◌<◌, List, [], ◌∷◌, ◌++◌, ◌⊎◌, length, replicate, codes, nat_eq, IsTrue, Option, None, Some, IfSome}
 use Rattle.std.specs.List.{HoldsAt, AllWithin, FoldsTo, starts_with}
-use Rattle.piper_sides.specs.declared.calls.Call.{Call}
-use Rattle.piper_sides.specs.declared.calls.Step.{Step}
-use Rattle.piper_sides.specs.declared.calls.Step.TheVariants as step
+use Rattle.model_sides.specs.declared.calls.Call.{Call}
+use Rattle.model_sides.specs.declared.calls.Step.{Step}
+use Rattle.model_sides.specs.declared.calls.Step.TheVariants as step
 use Rattle.piper_script.specs.declared.command.Steps.TheVariants.{One, Count}
 use Rattle.piper_script.specs.declared.command.Command.{Command}
 use Rattle.piper_script.specs.declared.command.Command.TheVariants.{Pipe, Put, Begin, Go}

@@ -3,15 +3,15 @@ use Rattle.std.specs.Prelude.{◌≡◌, ℕ, ◌+◌, ◌<◌, List, [], ◌∷
 use Rattle.std.specs.List.{filter_map, last_or, HoldsAt}
 use Rattle.piper_protocol.specs.declared.table.Side.{Side}
 use Rattle.piper_protocol.specs.declared.table.Side.TheVariants.{Reader, Writer}
-use Rattle.piper_sides.specs.declared.calls.SideState.TheVariants.{Busy}
+use Rattle.model_sides.specs.declared.calls.SideState.TheVariants.{Busy}
 use Rattle.piper_protocol.specs.declared.answer.Answer.{Answer}
 use Rattle.piper_protocol.specs.declared.answer.Answer.TheVariants.{Done}
-use Rattle.piper_sides.specs.declared.events.Event.{Event}
-use Rattle.piper_sides.specs.declared.events.Event.TheVariants.{Answered}
-use Rattle.piper_machine.specs.Pipe.{Pipe}
-use Rattle.piper_machine.specs.Refusal.{state_of}
-use Rattle.piper_machine.specs.Run.{Runs}
-use Rattle.piper_sides.specs.declared.calls.Step.TheVariants.{Go}
+use Rattle.model_sides.specs.declared.events.Event.{Event}
+use Rattle.model_sides.specs.declared.events.Event.TheVariants.{Answered}
+use Rattle.model.specs.Pipe.{Pipe}
+use Rattle.model.specs.Refusal.{state_of}
+use Rattle.model.specs.Run.{Runs}
+use Rattle.model_sides.specs.declared.calls.Step.TheVariants.{Go}
 use Rattle.piper_interpreter.specs.declared.trial.Length.{Length}
 use Rattle.piper_interpreter.specs.declared.trial.Length.TheVariants.{Within, FirstIsLong, SecondIsLong}
 use Rattle.piper_interpreter.specs.declared.trial.Move.{Move}

@@ -1,11 +1,11 @@
 -- When a call may be made whole.
 use Rattle.std.specs.Prelude.{◌<◌, ◌≤◌, length}
-use Rattle.piper_sides.specs.declared.calls.Call.{Call}
-use Rattle.piper_sides.specs.declared.calls.Call.TheVariants.{Poll, PollDrainBytes, PollDrain, Consume, PollFillBytes, PollFill, Produced}
-use Rattle.piper_machine.specs.Pipe.{Pipe}
-use Rattle.piper_machine.specs.Places.{peeked_count}
-use Rattle.piper_sides.specs.Call.{side_of}
-use Rattle.piper_machine.specs.Refusal.{IsIdle}
+use Rattle.model_sides.specs.declared.calls.Call.{Call}
+use Rattle.model_sides.specs.declared.calls.Call.TheVariants.{Poll, PollDrainBytes, PollDrain, Consume, PollFillBytes, PollFill, Produced}
+use Rattle.model.specs.Pipe.{Pipe}
+use Rattle.model.specs.Places.{peeked_count}
+use Rattle.model_sides.specs.Call.{side_of}
+use Rattle.model.specs.Refusal.{IsIdle}
 
 -- the call asks for no more than there is, and draws below 100
 abbrev pub IsWithin : Call → Pipe → Type 0

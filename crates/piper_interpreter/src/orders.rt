@@ -1,7 +1,7 @@
 //! The mode `all`: two open calls, and every order of their steps.
 
 ghost use Rattle.std.specs.Prelude.{◌≡◌, ◌⊎◌, IfErr, OnOk};
-ghost use Rattle.piper_sides.specs.Log.{events};
+ghost use Rattle.model_sides.specs.Log.{events};
 ghost use Rattle.piper_interpreter.specs.Output.{FlushesRefusal};
 ghost use Rattle.piper_interpreter.specs.Played.{LogsLine};
 
@@ -9,8 +9,8 @@ use crate::output::Output;
 use crate::player::Player;
 use crate::stream::{Lines, stopped};
 use crate::trial::{Length, Move, Trial, other, turn_to_next};
-use piper_machine::events::Log;
-use piper_machine::table::Side;
+use model::events::Log;
+use model::table::Side;
 use piper_script::command::{Command, Refusal};
 use piper_script::parser::{MOST_OF_A_LINE, begins_for, is_silent, parse};
 use piper_script::reply::Reply;

@@ -1,7 +1,7 @@
 //! Plays commands on a machine.
 
 ghost use Rattle.std.specs.Prelude.{◌≡◌, ◌++◌, length, IfOk, IfErr, OnOk, OnErr};
-ghost use Rattle.piper_sides.specs.Log.{events};
+ghost use Rattle.model_sides.specs.Log.{events};
 ghost use Rattle.piper_script.specs.Command.{IsCallInLimits, IsInLimits};
 ghost use Rattle.piper_interpreter.specs.Played.{Plays, NeedsPipe, IsOneMove, IsRefused, OnPipe, ShowsPeek, ShowsWhole, MakesWhole, Puts, Opens, ShowsSteps, shown, shown_text};
 ghost use Rattle.piper_interpreter.specs.Refused.{RefusesLine};
@@ -10,11 +10,11 @@ ghost use Rattle.piper_interpreter.specs.Whole.{IsReady};
 use crate::showing::{room_of, write_made};
 use crate::steps::make;
 use crate::whole::{answer, check, room_for};
-use piper_machine::answer::{Answer, Polled};
-use piper_machine::calls::{Call, Step};
-use piper_machine::events::Log;
-use piper_machine::machine::Machine;
-use piper_machine::table::Side;
+use model::answer::{Answer, Polled};
+use model::calls::{Call, Step};
+use model::events::Log;
+use model::machine::Machine;
+use model::table::Side;
 use piper_script::command::{Command, Refusal, SaidCall, Steps};
 use piper_script::reply::Reply;
 use piper_script::stop::Stop;
@@ -31,7 +31,7 @@ pub struct Player {
 
 impl Model for Player {
     ghost use Rattle.std.specs.Prelude.{Option};
-    ghost use Rattle.piper_machine.specs.Pipe.{Pipe};
+    ghost use Rattle.model.specs.Pipe.{Pipe};
 
     ghost Value = { Option Pipe };
 

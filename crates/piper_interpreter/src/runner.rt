@@ -8,15 +8,15 @@ ghost use Rattle.piper_interpreter.specs.RunStops.{AddsNumber, SaysAll, StopsRea
 ghost use Rattle.piper_interpreter.specs.StepsToRun.{AddsLine, Fits, SaysStep, last_end, most_steps_of_a_script};
 ghost use Rattle.piper_script.specs.Limits.{longest_line};
 ghost use Rattle.piper_protocol.specs.Index.{IsCapacity};
-ghost use Rattle.piper_sides.specs.Log.{events};
+ghost use Rattle.model_sides.specs.Log.{events};
 
 use crate::output::Output;
 use crate::stream::{Lines, stopped, write_reply};
-use piper_machine::calls::Step;
-use piper_machine::events::{Event, Log};
-use piper_machine::machine::{self, Machine};
-use piper_machine::refusals::RunRefusal;
-use piper_machine::table::Side;
+use model::calls::Step;
+use model::events::{Event, Log};
+use model::machine::{self, Machine};
+use model::refusals::RunRefusal;
+use model::table::Side;
 use piper_script::command::{Command, Refusal, Steps};
 use piper_script::parser::{MOST_OF_A_LINE, is_silent, parse};
 use piper_script::reply::Reply;

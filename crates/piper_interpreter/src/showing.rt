@@ -4,8 +4,8 @@ ghost use Rattle.std.specs.Prelude.{◌≡◌, ◌++◌, length, IfOk, OnOk};
 ghost use Rattle.piper_script.specs.Reply.{answer_text, woken_text};
 ghost use Rattle.piper_interpreter.specs.Played.{shown, shown_text};
 
-use piper_machine::answer::{Answer, Polled};
-use piper_machine::calls::Call;
+use model::answer::{Answer, Polled};
+use model::calls::Call;
 use piper_script::reply::Reply;
 use std::alloc::AllocError;
 

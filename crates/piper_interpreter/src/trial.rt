@@ -3,17 +3,17 @@
 ghost use Rattle.std.specs.Prelude.{◌≡◌, ◌≢◌, ◌<◌, ◌≤◌, ◌+◌, ◌↔◌, [], IsTrue, IsNone, IfOk, IfSome, OnOk, All, min, true, take, vec_len};
 ghost use Rattle.std.specs.Bool.{MatchBool};
 ghost use Rattle.std.specs.Option.{MatchOption, option_to_list};
-ghost use Rattle.piper_sides.specs.Log.{events};
-ghost use Rattle.piper_machine.specs.BySteps.{named_by, names_of};
-ghost use Rattle.piper_machine.specs.Run.{Made};
+ghost use Rattle.model_sides.specs.Log.{events};
+ghost use Rattle.model.specs.BySteps.{named_by, names_of};
+ghost use Rattle.model.specs.Run.{Made};
 ghost use Rattle.piper_script.specs.Event.{outcome_line};
 ghost use Rattle.piper_interpreter.specs.Trial.{Tried, steps_by, IsLong, IsOpen, other_of, alone, answer_in, answer_of, HasNoOther, IsLastOther, IsNext, IsLast, HasEnded, GoesAsLong};
 
-use piper_machine::answer::Answer;
-use piper_machine::calls::{SideState, Step};
-use piper_machine::events::{Event, Log};
-use piper_machine::machine::Machine;
-use piper_machine::table::Side;
+use model::answer::Answer;
+use model::calls::{SideState, Step};
+use model::events::{Event, Log};
+use model::machine::Machine;
+use model::table::Side;
 use piper_script::reply::Reply;
 use piper_script::stop::Stop;
 use std::alloc::{AllocError, Global};
@@ -51,7 +51,7 @@ pub struct Trial {
 }
 
 impl Model for Trial {
-    ghost use Rattle.piper_sides.specs.Log.{events};
+    ghost use Rattle.model_sides.specs.Log.{events};
     ghost use Rattle.piper_interpreter.specs.Trial.{Tried};
 
     ghost Value = { Tried };

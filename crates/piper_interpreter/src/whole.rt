@@ -1,16 +1,16 @@
 //! Calls made whole: when a line may make one, and what it returns.
 
 ghost use Rattle.std.specs.Prelude.{◌≡◌, ◌≤◌, ◌++◌, length, take, drop, IfOk, IfErr};
-ghost use Rattle.piper_machine.specs.Refusal.{refusal_of};
-ghost use Rattle.piper_machine.specs.BySteps.{unfailing};
+ghost use Rattle.model.specs.Refusal.{refusal_of};
+ghost use Rattle.model.specs.BySteps.{unfailing};
 ghost use Rattle.piper_interpreter.specs.Makes.{Makes, room_for, drained_by, IsSilent};
 ghost use Rattle.piper_interpreter.specs.Whole.{IsReady};
 
-use piper_machine::answer::{Answer, Failed, Polled};
-use piper_machine::calls::{Call, Step};
-use piper_machine::machine::Machine;
-use piper_machine::refusals::StepRefusal;
-use piper_machine::table::Query;
+use model::answer::{Answer, Failed, Polled};
+use model::calls::{Call, Step};
+use model::machine::Machine;
+use model::refusals::StepRefusal;
+use model::table::Query;
 
 /// Gives the call back if it may be made, and refuses it as the step that begins it is refused.
 pub fn check(machine: &Machine, call: Call) -> Result<Call, StepRefusal>

@@ -6,10 +6,10 @@ use Rattle.std.proofs.lemmas.List.Elements.{All-nil, All-push, All-weaker}
 use Rattle.piper_script.specs.Limits.{greatest_number}
 use Rattle.piper_script.specs.Joined.{joined_or}
 use lib.Dec.{eqb}
-use Rattle.piper_sides.specs.declared.scripted.SourceAct.{SourceAct}
-use Rattle.piper_sides.specs.declared.scripted.SourceAct.TheVariants as source
-use Rattle.piper_sides.specs.declared.scripted.DestAct.{DestAct}
-use Rattle.piper_sides.specs.declared.scripted.DestAct.TheVariants as dest
+use Rattle.model_sides.specs.declared.scripted.SourceAct.{SourceAct}
+use Rattle.model_sides.specs.declared.scripted.SourceAct.TheVariants as source
+use Rattle.model_sides.specs.declared.scripted.DestAct.{DestAct}
+use Rattle.model_sides.specs.declared.scripted.DestAct.TheVariants as dest
 use Rattle.piper_script.specs.declared.list.Item.{Item}
 use Rattle.piper_script.specs.declared.list.List.{List as ByteList}
 use Rattle.piper_script.specs.List.{Denotes, list_text, IsListText}

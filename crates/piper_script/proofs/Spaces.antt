@@ -8,8 +8,8 @@ use Rattle.piper_protocol.specs.declared.table.Side.{Side}
 use Rattle.piper_protocol.specs.declared.table.Side.TheVariants.{Reader, Writer}
 use Rattle.piper_script.specs.declared.command.Refusal.{Refusal}
 use Rattle.piper_script.specs.declared.command.SaidLuck.{SaidLuck}
-use Rattle.piper_sides.specs.declared.scripted.DestAct.{DestAct}
-use Rattle.piper_sides.specs.declared.scripted.DestAct.TheVariants as dest
+use Rattle.model_sides.specs.declared.scripted.DestAct.{DestAct}
+use Rattle.model_sides.specs.declared.scripted.DestAct.TheVariants as dest
 use Rattle.piper_script.specs.declared.list.Item.{Item}
 use Rattle.piper_script.specs.Joined.{joined_or}
 use Rattle.piper_script.specs.List.{list_text, IsItem, IsListText}

@@ -1,10 +1,10 @@
 -- What scripted sources and destinations do, as a script writes it.
 use Rattle.std.specs.Prelude.{◌≡◌, ℕ, ◌≤◌, List, [], codes, decimal, map, length, All, Option, None, Some}
 use Rattle.std.specs.List.{flat_map}
-use Rattle.piper_sides.specs.declared.scripted.SourceAct.{SourceAct}
-use Rattle.piper_sides.specs.declared.scripted.SourceAct.TheVariants as source
-use Rattle.piper_sides.specs.declared.scripted.DestAct.{DestAct}
-use Rattle.piper_sides.specs.declared.scripted.DestAct.TheVariants as dest
+use Rattle.model_sides.specs.declared.scripted.SourceAct.{SourceAct}
+use Rattle.model_sides.specs.declared.scripted.SourceAct.TheVariants as source
+use Rattle.model_sides.specs.declared.scripted.DestAct.{DestAct}
+use Rattle.model_sides.specs.declared.scripted.DestAct.TheVariants as dest
 use Rattle.piper_script.specs.Limits.{greatest_number}
 use Rattle.piper_script.specs.declared.list.Item.{Item}
 use Rattle.piper_script.specs.Joined.{joined_or}

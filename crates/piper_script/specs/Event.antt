@@ -5,10 +5,10 @@ use Rattle.piper_protocol.specs.declared.table.Side.TheVariants.{Reader, Writer}
 use Rattle.piper_protocol.specs.declared.answer.Answer.{Answer}
 use Rattle.piper_protocol.specs.declared.answer.Answer.TheVariants.{Count, Flag, Poll, Copy, Lent, Done}
 use Rattle.piper_protocol.specs.declared.answer.Polled.TheVariants.{Pending, Ready, Memory}
-use Rattle.piper_sides.specs.declared.events.Seen.{Seen}
-use Rattle.piper_sides.specs.declared.events.Seen.TheVariants as seen
-use Rattle.piper_sides.specs.declared.events.Event.{Event}
-use Rattle.piper_sides.specs.declared.events.Event.TheVariants.{Began, Looked, Published, Consumed, Closed, Registered, Woken, Answered}
+use Rattle.model_sides.specs.declared.events.Seen.{Seen}
+use Rattle.model_sides.specs.declared.events.Seen.TheVariants as seen
+use Rattle.model_sides.specs.declared.events.Event.{Event}
+use Rattle.model_sides.specs.declared.events.Event.TheVariants.{Began, Looked, Published, Consumed, Closed, Registered, Woken, Answered}
 use Rattle.piper_script.specs.Joined.{joined_or_dash}
 use Rattle.piper_script.specs.Reply.{printed_list, flag_text, copied_text}
 

@@ -1,14 +1,14 @@
 -- What the calls of a script ask of the machine.
 use Rattle.std.specs.Prelude.{◌≡◌, ℕ, List, Bool, true, false, unwrap_or}
-use Rattle.piper_sides.specs.declared.calls.Call.{Call}
-use Rattle.piper_sides.specs.declared.calls.Call.TheVariants as machine
+use Rattle.model_sides.specs.declared.calls.Call.{Call}
+use Rattle.model_sides.specs.declared.calls.Call.TheVariants as machine
 use Rattle.piper_protocol.specs.declared.table.Query.TheVariants as query
-use Rattle.piper_sides.specs.declared.polling.Luck.{Luck}
+use Rattle.model_sides.specs.declared.polling.Luck.{Luck}
 use Rattle.piper_script.specs.declared.command.SaidLuck.{SaidLuck}
 use Rattle.piper_script.specs.declared.command.SaidCall.{SaidCall}
 use Rattle.piper_script.specs.declared.command.SaidCall.TheVariants.{Len, IsEmpty, IsFull, IsClosed, Poll, Fill, Drain, PollFill, PollDrain, FillFrom, DrainTo, Consume, Lend, Produced, Close, Drop}
-use Rattle.piper_sides.specs.declared.scripted.SourceAct.{SourceAct}
-use Rattle.piper_sides.specs.declared.scripted.DestAct.{DestAct}
+use Rattle.model_sides.specs.declared.scripted.SourceAct.{SourceAct}
+use Rattle.model_sides.specs.declared.scripted.DestAct.{DestAct}
 use Rattle.piper_script.specs.List.{Denotes}
 use Rattle.piper_script.specs.Acts.{DenotesActs, dests_text}
 

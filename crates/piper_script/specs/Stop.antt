@@ -1,6 +1,6 @@
 -- Why a step that is refused stops a replay.
-use Rattle.piper_sides.specs.declared.refusals.StepRefusal.{StepRefusal}
-use Rattle.piper_sides.specs.declared.refusals.StepRefusal.TheVariants as step
+use Rattle.model_sides.specs.declared.refusals.StepRefusal.{StepRefusal}
+use Rattle.model_sides.specs.declared.refusals.StepRefusal.TheVariants as step
 use Rattle.piper_script.specs.declared.command.Refusal.TheVariants as line
 use Rattle.piper_script.specs.declared.stop.Stop.{Stop}
 use Rattle.piper_script.specs.declared.stop.Stop.TheVariants.{Refused, Memory}

@@ -9,7 +9,7 @@ use crate::command::{MOST, Refusal};
 use crate::list::List;
 use crate::number::number;
 use crate::stop::Stop;
-use piper_sides::scripted::{ActList, DestAct, SourceAct};
+use model_sides::scripted::{ActList, DestAct, SourceAct};
 use std::alloc::Global;
 
 /// The acts of a source: their text, and how many bytes their lists represent.

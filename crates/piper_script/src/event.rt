@@ -4,9 +4,9 @@ ghost use Rattle.std.specs.Prelude.{◌≡◌, ◌++◌, codes, decimal, OnOk};
 ghost use Rattle.piper_script.specs.Event.{seen_word, answer_word, event_word, printed_events, side_of_event, event_line, outcome_line};
 
 use crate::reply::Reply;
+use model_sides::events::{Event, Seen};
 use piper_protocol::answer::{Answer, Polled};
 use piper_protocol::table::Side;
-use piper_sides::events::{Event, Seen};
 use std::alloc::AllocError;
 
 // The side whose event it is. A waker is called on no side.

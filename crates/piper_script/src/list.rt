@@ -8,7 +8,7 @@ ghost use Rattle.piper_script.specs.List.{item_text, item_bytes, IsItem};
 use crate::command::{MOST, Refusal};
 use crate::number::{is_at_most, number};
 use crate::stop::Stop;
-use piper_sides::bytes::Bytes;
+use model_sides::bytes::Bytes;
 use std::alloc::{AllocError, Global};
 
 /// One item of a list.

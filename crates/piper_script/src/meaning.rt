@@ -6,8 +6,8 @@ ghost use Rattle.piper_script.specs.Meaning.{Means};
 
 use crate::command::{SaidCall, SaidLuck};
 use crate::stop::Stop;
+use model_sides::{calls, polling};
 use piper_protocol::table::Query;
-use piper_sides::{calls, polling};
 use std::alloc::Global;
 
 impl From<SaidLuck> for polling::Luck {

@@ -1,5 +1,5 @@
 use Rattle.std.proofs.Common.{◌≡◌, ◌≤◌, ◌+◌, ◌-◌, ◌++◌, replicate, vec_len, vec_capacity}
-use Rattle.piper_sides.specs.declared.calls.Step.TheVariants.{Go}
+use Rattle.model_sides.specs.declared.calls.Step.TheVariants.{Go}
 use Rattle.piper_interpreter.proofs.runner.push_steps.Given as goal
 
 abbrev pub invariant-loop : goal.invariant-loop

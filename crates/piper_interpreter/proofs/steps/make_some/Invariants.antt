@@ -1,4 +1,4 @@
-use Rattle.piper_sides.specs.Log.{events}
+use Rattle.model_sides.specs.Log.{events}
 use Rattle.piper_interpreter.specs.Steps.{Goes}
 use Rattle.piper_interpreter.proofs.steps.make_some.Given as goal
 

@@ -1,6 +1,6 @@
 use Rattle.std.proofs.Common.{◌≡◌, ◌+◌, ◌++◌, sym, take, arith}
 use Rattle.std.proofs.lemmas.List.{append-nil}
-use Rattle.piper_machine.specs.BySteps.{named_by, names_of}
+use Rattle.model.specs.BySteps.{named_by, names_of}
 use Rattle.piper_interpreter.proofs.Trials.{names_more}
 use Rattle.piper_interpreter.proofs.trial.Trial.woken.Goals as goal
 use Rattle.piper_interpreter.proofs.trial.Trial.woken.Goals.{in-Some+in_ok-push, in_default}

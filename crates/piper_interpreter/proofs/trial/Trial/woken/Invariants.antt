@@ -1,5 +1,5 @@
 use Rattle.std.proofs.Common.{◌≡◌, take}
-use Rattle.piper_machine.specs.BySteps.{names_of}
+use Rattle.model.specs.BySteps.{names_of}
 use Rattle.piper_interpreter.proofs.trial.Trial.woken.Given as goal
 
 abbrev pub invariant-loop-event : goal.invariant-loop-event

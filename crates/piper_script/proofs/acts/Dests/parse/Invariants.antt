@@ -1,5 +1,5 @@
 use Rattle.std.proofs.Common.{◌≡◌, List, true, map, All}
-use Rattle.piper_sides.specs.declared.scripted.DestAct.{DestAct}
+use Rattle.model_sides.specs.declared.scripted.DestAct.{DestAct}
 use Rattle.piper_script.specs.Acts.{dest_text, IsDestInLimits, IsDestsText}
 use Rattle.piper_script.proofs.Joined.{texts_of}
 use Rattle.piper_script.proofs.acts.Dests.parse.Given as goal

@@ -1,0 +1,25 @@
+use Rattle.std.proofs.Common.{ap, arith}
+use Rattle.model.specs.Pipe.{Pipe}
+use Rattle.model.specs.Places.{peeked_count}
+use Rattle.model.proofs.Indices.{place_below}
+use Rattle.model.proofs.Moves.{consumed-view}
+use Rattle.model.proofs.Machines.{reader-passed}
+use Rattle.model.proofs.machine.Machine.reader_stores_head.Goals as goal
+
+pub returns-clause-after : goal.returns-clause-after
+returns-clause-after c =
+    let m = c.self.inside in
+    let i = c.self.invariant in
+    let same = ap (λ (p : Pipe). peeked_count p) c.self.view_is in
+    let below = place_below m.read.capacity m.read.head i.reading.head in
+    rw (← c.self.view_is, c.settle_reader.ensures.call, c.settle_reader.ensures.destination, c.stored_head-answer.ensures.answer) (consumed-view m i c.args.n c.stored_head-answer.new.self _ _ _ c.stored_head-answer.ensures.after (omega arith) (omega arith))
+
+pub invariant_of-self : goal.invariant_of-self
+invariant_of-self c =
+    let m = c.self.inside in
+    let i = c.self.invariant in
+    let same = ap (λ (p : Pipe). peeked_count p) c.self.view_is in
+    let below = place_below m.read.capacity m.read.head i.reading.head in
+    let made = c.stored_head-answer.ensures in
+    let settled = c.settle_reader.ensures in
+    reader-passed m i c.args.n c.stored_head-answer.new.self _ _ _ made.after made.sound (omega arith) (omega arith) (λ idle. settled.holds_nothing (made.open idle)) (λ idle. settled.fills_nothing (made.open idle))

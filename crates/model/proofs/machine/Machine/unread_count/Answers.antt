@@ -1,0 +1,11 @@
+use Rattle.std.proofs.Common.{ap, length}
+use Rattle.model.specs.Pipe.{Pipe}
+use Rattle.model.proofs.Soundness.{length-unread}
+use Rattle.model.proofs.machine.Machine.unread_count.Goals as goal
+
+pub returns-clause-value : goal.returns-clause-value
+returns-clause-value c =
+    let value = c.distance.ensures.value in
+    let long = length-unread c.self.inside c.self.invariant in
+    let same = ap (λ (p : Pipe). length p.unread) c.self.view_is in
+    cc
