@@ -100,6 +100,7 @@ SEALS = {
     "as_said": ("pump_files/specs/Saying", ["pump_files/proofs/saying/say"]),
     "as_lost": ("piper_duplex/specs/Failures", ["piper_duplex/proofs/engine/lost/lost"]),
     "as_had_seen": ("piper_futures/specs/Threads", ["piper_futures/proofs/threads/closed_by_writer"]),
+    "as_failed_with": ("piper_futures/specs/Threads", ["piper_futures/proofs/threads/wait_for"]),
     "as_wait_failed": ("piper_futures/specs/Threads", ["piper_futures/proofs/threads/wait_for"]),
 }
 

@@ -1,6 +1,6 @@
 -- What a fill or a drain gives is what its thread gives.
 use Rattle.std.proofs.Common.{◌≡◌, ◌∙◌, ◌⊎◌, ⊎_elim, inl, inr, sym, ap, subst, true, ℕ, Bool, List, length, Option, Some, Result, Ok, Err}
-use Rattle.std.specs.Prelude.{IfOk, IsSomeAnd}
+use Rattle.std.specs.Prelude.{IfErr, IfOk, IsSomeAnd}
 use Rattle.futures.specs.declared.task.context.Context.{Context}
 use Rattle.piper.specs.declared.error.PipeError.{PipeError}
 use Rattle.piper.specs.declared.io.copy.Copied.{Copied}
@@ -11,7 +11,7 @@ use Rattle.piper_futures.specs.Draining.{DrainsOn, DrainedAll}
 use Rattle.piper_futures.specs.Filling.{FillsOn, FillEnded, FilledAll}
 use Rattle.piper_futures.specs.Moving.{IsIo, IsOfWrite}
 use Rattle.piper_futures.specs.Writing.{FailsOnce}
-use Rattle.piper_futures.specs.Threads.{FilledTo, DrainedTo, HadSeen, WhyFilled}
+use Rattle.piper_futures.specs.Threads.{FilledTo, DrainedTo, HadSeen, HasFailedWith, WhyFilled}
 use Rattle.piper_futures.specs.declared.failed.Failed.{Failed}
 use Rattle.piper_futures.specs.declared.threads.Drained.{Drained}
 use Rattle.piper_futures.specs.declared.threads.Filled.{Filled}
@@ -19,6 +19,11 @@ use Rattle.piper_futures.specs.declared.threads.Filled.{Filled}
 -- what holds of a result holds where it is handed on
 pub handed_on : {T E : Type 0} (P : T → Type 0) (x : T) (returned : Result T E) → Ok x ≡ returned → IfOk returned P → P x
 handed_on P x returned same holds = subst (λ r. IfOk r P) (sym same) holds
+
+-- so is an error that a future gave
+pub failed_on : {F T L : Type 0} (future : F) (output : Result T (Failed L)) (failed : Failed L) → output ≡ Err failed
+    → IfErr output (λ f. HasFailedWith future f.error) → HasFailedWith future failed.error
+failed_on future output failed is given = subst (λ o. IfErr o (λ f. HasFailedWith future f.error)) is given
 
 module _ {S : Type 0} (remaining : S → Option (List ℕ)) (woken : OwnedWriter → Type 0) (fails : OwnedWriter → Context → PipeError → Type 0) where
   abbrev All : OwnedWriter → S → Result (OwnedWriter × S × Copied) (Failed (OwnedWriter × S)) → Type 0

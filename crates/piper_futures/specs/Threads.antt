@@ -1,5 +1,5 @@
 -- What comes of threads that fill a pipe, or drain one.
-use Rattle.std.specs.Prelude.{◌≡◌, ◌⊎◌, Bool, true, ⊤, List, ℕ, length, ◌++◌, Option, None, Some, Result, Ok, Err, IfErr}
+use Rattle.std.specs.Prelude.{◌≡◌, ◌⊎◌, Bool, true, ⊤, List, ℕ, length, ◌++◌, Option, None, Some, Result, Ok, Err, IfOk, IfErr}
 use Rattle.std.specs.Io.KnownBytes.{IsAtEnd, Appends}
 use Rattle.std.specs.declared.io.Error.{Error}
 use Rattle.futures.specs.declared.task.context.Context.{Context}
@@ -12,8 +12,8 @@ use Rattle.piper.specs.declared.io.copy.Copied.TheVariants.{ToTheEnd, UntilClose
 use Rattle.piper.specs.declared.owned.OwnedReader.{OwnedReader}
 use Rattle.piper.specs.declared.owned.OwnedWriter.{OwnedWriter}
 use Rattle.piper_lines.specs.AtEnd.{AtEnd}
-use Rattle.piper_futures.specs.Draining.{DrainsOn}
-use Rattle.piper_futures.specs.Filling.{FillsOn}
+use Rattle.piper_futures.specs.Draining.{DrainsOn, StartsDraining}
+use Rattle.piper_futures.specs.Filling.{FillsOn, StartsFilling}
 use Rattle.piper_futures.specs.Moving.{IsIo, IsOfWrite}
 use Rattle.piper_futures.specs.declared.failed.Failed.{Failed}
 use Rattle.piper_futures.specs.declared.threads.Drained.{Drained}
@@ -33,9 +33,23 @@ abbrev pub WhyFilled : Bool → Option (List ℕ) → Copied → Type 0
 WhyFilled saw left ToTheEnd = IsAtEnd left
 WhyFilled saw left UntilClosed = saw ≡ true
 
--- it is want of memory for a waker
-abbrev pub IsOfWaker : PipeError → Type 0
-IsOfWaker e = (cx : Context) × WantsWaker cx e
+-- a thread waited for this future, which failed with this error. It is sealed: no proof looks into it,
+-- and only that of `wait_for` uses the lemma below
+pub HasFailedWith : {F : Type 0} → F → PipeError → Type 0
+HasFailedWith future e = ⊤
+
+pub as_failed_with : {F T L : Type 0} (future : F) (waited : Result (Result T (Failed L)) Error)
+    → IfOk waited (λ given. IfErr given (λ failed. HasFailedWith future failed.error))
+unfolding HasFailedWith
+as_failed_with future (Ok (Ok x)) = tt
+as_failed_with future (Ok (Err failed)) = tt
+as_failed_with future (Err e) = tt
+
+-- it is want of memory for a waker, which a future that moves between these two gave
+abbrev pub IsOfWaker : {F E X : Type 0} → (F → E → X → Type 0) → E → X → PipeError → Type 0
+IsOfWaker {F} Starts end other e =
+    (future : F) × Starts future end other × HasFailedWith future e
+    × ((cx : Context) × WantsWaker cx e)
 
 -- a thread's own wait failed with this error. It is sealed: no proof looks into it, and only that of
 -- `wait_for` uses the lemma below
@@ -67,7 +81,7 @@ module _ {S : Type 0} (remaining : S → Option (List ℕ)) where
   -- or with an error of std
   abbrev pub LeftByFill : OwnedWriter → S → Option (Filled S) → PipeError → Type 0
   LeftByFill w s None e = IsOfWait e
-  LeftByFill w s (Some left) e = FilledTo w s left × (IsOfWaker e ⊎ IsIo e)
+  LeftByFill w s (Some left) e = FilledTo w s left × (IsOfWaker StartsFilling w s e ⊎ IsIo e)
 
   -- all was moved into the pipe; or the writer wanted memory, or the source failed, and what it
   -- gave before was moved
@@ -87,7 +101,8 @@ module _ {D : Type 0} (contents : D → Option (List ℕ)) where
   -- likewise
   abbrev pub LeftByDrain : OwnedReader → D → Option (Drained D) → PipeError → Type 0
   LeftByDrain r d None e = IsOfWait e
-  LeftByDrain r d (Some left) e = DrainedTo r d left × (IsOfWaker e ⊎ IsOfWrite e)
+  LeftByDrain r d (Some left) e =
+      DrainedTo r d left × (IsOfWaker StartsDraining r d e ⊎ IsOfWrite e)
 
   -- all was moved out of the pipe, up to its end; or the reader or the writer of std failed, and
   -- what was taken before was written

@@ -4,7 +4,7 @@ ghost use Rattle.std.specs.Prelude.{◌≡◌, IfOk, IfErr, length, true};
 ghost use Rattle.piper.specs.OfReader.{taken};
 ghost use Rattle.piper.specs.OfWriter.{saw, sent};
 ghost use Rattle.piper_protocol.specs.Reported.{HasFailed};
-ghost use Rattle.piper_futures.specs.Threads.{FilledAndClosed, DrainedOrClosed, HadSeen, WaitHasFailed};
+ghost use Rattle.piper_futures.specs.Threads.{FilledAndClosed, DrainedOrClosed, HadSeen, HasFailedWith, WaitHasFailed};
 
 use crate::drain::drain_into;
 use crate::failed::Failed;
@@ -120,13 +120,14 @@ where
 }
 
 /// Polls the future on this thread, which sleeps until it is woken. Only what fails here is known
-/// to be the thread's own wait.
-fn wait_for<H, F>(rt: &H, future: F) -> io::Result<F::Output>
+/// to be the thread's own wait, and only an error that comes out here to be the future's.
+fn wait_for<H, F, T, L>(rt: &H, future: F) -> io::Result<Result<T, Failed<L>>>
 where
     H: Wait + RandomSource + AllocGlobal,
-    F: Future,
+    F: Future<Output = Result<T, Failed<L>>>,
     requires { F.can_poll future }
     ensures gives { IfOk result (F.gives future) }
+    ensures error { IfOk result (λ r. IfErr r (λ failed. HasFailedWith future failed.error)) }
     ensures failed { IfErr result WaitHasFailed }
 {
     block_on(rt, future)

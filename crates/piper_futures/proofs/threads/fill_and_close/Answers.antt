@@ -1,6 +1,7 @@
 -- What the fill gives, and then the drop of the writer.
+use Rattle.std.proofs.Common.{⊎_elim, inl, inr}
 use Rattle.piper.specs.Handles.{NotifiesReader}
-use Rattle.piper_futures.proofs.InThreads.{fill_ended, fill_failed}
+use Rattle.piper_futures.proofs.InThreads.{fill_ended, fill_failed, failed_on}
 use Rattle.piper_futures.proofs.threads.fill_and_close.Goals as goal
 
 pub returns-in-Ok-Ok : goal.returns-in-Ok-Ok
@@ -12,5 +13,8 @@ returns-in-Ok-Ok g c =
 pub returns-in-Ok-Err : goal.returns-in-Ok-Err
 returns-in-Ok-Err g c =
     let left = c.closed_by_writer-in-Ok-Err.ensures in
+    let all =
     fill_failed g.S.Read.remaining NotifiesReader _ _ c.args.writer c.args.source c.in-Ok-Err.failed _ c.closed_by_writer-in-Ok-Err.result c.fill_from.ensures c.in-Ok-Err.field-0-is
-    c.in-Ok-Err.ensures.gives left.source left.bytes left.shut left.seen
+    c.in-Ok-Err.ensures.gives left.source left.bytes left.shut left.seen in
+    let own_error = failed_on c.fill_from.result _ _ c.in-Ok-Err.field-0-is c.in-Ok-Err.ensures.error in
+    (all.0, ⊎_elim (λ own. inl (c.fill_from.result, c.fill_from.ensures, own_error, own)) inr all.1)
