@@ -1,3 +1,4 @@
+pub mod Accepting
 pub mod Asked
 pub mod CommandLine
 pub mod Ended

@@ -1,5 +1,5 @@
 -- Whether a stream is open, and what is refused of one that was closed.
-use Rattle.std.specs.Prelude.{◌≡◌, ◌≢◌, ◌↔◌, pos, Bool, true, false, IsTrue, Result, Ok, Err, Some}
+use Rattle.std.specs.Prelude.{◌≡◌, ◌≢◌, ◌↔◌, pos, Bool, true, false, IsTrue, Result, Ok, Err, Some, codes, string_bytes}
 use Rattle.std.specs.IoError.{raw_os_error}
 use Rattle.std.specs.declared.io.Error.{Error}
 use Rattle.piper_protocol.specs.Reported.{HasFailed}
@@ -20,7 +20,9 @@ TellsOpen (Err e) is_open = IsTrue is_open ↔ (raw_os_error e ≢ Some (pos 9))
 abbrev pub IsOfClosed : Texts → Streams → Ended → Type 0
 IsOfClosed texts streams (ended.NoInput file) =
     (streams.has_input ≡ false) × IsOfStream (text_in texts.input)
+    × (string_bytes file.name ≡ codes "standard input")
 IsOfClosed texts streams (ended.NoOutput file) =
     (streams.has_output ≡ false) × IsOfStream (text_in texts.output)
+    × (string_bytes file.name ≡ codes "standard output")
 IsOfClosed texts streams ended.Memory = HasFailed ended.Memory
 IsOfClosed texts streams other = ⊥

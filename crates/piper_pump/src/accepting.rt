@@ -1,9 +1,11 @@
 //! What the words ask for, once all is refused in them that can be without a look at a file.
-ghost use Rattle.std.specs.Prelude.{◌≡◌, None, IfErr, IfOk, OnOk, true};
+ghost use Rattle.std.specs.Prelude.{◌≡◌, ◌≢◌, None, IfErr, IfOk, OnOk, codes, true};
+ghost use Rattle.std.specs.List.{All};
+ghost use Rattle.piper_pump.specs.Accepting.{HasRead, IsRefusedFor};
 ghost use Rattle.piper_pump.specs.Ended.{IsEarly};
 ghost use Rattle.piper_pump.specs.Streams.{IsOfClosed};
-ghost use Rattle.pump_words.specs.Arguments.{IsSizeOf, text_in};
-ghost use Rattle.pump_words.specs.Plan.{IsLevelOf, IsOfStream, IsRead, IsTotalOf};
+ghost use Rattle.pump_words.specs.Arguments.{text_in};
+ghost use Rattle.pump_words.specs.Plan.{IsOfStream};
 
 use crate::ended::{Ended, Unopened, not_taken};
 use crate::streams::Streams;
@@ -29,16 +31,14 @@ pub fn accept(alloc: Global, arguments: &Arguments<'_>, streams: Streams) -> Res
     ensures capacity { IfOk result (λ a.
         a.sizes.capacity ≡ arguments.now.amounts.capacity) }
     ensures chunk { IfOk result (λ a. a.sizes.chunk ≡ arguments.now.amounts.chunk) }
-    ensures level { IfOk result (λ a. IsLevelOf arguments.now.amounts.capacity
-        (text_in arguments.now.texts.start_at) a.sizes.level) }
-    ensures rate { IfOk result (λ a.
-        IsRead IsSizeOf (text_in arguments.now.texts.rate) a.rate) }
-    ensures total { IfOk result (λ a.
-        IsRead IsTotalOf (text_in arguments.now.texts.size) a.total) }
+    ensures read { IfOk result (HasRead arguments.now) }
     ensures input { OnOk result (IsOfStream (text_in arguments.now.texts.input)
         → streams.has_input ≡ true) }
     ensures output { OnOk result (IsOfStream (text_in arguments.now.texts.output)
         → streams.has_output ≡ true) }
+    ensures copies { OnOk result
+        (All (λ name. name.now ≢ codes "-") arguments.now.tees.items) }
+    ensures refused { IfErr result (IsRefusedFor arguments.now streams) }
 {
     let numbers = match numbers_of(arguments.amounts.capacity, arguments.texts) {
         Ok(numbers) => numbers,

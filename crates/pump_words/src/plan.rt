@@ -1,7 +1,7 @@
 //! What is done, from what the words ask for: the rate, the size and the level in numbers, and
 //! whether there is an input and an output.
 ghost use Rattle.std.specs.Prelude.{◌≡◌, ◌≢◌, ◌≤◌, ◌⊎◌, Some, None, IfErr, IfOk, OnOk, IfNone, IfSome, codes};
-ghost use Rattle.std.specs.List.{All};
+ghost use Rattle.std.specs.List.{All, Any};
 ghost use Rattle.pump_words.specs.Arguments.{IsSizeOf, text_in};
 ghost use Rattle.pump_words.specs.Plan.{IsAfter, IsLevelOf, IsPercent, IsRead, IsRefused, IsTotalOf, WritesNone, level_of};
 
@@ -138,6 +138,7 @@ pub fn named<'a>(text: Option<&'a str>) -> Option<&'a str>
 /// Refuses a copy to `-`: of the standard streams only the output is written, without a copy.
 pub fn refuse_dashes(tees: &[&str]) -> Result<(), Untaken<'static>>
     ensures named { IfErr result (IsAfter (codes "--tee <FILE>") (codes "-")) }
+    ensures refused { IfErr result (λ _. Any (λ name. name.now ≡ codes "-") tees.now) }
     ensures files { OnOk result (All (λ name. name.now ≢ codes "-") tees.now) }
 {
     for name in tees {
