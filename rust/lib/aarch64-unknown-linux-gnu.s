@@ -838,7 +838,7 @@ piper_reader_poll:                      // @piper_reader_poll
 	cmp	w13, #1
 	str	xzr, [x12, #16]
 	b.ne	.LBB15_42
-// %bb.17:                              // %"token_cell::TokenCell+Option+T::take::<22'piper_c::words::Waiter>.exit.i.i.i.i"
+// %bb.17:                              // %"piper_cells::token_cell::TokenCell+Option+T::take::<22'piper_c::words::Waiter>.exit.i.i.i.i"
 	mov	w12, #1                         // =0x1
 	strb	w12, [x9, #32]
 	str	x9, [x0]
@@ -1129,7 +1129,7 @@ piper_writer_poll:                      // @piper_writer_poll
 	cmp	w13, #1
 	str	xzr, [x12, #40]
 	b.ne	.LBB16_45
-// %bb.20:                              // %"token_cell::TokenCell+Option+T::take::<22'piper_c::words::Waiter>.exit.i.i.i.i"
+// %bb.20:                              // %"piper_cells::token_cell::TokenCell+Option+T::take::<22'piper_c::words::Waiter>.exit.i.i.i.i"
 	mov	w12, #1                         // =0x1
 	strb	w12, [x9, #56]
 	str	x9, [x0]
@@ -1460,7 +1460,7 @@ piper_reader_drop:                      // @piper_reader_drop
 	cmp	w8, #1
 	str	xzr, [x21, #24]
 	b.ne	.LBB18_22
-// %bb.11:                              // %"token_cell::TokenCell+Option+T::take::<22'piper_c::words::Waiter>.exit.i9.i.i"
+// %bb.11:                              // %"piper_cells::token_cell::TokenCell+Option+T::take::<22'piper_c::words::Waiter>.exit.i9.i.i"
 	add	x8, x20, #80
 	mov	w9, #1                          // =0x1
 	//APP
@@ -1599,7 +1599,7 @@ piper_writer_drop:                      // @piper_writer_drop
 	cmp	w8, #1
 	str	xzr, [x21]
 	b.ne	.LBB19_22
-// %bb.11:                              // %"token_cell::TokenCell+Option+T::take::<22'piper_c::words::Waiter>.exit.i9.i.i"
+// %bb.11:                              // %"piper_cells::token_cell::TokenCell+Option+T::take::<22'piper_c::words::Waiter>.exit.i9.i.i"
 	add	x8, x20, #152
 	mov	w9, #1                          // =0x1
 	//APP

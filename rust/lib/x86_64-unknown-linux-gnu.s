@@ -874,7 +874,7 @@ piper_reader_poll:                      # @piper_reader_poll
 	movq	$0, 16(%r10)
 	cmpb	$1, %r11b
 	jne	.LBB15_14
-# %bb.8:                                # %"token_cell::TokenCell+Option+T::take::<22'piper_c::words::Waiter>.exit.i.i.i.i"
+# %bb.8:                                # %"piper_cells::token_cell::TokenCell+Option+T::take::<22'piper_c::words::Waiter>.exit.i.i.i.i"
 	movb	$1, 32(%rax)
 	movq	%rax, (%rsi)
 	movl	$1, %r11d
@@ -1137,7 +1137,7 @@ piper_writer_poll:                      # @piper_writer_poll
 	movq	$0, 40(%r10)
 	cmpb	$1, %r11b
 	jne	.LBB16_15
-# %bb.9:                                # %"token_cell::TokenCell+Option+T::take::<22'piper_c::words::Waiter>.exit.i.i.i.i"
+# %bb.9:                                # %"piper_cells::token_cell::TokenCell+Option+T::take::<22'piper_c::words::Waiter>.exit.i.i.i.i"
 	movb	$1, 56(%rax)
 	movq	%rax, (%rsi)
 	movl	$1, %r11d
@@ -1403,7 +1403,7 @@ piper_reader_drop:                      # @piper_reader_drop
 	movq	$0, 40(%r15)
 	cmpb	$1, %cl
 	jne	.LBB18_17
-# %bb.8:                                # %"token_cell::TokenCell+Option+T::take::<22'piper_c::words::Waiter>.exit.i10.i.i"
+# %bb.8:                                # %"piper_cells::token_cell::TokenCell+Option+T::take::<22'piper_c::words::Waiter>.exit.i10.i.i"
 	#APP
 	#NO_APP
 	movl	$1, %ecx
@@ -1544,7 +1544,7 @@ piper_writer_drop:                      # @piper_writer_drop
 	movq	$0, 16(%r15)
 	cmpb	$1, %cl
 	jne	.LBB19_17
-# %bb.8:                                # %"token_cell::TokenCell+Option+T::take::<22'piper_c::words::Waiter>.exit.i10.i.i"
+# %bb.8:                                # %"piper_cells::token_cell::TokenCell+Option+T::take::<22'piper_c::words::Waiter>.exit.i10.i.i"
 	#APP
 	#NO_APP
 	movl	$1, %ecx
