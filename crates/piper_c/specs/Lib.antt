@@ -1,3 +1,4 @@
+pub mod Address
 pub mod Held
 pub mod Leaving
 pub mod Lending

@@ -2,6 +2,7 @@
 ghost use Rattle.std.specs.Prelude.{◌≡◌, ◌<◌, false, length};
 ghost use Rattle.std.specs.Borrow.{sem};
 ghost use Rattle.piper_ring.specs.WriteView.{Lendable};
+ghost use Rattle.piper_c.specs.Address.{BeginsAt};
 ghost use Rattle.piper_c.specs.Handles.{Holds, IsWholeWriter};
 ghost use Rattle.piper_c.specs.Lending.{lends_half, LendsOut, IsLoanOf, IsWhole};
 
@@ -9,7 +10,9 @@ use crate::halves::WriteHalf;
 use crate::handles::{PiperRoom, PiperWriter};
 
 /// Where a slice begins. It says nothing of the memory there.
-pub(crate) fn address(bytes: &[u8]) -> *const u8 {
+pub(crate) fn address(bytes: &[u8]) -> *const u8
+    ensures { BeginsAt bytes.now result }
+{
     bytes.as_ptr()
 }
 

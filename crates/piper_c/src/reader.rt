@@ -3,6 +3,7 @@
 ghost use Rattle.std.specs.Prelude.{◌≡◌, ◌≢◌, ◌<◌, IsSome, None};
 ghost use Rattle.piper_ring.specs.ReadView.{MayBeUnread, in_one_piece};
 ghost use Rattle.piper_ring.specs.Loads.{FoundWaiter};
+ghost use Rattle.piper_c.specs.Address.{ShowsAt};
 ghost use Rattle.piper_c.specs.Leaving.{Leaves};
 ghost use Rattle.piper_c.specs.Waiting.{HandedBack};
 ghost use Rattle.piper_c.specs.Handles.{Holds, HoldsOn};
@@ -58,7 +59,8 @@ pub extern "C" fn piper_reader_look(
     at: &mut *const u8,
 ) -> PiperSeen
     requires { IsSome reader.old.half }
-    ensures on { HoldsOn reader.old.half reader.new.half (λ a b. ReaderSeen result a b) }
+    ensures on { HoldsOn reader.old.half reader.new.half (λ a b. ReaderSeen result a b
+        × (result.outcome ≡ 1 → ShowsAt b at.new)) }
     ensures kept { result.outcome ≢ 1 → at.new ≡ at.old }
 {
     let mut half = reader.take(alloc);
@@ -190,7 +192,7 @@ pub extern "C" fn piper_reader_peek(
 ) -> usize
     requires { IsSome reader.old.half }
     ensures { HoldsOn reader.old.half reader.new.half (λ a b.
-        (b ≡ a) × (result ≡ in_one_piece a.side.end)) }
+        (b ≡ a) × (result ≡ in_one_piece a.side.end) × ShowsAt a at.new) }
 {
     let half = reader.take(alloc);
     *at = address(half.side.end.peek_buf());

@@ -1,10 +1,11 @@
--- `address` reads the slice's pointer. Assumes `Logic`.
+-- `address` reads the slice's pointer, so what it returns is evidence. Assumes `Logic`.
 use Rattle.std.proofs.Common.{ℕ, List, [], ◌∷◌, length, refl}
 use mir.Syntax.{named}
 use mir.Val.{Val, vptr}
-use base.Logic.{SProp}
+use base.Logic.{SProp, emp}
+use contract.Monad.{fact, fact_i}
 use base.Fml.{ftrue, flft}
-use types.Kit.{‵, raw, ◌⊛◌, ◌$◌, ◌∵◌, !, qed, by, keep, split, fjoin, feq_i}
+use types.Kit.{‵, raw, ◌⊛◌, ◌$◌, ◌∵◌, !, qed, by, keep, split, fjoin, feq_i, use0}
 use types.Run.{stop, fld, hop, from, addr, returns, enter}
 use types.ByLocal.{alloc_all, pass_all, free_all, look_at, look_in_at, sets}
 use types.Part.{sub, whole}
@@ -18,6 +19,7 @@ use denote.Slice.{slice_val, shr_slice_vals, shr_slice_Tells}
 use denote.Steps.{nothing}
 use denote.Triple.Walked.{Stays, stay_dropped, walk_of, Goes-dropped}
 use Rattle.rtrb.proofs.Walks.{proved, leaves}
+use Rattle.piper_c.specs.Address.{BeginsAt, as_begins_at}
 use Rattle.piper_c.specs.contracts.lending.address.{ended, clauses}
 use Rattle.piper_c.specs.contracts.lending.address.Key.{name as #self}
 use Rattle.piper_c.proofs.lending.address.Statement.{statement}
@@ -35,5 +37,5 @@ address_spec 𝓤 𝓛 𝓜 𝓡 wired =
     qed 𝓛 (((‵ (flft κs.0 qs.0) ⊛ ‵ ftrue) ⊛ ‵ (owns (types_at En.signature.params κs) a y.0.4)) ∷ raw ((c κs a).requires gh) ∷ []) ∵ split ! $
     enter ! 𝓣.C 𝓣.Λ fn (slice_val (b, o) n ∷ []) Post $ alloc_all ! (λ l. pass_all ! refl ((tt, (tt, (record { fits = are.0.0.1.0 }, tt))), tt) $
     sets ! (addr ! (from ! (fld ! refl (hop ! (look_in_at ! 1 (sub ! 0 refl (whole !))) (stop !))))) refl (tt, tt) $ returns ! (look_at ! 0 refl) $ free_all ! refl $
-    nothing ! $ feq_i ! (List Val) (vptr b o ∷ []) (vptr b o ∷ []) refl $ nothing ! $ nothing ! $ fjoin ! $
+    let Told : Type 0 = BeginsAt a.0.now (block_ptr b o) in use0 𝓛 (raw (fact 𝓤 Told)) (fact_i 𝓤 Told (emp 𝓤) (as_begins_at a.0)) $ feq_i ! (List Val) (vptr b o ∷ []) (vptr b o ∷ []) refl $ nothing ! $ nothing ! $ fjoin ! $
     keep ! (3 ∷ 0 ∷ 1 ∷ 2 ∷ []) $ by ! (leaves 𝓛 En hs c y (vptr b o) (block_ptr b o) (tt, tt) (tt, tt))))
