@@ -137,7 +137,7 @@ where
                 return Ok(Played::Refused);
             }
             Compared::Differ(difference) => {
-                let told = tell(difference, None, twin, number, line, output)?;
+                let told = tell(difference, None, twin, number, line, output);
                 return Ok(Played::Differ(told));
             }
         }
@@ -153,14 +153,11 @@ fn tell<H, O: Write>(
     number: u64,
     line: &[u8],
     output: &mut O,
-) -> Result<Difference, Stop>
+) -> Difference
 where
     H: RandomSource + AllocGlobal + Clone + Drop,
 {
-    match write_difference(seed, twin, number, line, output) {
-        Ok(()) => Ok(difference),
-        Err(stop) => Err(difference.untold(stop)),
-    }
+    difference.told(write_difference(seed, twin, number, line, output))
 }
 
 fn write_difference<H, O: Write>(
@@ -219,7 +216,8 @@ where
         match twin.play(number, line.as_bytes())? {
             Compared::Differ(difference) => {
                 let line = line.as_bytes();
-                return tell(difference, Some(seed), &twin, number, line, output).map(Some);
+                let told = tell(difference, Some(seed), &twin, number, line, output);
+                return Ok(Some(told));
             }
             Compared::Silent | Compared::Alike | Compared::Refused => {}
         }

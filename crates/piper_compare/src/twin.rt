@@ -1,5 +1,6 @@
 //! Plays commands on the handles and on the machine, and holds the answers against each other.
-ghost use Rattle.std.specs.Prelude.{◌≡◌, IfOk};
+ghost use Rattle.std.specs.Prelude.{◌≡◌, None, Some, IfErr, IfOk, IfSome, OnOk};
+ghost use Rattle.piper_interpreter.specs.Ended.{IsEndOf};
 
 use crate::halt::{Halt, finish};
 use crate::hands::Hands;
@@ -31,27 +32,34 @@ pub enum Compared {
     Differ(Difference),
 }
 
-/// The two differ. It can't be dropped, so no comparison passes over it: it ends by it, or since it
-/// can't be told.
+/// The two differ. It can't be dropped, so no comparison passes over it: it ends by it.
 pub struct Difference {
-    _made: (),
+    /// What stopped it from being told, if something did.
+    untold: Option<Stop>,
 }
 
 impl Difference {
-    /// How a comparison ends that came to it.
-    pub fn ended(self) -> Ended
-        ensures { result.status ≡ 1 }
+    /// The same, with what stopped it from being told, if something did.
+    pub fn told(self, told: Result<(), Stop>) -> Difference
+        ensures told { OnOk told (result ≡ self) }
+        ensures untold { IfErr told (λ stop. result.untold ≡ Some stop) }
     {
-        let Difference { _made: _ } = self;
-        Ended::REFUSED
+        let Difference { untold } = self;
+        Difference {
+            untold: told.err().or(untold),
+        }
     }
 
-    /// It can't be told, since that stopped.
-    pub fn untold(self, stop: Stop) -> Stop
-        ensures { result ≡ stop }
+    /// How a comparison ends that came to it.
+    pub fn ended(self) -> Ended
+        ensures told { self.untold ≡ None → result.status ≡ 1 }
+        ensures untold { IfSome self.untold (λ stop. IsEndOf stop result) }
     {
-        let Difference { _made: _ } = self;
-        stop
+        let Difference { untold } = self;
+        match untold {
+            None => Ended::REFUSED,
+            Some(stop) => Ended::from(stop),
+        }
     }
 }
 
@@ -93,7 +101,7 @@ impl<H: RandomSource + AllocGlobal + Drop> Twin<H> {
         let played = self.hands.play(command, &mut self.handles);
         finish(played, number, &mut self.handles)?;
         Ok(if self.machine.as_bytes() != self.handles.as_bytes() {
-            Compared::Differ(Difference { _made: () })
+            Compared::Differ(Difference { untold: None })
         } else if is_refused {
             Compared::Refused
         } else {
