@@ -1,4 +1,5 @@
 //! Both handles of a pipe held by one thread, and who is woken by their calls.
+ghost use Rattle.std.specs.Prelude.{◌≡◌, OnOk};
 
 use crate::calls::{read_as_task, read_at_once, write_as_task, write_at_once};
 use crate::draws::Draws;
@@ -121,7 +122,9 @@ impl Pair {
         Answer::Done
     }
 
-    fn close(&mut self, rt: &(impl RandomSource + AllocGlobal)) -> Result<Answer, Halt> {
+    fn close(&mut self, rt: &(impl RandomSource + AllocGlobal)) -> Result<Answer, Halt>
+        ensures { OnOk result (self.new.lent ≡ 0) }
+    {
         let Some(owned) = &mut self.writer else {
             return Err(Refusal::Dropped.into());
         };

@@ -1,4 +1,5 @@
-//! A reader and a writer of std that fail once so many bytes went through them.
+//! A reader and a writer of std that fail once so many bytes went through them, and a reader that is
+//! interrupted.
 use std::io;
 use std::io::{Read, Write};
 
@@ -18,6 +19,24 @@ impl Read for Broken<'_> {
         let count = self.rest.read(&mut buf[..most])?;
         self.good -= count;
         Ok(count)
+    }
+}
+
+/// A reader each of whose bytes comes after a read that was interrupted.
+#[derive(Drop)]
+pub(crate) struct Interrupted<'a> {
+    pub(crate) rest: &'a [u8],
+    pub(crate) was_interrupted: bool,
+}
+
+impl Read for Interrupted<'_> {
+    fn read(&mut self, buf: &mut [u8]) -> io::Result<usize> {
+        self.was_interrupted = !self.was_interrupted;
+        if self.was_interrupted {
+            return Err(io::Error::from(io::ErrorKind::Interrupted));
+        }
+        let most = buf.len().min(1);
+        self.rest.read(&mut buf[..most])
     }
 }
 

@@ -2,7 +2,7 @@
 ghost use Rattle.std.specs.Prelude.{◌≡◌, ◌⊎◌, ◌↔◌, [], ℕ, List, IfErr, IsErr, IsTrue, OnOk};
 ghost use Rattle.std.specs.Io.KnownBytes.{Keeps};
 ghost use Rattle.piper_transfer.specs.Taken.{StaysTaken};
-ghost use Rattle.piper_transfer.specs.Transfer.{IsLasting, IsOfDestination};
+ghost use Rattle.piper_transfer.specs.Transfer.{IsLasting, IsOfDestination, WritesAll};
 ghost use Rattle.pump_files.specs.Copies.{HavePassed, has_failed};
 ghost use Rattle.piper_pump.specs.Ended.{EndsAs, IsUnopened};
 ghost use Rattle.piper_pump.specs.Ends.{drain_bytes, inlet_bytes, AreAllFlushed, DrainFails};
@@ -92,6 +92,8 @@ where
             → HavePassed F.name F.written F.fails self.old.copies names passed
             → HavePassed F.name F.written F.fails self.new.copies names passed }
         ensures failed { self.new.copies.tees ≡ self.old.copies.tees }
+        ensures unsummed { (¬ WritesAll moved.now) →
+            self.new.copies.digest ≡ self.old.copies.digest }
     {
         self.report_last();
         if matches!(moved, Ok(()) | Err(TransferError::Read(_))) {

@@ -1,10 +1,12 @@
 //! The side that writes the pipe's bytes to the output.
-ghost use Rattle.std.specs.Prelude.{◌≡◌, ◌<◌, ◌++◌, ◌-◌, ℕ, List, length};
+ghost use Rattle.std.specs.Prelude.{◌≡◌, ◌<◌, ◌++◌, ◌-◌, ◌+◌, ℕ, List, length};
 ghost use Rattle.std.specs.Prelude.{Ok, OnErr, OnOk, IfErr, IfOk, IfSome, IfNone};
 ghost use Rattle.futures.specs.Task.{IsArmed};
 ghost use Rattle.futures.specs.Poll.{IfReady, OnPending};
 ghost use Rattle.piper.specs.Drains.{StaysKnown};
 ghost use Rattle.piper.specs.Ends.{IsEnded};
+ghost use Rattle.piper.specs.Handles.{NotifiesWriter};
+ghost use Rattle.piper.specs.OfReader.{front};
 ghost use Rattle.piper_transfer.specs.Threads.{HasTwoThreads, IsLate};
 ghost use Rattle.piper_transfer.specs.Transfer.{IsLasting, IsOfDestination, IsTold, OutputHasFailed, Poured, PouredAll};
 ghost use Rattle.piper_transfer.specs.Turns.{HasCounted, IsStill};
@@ -130,6 +132,9 @@ fn give_up<D: Destination, N: Naming>(
         × (reader.new.side.end.taken ≡ reader.old.side.end.taken ++ lost) }
     ensures ring { reader.new.side.end.ring ≡ reader.old.side.end.ring }
     ensures capacity { reader.new.side.end.capacity ≡ reader.old.side.end.capacity }
+    ensures woken { NotifiesWriter reader.new }
+    ensures given { length reader.new.side.end.taken
+        ≡ length reader.old.side.end.taken + front reader.old }
 {
     over.end_output();
     let known = reader.peek_buf().len();

@@ -8,7 +8,7 @@ ghost use Rattle.pump_files.specs.Handle.{HoldsNothing, IsAnswerFor};
 
 use crate::all_open::AllOpen;
 use crate::handle::{Handle, ask};
-use crate::made::Made;
+use crate::made::StillNamed;
 use piper_protocol::reported::reported;
 use std::fs::{File, Files, Metadata, OpenOptions};
 use std::{fs, io};
@@ -138,7 +138,7 @@ pub trait Opens<F: NamedFile> {
         ensures failed { IfErr result HasFailed };
 
     /// Takes it away, which this run made.
-    fn remove(&self, name: &str, made: Made) -> io::Result<()>
+    fn remove(&self, name: &str, own: StillNamed) -> io::Result<()>
         ensures reported { IsOfStd result };
 }
 
@@ -232,7 +232,7 @@ impl<R: Files<File = File>> Opens<SystemFile> for R {
         Ok(())
     }
 
-    fn remove(&self, name: &str, _made: Made) -> io::Result<()> {
+    fn remove(&self, name: &str, _own: StillNamed) -> io::Result<()> {
         reported(fs::remove_file(self, name))
     }
 }

@@ -156,15 +156,16 @@ impl<F: NamedFile> Sink<F> {
 
     /// Takes the file away, if this run made it and its name is still its own.
     pub fn unmake(&self, rt: &impl Opens<F>) {
-        let Some(own) = self.made else {
+        let Some(made) = self.made else {
             return;
         };
         let named = Found::of_name(&rt.look(self.name.as_str()));
-        if let Ok(made) = Found::of_output(&self.file)
-            && made.id == named.id
+        if let Ok(own) = Found::of_output(&self.file)
+            && own.id == named.id
         {
+            let still = made::still_named(made, &self.file, &own, &named);
             // It is empty, and there is nothing to be said of one that stays.
-            let _ = rt.remove(self.name.as_str(), own);
+            let _ = rt.remove(self.name.as_str(), still);
         }
     }
 

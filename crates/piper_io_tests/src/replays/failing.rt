@@ -1,6 +1,6 @@
 //! Replays whose input or output fails, and wrong arguments.
 
-use crate::broken::{Broken, Full};
+use crate::broken::{Broken, Full, Interrupted};
 use crate::compare::same_bytes;
 use crate::replays::expected::{LINES, expect_end, joined, words};
 use piper_interpreter::replay::replay;
@@ -92,6 +92,20 @@ fn reads_that_fail(rt: HostRuntime) -> Result<(), Fail> {
         let printed = printed_before(rt.alloc(), good)?;
         expect_broken(&rt, "", &script, good, &printed)?;
     }
+    Ok(())
+}
+
+#[test]
+fn a_read_that_was_interrupted_is_made_again(rt: HostRuntime) -> Result<(), Fail> {
+    let (script, printed) = joined(rt.alloc())?;
+    let mut input = Interrupted {
+        rest: &script,
+        was_interrupted: false,
+    };
+    let mut output = Vec::new(rt.alloc());
+    let ended = replay(rt.alloc(), &[], &mut input, &mut output);
+    same_bytes(&rt, &output, &printed);
+    expect_end(&rt, ended, 0, "");
     Ok(())
 }
 
