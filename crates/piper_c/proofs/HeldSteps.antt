@@ -1,26 +1,10 @@
 -- Steps of the walks that take an open handle apart. Assumes `Logic`.
-use Rattle.std.proofs.Common.{◌≡◌, ℕ, List, [], ◌∷◌, length, refl, sym, ap, ◌∙◌, drop as drop_list}
-use Rattle.std.specs.Prelude.{Option, None, Some, IsSome}
-use seplogic.Ra.Ura.{Ura}
-use base.Logic.{ent, sep}
-use base.Fml.{fsep, feq, fobs, fres}
-use base.Fraction.{full_share}
+use Rattle.std.proofs.Common.{ℕ, List, [], length}
+use Rattle.piper_c.proofs.Kit.{◌≡◌, ◌∷◌, refl, sym, ap, ◌∙◌, drop_list, Option, None, Some, IsSome, Ura, ent, sep, fsep, feq, fobs, fres, full_share, Logic, sem, Item, Goal, Seq, ‵, ◌$◌, ◌∵◌, !, qed, move, keep, drop, use1, use2, rewrite, fsplit, fsplit3, fjoin, fpick, updating, now, done, lft_end, lent_back, name_done, res_agree, RattleType, Array, u8, closes_slice, part_at, Ptr, block_ptr, block_of, count_of, at_block, lies_at, bytes, bytes_apart, box_owns, heap_token}
 use base.Stored.{coded_list}
 use lib.Seq.{take_at as take_front}
-use types.Logic.{Logic, sem}
-use types.Kit.{Item, Goal, Seq, ‵, ◌$◌, ◌∵◌, !, qed, move, keep, drop, use1, use2, rewrite, fsplit, fsplit3, fjoin, fpick, updating, now, done}
-use types.Tokens.{lft_end, lent_back, name_done, res_agree}
-use denote.RattleType.{RattleType}
-use denote.Array.{Array}
-use denote.Builtin.{u8}
 use denote.Follow.{followed}
 use denote.FollowSlice.{heres_id}
-use denote.Index.{closes_slice}
-use denote.Memory.{part_at}
-use denote.RawPtr.{Ptr, block_ptr, block_of, count_of, at_block, lies_at}
-use denote.RawPtr.Bytes.{bytes, bytes_apart}
-use Rattle.std_alloc.specs.Box.Ownership.{box_owns}
-use Rattle.piper_ring.specs.Block.{heap_token}
 use Rattle.piper_c.specs.Held.{held, held_writer, room_owns, comes_back, refilled, all_but_room, with_room}
 use Rattle.piper_c.specs.Handles.{IsWholeWriter}
 use Rattle.piper_c.specs.Lending.{IsLoanOf, IsWhole}

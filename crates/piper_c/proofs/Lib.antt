@@ -1,3 +1,4 @@
+pub mod Kit
 pub mod ReaderValues
 pub mod WriterValues
 pub mod RoomValues

@@ -1,38 +1,9 @@
 -- The machine value of a `PiperReader`: its pointer. Assumes `Logic`.
-use Rattle.std.proofs.Common.{◌≡◌, List, [], ◌∷◌, ◌++◌, refl, ap, ◌∙◌}
-use seplogic.Ra.Ura.{Ura}
-use mir.Val.{Val, vstruct, vcons, vnil, of_list}
-use base.Logic.{ent, emp}
-use types.Logic.{Logic, sem}
-use denote.RattleType.{RattleType}
-use denote.Laws.{Is}
-use denote.RawPtr.{Ptr, ptr_val}
-use denote.Shadow.{makes_shadow}
-use denote.Struct.Struct.{Struct}
-use denote.Struct.Owning.{shape}
+use Rattle.std.proofs.Common.{List, []}
+use Rattle.piper_c.proofs.Kit.{◌≡◌, ◌∷◌, ◌++◌, refl, ap, ◌∙◌, Ura, Val, vstruct, vcons, vnil, of_list, ent, emp, Logic, sem, RattleType, Is, Ptr, ptr_val, makes_shadow, Struct, shape, bare, Dict, impl, method, tcons, tnil, dnil, Model, Wired, Running, no, param, arg, layout, layouts, Laws, param_laws, arg_laws, Mute-seen, glues, AllWithin, Lasts, lasts, at_exit, Fit, p_owned, ParamKind, ended_of, stays, r_unit, via_longer, method_Known, Over, glue_by, Bx, ghosts, dict}
 use Rattle.piper_c.specs.contracts.handles.PiperReader as Handle
-use mir.Raw.{raw as bare}
-use mir.Syntax.{Dict, impl, method, tcons, tnil, dnil}
-use prog.Model.{Model}
-use prog.Wired.{Wired}
-use contract.Running.{Running}
-use denote.Exit.{no}
-use denote.Param.{param, arg, layout, layouts}
-use denote.Param.Laws.{Laws, param_laws, arg_laws}
-use denote.Param.Mute.{Mute-seen}
 use denote.Param.Glue as Drops
-use denote.Param.NoDrop.{glues}
-use denote.Triple.Carry.{AllWithin}
-use denote.Triple.Clauses.{Lasts, lasts, at_exit}
-use denote.Triple.Walked.{Fit}
-use borrow.Kind.Owned.{p_owned}
-use borrow.Fn.Kinds.{ParamKind, ended_of, stays, r_unit}
-use borrow.Fn.Impl.{via_longer, method_Known}
-use borrow.Fn.Run.{Over}
-use borrow.Fn.Glue.{glue_by}
-use Rattle.std_alloc.proofs.BoxSteps.Form.{Bx}
 use Rattle.std_heap.specs.contracts.Global as Heap
-use Rattle.std_heap.specs.contracts.GlobalAllocator.TheImpl.{ghosts, dict}
 use Rattle.std_heap.proofs.Global.TheLaws as Heap'
 use Rattle.piper_c.proofs.Destruct++none.drop.Code as NoDrop
 use Rattle.piper_c.specs.contracts.halves.ReadHalf as Half

@@ -1,15 +1,6 @@
 -- The machine value of a `PiperRoom`: its pointer. Assumes `Logic`.
-use Rattle.std.proofs.Common.{◌≡◌, List, [], ◌∷◌, ◌++◌, refl, ap, ◌∙◌}
-use seplogic.Ra.Ura.{Ura}
-use mir.Val.{Val, vstruct, of_list}
-use base.Logic.{ent, emp}
-use types.Logic.{Logic, sem}
-use denote.RattleType.{RattleType}
-use denote.Laws.{Is}
-use denote.RawPtr.{Ptr, ptr_val}
-use denote.Shadow.{makes_shadow}
-use denote.Struct.Struct.{Struct}
-use denote.Struct.Owning.{shape}
+use Rattle.std.proofs.Common.{List, []}
+use Rattle.piper_c.proofs.Kit.{◌≡◌, ◌∷◌, ◌++◌, refl, ap, ◌∙◌, Ura, Val, vstruct, of_list, ent, emp, Logic, sem, RattleType, Is, Ptr, ptr_val, makes_shadow, Struct, shape}
 use Rattle.piper_c.specs.contracts.handles.PiperRoom as Room
 use Rattle.piper_c.proofs.WriterValues.{handle_val}
 

@@ -1,24 +1,7 @@
 -- `address` reads the slice's pointer, so what it returns is evidence. Assumes `Logic`.
-use Rattle.std.proofs.Common.{ℕ, List, [], ◌∷◌, length, refl}
-use mir.Syntax.{named}
-use mir.Val.{Val, vptr}
-use base.Logic.{SProp, emp}
-use contract.Monad.{fact, fact_i}
-use base.Fml.{ftrue, flft}
-use types.Kit.{‵, raw, ◌⊛◌, ◌$◌, ◌∵◌, !, qed, by, keep, split, fjoin, feq_i, use0}
-use types.Run.{stop, fld, hop, from, addr, returns, enter}
-use types.ByLocal.{alloc_all, pass_all, free_all, look_at, look_in_at, sets}
-use types.Part.{sub, whole}
-use contract.Running.{tables}
-use denote.Builtin.{SliceRefOf, u8}
-use denote.Exit.{yes}
-use denote.RattleType.{owns}
-use denote.RawPtr.{block_ptr}
-use denote.Signature.{types_at, plain}
-use denote.Slice.{slice_val, shr_slice_vals, shr_slice_Tells}
-use denote.Steps.{nothing}
-use denote.Triple.Walked.{Stays, stay_dropped, walk_of, Goes-dropped}
-use Rattle.rtrb.proofs.Walks.{proved, leaves}
+use Rattle.std.proofs.Common.{ℕ, List, [], length}
+use Rattle.piper_c.proofs.Kit.{◌∷◌, refl, named, Val, vptr, SProp, emp, fact, fact_i, ftrue, flft, ‵, ◌⊛◌, ◌$◌, ◌∵◌, !, qed, by, keep, split, fjoin, feq_i, use0, stop, fld, hop, from, addr, returns, enter, alloc_all, pass_all, free_all, look_at, look_in_at, sets, sub, whole, tables, SliceRefOf, u8, yes, owns, block_ptr, types_at, plain, slice_val, shr_slice_vals, shr_slice_Tells, nothing, Stays, stay_dropped, walk_of, Goes-dropped, proved, leaves}
+use types.Kit.{raw}
 use Rattle.piper_c.specs.Address.{BeginsAt, as_begins_at}
 use Rattle.piper_c.specs.contracts.lending.address.{ended, clauses}
 use Rattle.piper_c.specs.contracts.lending.address.Key.{name as #self}

@@ -1,46 +1,9 @@
 -- `lend_out` lends the writer to a call of its own for a new lifetime, and keeps the loan of the room
 -- that comes of it open: the bytes go out. Assumes `Logic`.
-use Rattle.std.proofs.Common.{◌≡◌, ℕ, ◌<◌, List, [], ◌∷◌, ◌++◌, length, refl, sym, ap, w64, false, T, subst}
-use Rattle.std.specs.Prelude.{Option, Some}
-use mir.Syntax.{named}
-use mir.Raw.{raw as bare}
-use mir.Val.{Val, vint, vptr, vstruct, vcons, vnil, of_list, has_ty, WT}
-use base.Fraction.{full_share}
-use base.Logic.{SProp, emp, fst∗, never, id⊢}
-use base.Fml.{Lft, ftrue, fsep, feq, flft, fauth}
-use prog.Wp.{spot_of}
-use types.Logic.{sem}
-use types.Kit.{‵, raw, ◌⊛◌, some, later, await, pick, at_ret, ◌$◌, ◌∵◌, !, qed, by, move, keep, drop, split, join, fsplit, fjoin, fjoin3, fpack, feq_i, use0, use1, use2}
-use types.Run.{stop, fld, hop, from, of_opd, no_more, and_then, addr, first, blocks, exec, returns, enter}
-use types.ByLocal.{alloc_all, pass_all, free_all, look_at, look_in_at, get, get_in, through, sets, is, lands_last, env}
-use types.Part.{agg, sub, whole}
-use types.Tokens.{lft_new, name_new, bor_new}
-use contract.Monad.{fact, fact_i}
-use contract.Running.{tables}
-use denote.Array.{Array}
-use denote.Builtin.{u8, usize}
-use denote.Exit.{yes}
-use denote.Index.{opens_slice}
-use denote.Laws.{Is, shows}
-use denote.Memory.{lone, mem, part_at}
+use Rattle.std.proofs.Common.{ℕ, List, [], length}
+use Rattle.piper_c.proofs.Kit.{◌≡◌, ◌<◌, ◌∷◌, ◌++◌, refl, sym, ap, w64, false, T, subst, Option, Some, named, bare, Val, vint, vptr, vstruct, vcons, vnil, of_list, has_ty, WT, full_share, SProp, emp, fst∗, never, id⊢, Lft, ftrue, fsep, feq, flft, fauth, spot_of, sem, ‵, ◌⊛◌, some, later, await, pick, at_ret, ◌$◌, ◌∵◌, !, qed, by, move, keep, drop, split, join, fsplit, fjoin, fjoin3, fpack, feq_i, use0, use1, use2, stop, fld, hop, from, of_opd, no_more, and_then, addr, first, blocks, exec, returns, enter, alloc_all, pass_all, free_all, look_at, look_in_at, get, get_in, through, sets, is, lands_last, env, agg, sub, whole, lft_new, name_new, bor_new, fact, fact_i, tables, Array, u8, usize, yes, opens_slice, Is, shows, lone, mem, part_at, RattleType, Valss, owns, Ptr, InBlock, block_ptr, null_ptr, ptr_val, in_a_block, bytes_whole, MutBor, types_at, plain, MutSlice, slice_val, nothing, heard, peeks, owned, only, calls_at_last, Lasts, lasts, triple_of, Stays, stay_dropped, walk_of, Goes-dropped, from_on, box_owns, word-Good, fm, proved, leaves, heap_token}
+use types.Kit.{raw}
 use denote.Plain.{uint_vals, uint_Tells, uint_Makes}
-use denote.RattleType.{RattleType, Valss, owns}
-use denote.RawPtr.{Ptr, InBlock, block_ptr, null_ptr, ptr_val, in_a_block}
-use denote.RawPtr.Bytes.{bytes_whole}
-use denote.Ref.{MutBor}
-use denote.Signature.{types_at, plain}
-use denote.Slice.{MutSlice, slice_val}
-use denote.Steps.{nothing, heard, peeks, owned, only}
-use denote.Triple.Call.{calls_at_last}
-use denote.Triple.Clauses.{Lasts, lasts}
-use denote.Triple.Spec.{triple_of}
-use denote.Triple.Walked.{Stays, stay_dropped, walk_of, Goes-dropped}
-use Rattle.core.proofs.slots.Bodies.{after as from_on}
-use Rattle.std_alloc.specs.Box.Ownership.{box_owns}
-use Rattle.std_alloc.proofs.RcSteps.{word-Good}
-use Rattle.rtrb.proofs.Calls.{fm}
-use Rattle.rtrb.proofs.Walks.{proved, leaves}
-use Rattle.piper_ring.specs.Block.{heap_token}
 use Rattle.piper_ring.specs.Places.{fact as fact'}
 use Rattle.piper_ring.specs.WriteView.{Lendable}
 use Rattle.piper_c.specs.contracts.halves.WriteHalf as Half

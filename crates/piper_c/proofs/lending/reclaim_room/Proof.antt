@@ -1,28 +1,7 @@
 -- `reclaim_room` joins the room to all else of the writer. Assumes `Logic`.
-use Rattle.std.proofs.Common.{◌≡◌, [], ◌∷◌, length, refl, ap}
-use Rattle.std.specs.Prelude.{Some, None}
-use mir.Val.{Val}
-use mir.Raw.{raw as bare}
-use base.Logic.{SProp, emp, fst∗, never}
-use base.Fml.{ftrue}
-use types.Logic.{sem}
-use types.Kit.{‵, raw, ◌⊛◌, later, await, ◌$◌, ◌∵◌, !, qed, by, move, keep, drop, split, fsplit, fjoin, fpack, use0, use2}
-use types.Run.{stop, fld, of_opd, no_more, and_then, returns, enter}
-use types.ByLocal.{alloc_all, pass_all, free_all, look_at, get, get_in, sets, is}
-use types.Part.{agg, sub, whole}
-use contract.Monad.{fact, fact_i}
-use contract.Running.{tables}
-use denote.Exit.{yes}
-use denote.Memory.{lone}
-use denote.RattleType.{RattleType, owns}
-use denote.Signature.{types_at, plain}
-use denote.RawPtr.{Ptr, block_ptr, null_ptr, ptr_val, in_a_block}
-use denote.Steps.{nothing, heard}
-use denote.Triple.Walked.{Stays, stay_dropped, walk_of, Goes-dropped}
-use Rattle.std_alloc.specs.Box.Ownership.{box_owns}
-use Rattle.std_alloc.proofs.RcSteps.{word-Good}
-use Rattle.rtrb.proofs.Walks.{proved, leaves}
-use Rattle.piper_ring.specs.Block.{heap_token}
+use Rattle.std.proofs.Common.{[], length}
+use Rattle.piper_c.proofs.Kit.{◌≡◌, ◌∷◌, refl, ap, Some, None, Val, bare, SProp, emp, fst∗, never, ftrue, sem, ‵, ◌⊛◌, later, await, ◌$◌, ◌∵◌, !, qed, by, move, keep, drop, split, fsplit, fjoin, fpack, use0, use2, stop, fld, of_opd, no_more, and_then, returns, enter, alloc_all, pass_all, free_all, look_at, get, get_in, sets, is, agg, sub, whole, fact, fact_i, tables, yes, lone, RattleType, owns, types_at, plain, Ptr, block_ptr, null_ptr, ptr_val, in_a_block, nothing, heard, Stays, stay_dropped, walk_of, Goes-dropped, box_owns, word-Good, proved, leaves, heap_token}
+use types.Kit.{raw}
 use Rattle.piper_c.specs.contracts.halves.WriteHalf as Half
 use Rattle.piper_c.specs.contracts.handles.PiperWriter as Handle
 use Rattle.piper_c.specs.contracts.handles.PiperRoom as Room

@@ -1,14 +1,7 @@
 -- A handle may go to another thread: what it owns may.
-use Rattle.std.specs.Prelude.{Option, None, Some}
+use Rattle.piper_c.proofs.Kit.{Option, None, Some, Keyless, lone, Ptr, exits_of, shape, fields, to, IsSend, AllSend, owning_send, struct_send, sendable, quiet, lies}
 use mir.Raw.{raw}
-use base.Shift.{Keyless}
-use denote.Memory.{lone}
-use denote.RawPtr.{Ptr}
-use denote.Struct.Struct.{exits_of}
-use denote.Struct.Owning.{shape, fields, to}
-use denote.Param.Send.{IsSend, AllSend, owning_send, struct_send, sendable}
 use Rattle.std.proofs.Crossing as heap
-use Rattle.std_alloc.proofs.SendSync.{quiet, lies}
 use Rattle.piper_c.specs.Held.{held}
 use Rattle.piper_c.specs.contracts.halves.ReadHalf as Half
 use Rattle.piper_c.proofs.halves.ReadHalf.TheSendSync as half

@@ -1,20 +1,7 @@
 -- `none` owns nothing. Assumes `Logic`.
-use Rattle.std.proofs.Common.{◌≡◌, [], ◌∷◌, refl}
-use Rattle.std.specs.Prelude.{None}
-use mir.Val.{Val}
-use base.Logic.{SProp, emp}
-use base.Fml.{ftrue}
-use types.Kit.{‵, raw, ◌⊛◌, ◌$◌, ◌∵◌, !, qed, by, keep, split, fjoin, use0}
-use types.Run.{lit, no_more, and_then, returns, enter}
-use types.ByLocal.{alloc_all, pass_all, free_all, look_at, sets}
-use types.Part.{agg}
-use contract.Monad.{fact, fact_i}
-use contract.Running.{tables}
-use denote.RawPtr.{null_ptr}
-use denote.Steps.{nothing}
-use denote.Triple.Walked.{Stays, walk_of}
-use Rattle.std_alloc.proofs.RcSteps.{word-Good}
-use Rattle.rtrb.proofs.Walks.{proved, leaves}
+use Rattle.std.proofs.Common.{[]}
+use Rattle.piper_c.proofs.Kit.{◌≡◌, ◌∷◌, refl, None, Val, SProp, emp, ftrue, ‵, ◌⊛◌, ◌$◌, ◌∵◌, !, qed, by, keep, split, fjoin, use0, lit, no_more, and_then, returns, enter, alloc_all, pass_all, free_all, look_at, sets, agg, fact, fact_i, tables, null_ptr, nothing, Stays, walk_of, word-Good, proved, leaves}
+use types.Kit.{raw}
 use Rattle.piper_c.specs.contracts.handles.PiperReader as Handle
 use Rattle.piper_c.proofs.ReaderValues.{handle_val, Data, made}
 use Rattle.piper_c.specs.contracts.handles.PiperReader.none.{ended, clauses}

@@ -1,13 +1,6 @@
 -- Lent room may go to another thread: it owns bytes.
-use Rattle.std.specs.Prelude.{List, Option, None, Some, ℕ, length}
-use base.Shift.{Keyless}
-use denote.Array.{Array}
-use denote.Builtin.{u8}
-use denote.RawPtr.{Ptr}
-use denote.Struct.Struct.{exits_of}
-use denote.Struct.Owning.{shape, fields, to}
-use denote.Param.Send.{IsSend, AllSend, owning_send, struct_send, array_send, sendable}
-use Rattle.std_alloc.proofs.SendSync.{quiet, lies}
+use Rattle.std.specs.Prelude.{List, ℕ, length}
+use Rattle.piper_c.proofs.Kit.{Option, None, Some, Keyless, Array, u8, Ptr, exits_of, shape, fields, to, IsSend, AllSend, owning_send, struct_send, array_send, sendable, quiet, lies}
 use Rattle.piper_c.specs.Held.{room_owns}
 use Rattle.piper_c.specs.contracts.handles.PiperRoom.{the_row, the_type}
 

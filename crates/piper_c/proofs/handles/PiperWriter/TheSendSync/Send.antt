@@ -1,19 +1,8 @@
 -- A handle may go to another thread: what it owns may, also while it lends room.
-use Rattle.std.specs.Prelude.{Option, None, Some, []}
+use Rattle.std.specs.Prelude.{[]}
 use mir.Raw.{raw}
-use mir.Syntax.{named}
-use base.Shift.{Keyless}
-use denote.Builtin.{u8}
-use denote.Memory.{lone}
-use denote.RawPtr.{Ptr, block_of, count_of}
-use denote.Ref.{MutRef}
-use denote.Slice.{MutSlice}
-use denote.Struct.Struct.{exits_of}
-use denote.Struct.Owning.{shape, fields, to}
-use denote.Param.Send.{IsSend, AllSend, owning_send, struct_send, sendable}
+use Rattle.piper_c.proofs.Kit.{Option, None, Some, named, Keyless, u8, lone, Ptr, block_of, count_of, MutRef, MutSlice, exits_of, shape, fields, to, IsSend, AllSend, owning_send, struct_send, sendable, quiet, lies, heap_token}
 use Rattle.std.proofs.Crossing as heap
-use Rattle.std_alloc.proofs.SendSync.{quiet, lies}
-use Rattle.piper_ring.specs.Block.{heap_token}
 use Rattle.piper_c.specs.Held.{held_writer, all_but_room}
 use Rattle.piper_c.specs.declared.halves.WriteHalf.{WriteHalf}
 use Rattle.piper_c.specs.contracts.halves.WriteHalf as Half

@@ -1,46 +1,13 @@
 -- `hold` keeps what the box owned: it takes the box apart. Assumes `Logic`.
-use Rattle.std.proofs.Common.{◌≡◌, List, [], ◌∷◌, ◌++◌, refl, sym, ap, ◌∙◌, subst}
-use Rattle.std.specs.Prelude.{Some, None}
-use mir.Raw.{raw as bare}
-use mir.Val.{Val, vstruct, of_list}
-use base.Fraction.{full_share}
-use base.Logic.{SProp, ent, emp, id⊢, fst∗, never}
-use base.Fml.{Lft, ftrue, fsep, flft}
-use prog.Wp.{WpFn}
-use types.Logic.{sem}
-use types.Kit.{‵, raw, ◌⊛◌, some, later, await, pick, ◌$◌, ◌∵◌, !, qed, by, move, keep, drop, split, join, fsplit, fjoin, fpick, feq_l, suffices, use0, use1}
-use types.Run.{stop, fld, of_opd, no_more, and_then, returns, enter}
-use types.ByLocal.{alloc_all, pass_all, free_all, look_at, get, get_in, sets, lands_as}
-use types.Part.{agg, sub, whole}
-use types.Tokens.{lft_new}
-use contract.BorrowLft.{◌⊑◌}
-use contract.Monad.{fact, fact_i}
-use contract.Running.{tables}
-use denote.Builtin.{RawPtr}
-use denote.Exit.{yes}
-use denote.Memory.{lone}
-use denote.RattleType.{RattleType, owns}
-use denote.Signature.{types_at, plain}
-use denote.RawPtr.{Ptr, block_ptr, null_ptr, ptr_val, in_a_block}
-use denote.Steps.{nothing, only}
-use denote.Struct.Tuple.{Tuple}
-use denote.Triple.Call.{calls_at}
-use denote.Triple.Spec.{triple_of}
-use denote.Triple.Walked.{Stays, stay_dropped, walk_of, Goes-dropped}
-use Rattle.core.proofs.alloc.Calls.{handle_tells}
-use Rattle.std_alloc.specs.Box.Ownership.{box_owns}
+use Rattle.std.proofs.Common.{List, []}
+use Rattle.piper_c.proofs.Kit.{◌≡◌, ◌∷◌, ◌++◌, refl, sym, ap, ◌∙◌, subst, Some, None, bare, Val, vstruct, of_list, full_share, SProp, ent, emp, id⊢, fst∗, never, Lft, ftrue, fsep, flft, WpFn, sem, ‵, ◌⊛◌, some, later, await, pick, ◌$◌, ◌∵◌, !, qed, by, move, keep, drop, split, join, fsplit, fjoin, fpick, feq_l, suffices, use0, use1, stop, fld, of_opd, no_more, and_then, returns, enter, alloc_all, pass_all, free_all, look_at, get, get_in, sets, lands_as, agg, sub, whole, lft_new, ◌⊑◌, fact, fact_i, tables, RawPtr, yes, lone, RattleType, owns, types_at, plain, Ptr, block_ptr, null_ptr, ptr_val, in_a_block, nothing, only, Tuple, calls_at, triple_of, Stays, stay_dropped, walk_of, Goes-dropped, handle_tells, box_owns, box_out, box_in, fm, proved_at, leaves, ghosts, dict, passed, heap_token}
+use types.Kit.{raw}
 use Rattle.std_alloc.proofs.BoxSteps.Form as Form
-use Rattle.std_alloc.proofs.BoxSteps.Steps.{box_out, box_in}
 use Rattle.std_alloc.specs.contracts.boxed.Box as Box
 use Rattle.std_alloc.specs.contracts.boxed.Box.into_raw_with_allocator as callee
 use Rattle.std_alloc.proofs.boxed.Box.into_raw_with_allocator.Met.{met}
-use Rattle.rtrb.proofs.Calls.{fm}
-use Rattle.rtrb.proofs.Walks.{proved_at, leaves}
 use Rattle.std_heap.specs.contracts.Global as Heap
-use Rattle.std_heap.specs.contracts.GlobalAllocator.TheImpl.{ghosts, dict}
 use Rattle.std_heap.proofs.Global.TheLaws as Owns
-use Rattle.std_heap.proofs.GlobalAllocator.TheImpl.Met.{passed}
-use Rattle.piper_ring.specs.Block.{heap_token}
 use Rattle.piper_c.specs.contracts.halves.WriteHalf as Half
 use Rattle.piper_c.proofs.halves.WriteHalf.TheLaws.{the_within}
 use Rattle.piper_c.specs.contracts.handles.PiperWriter as Handle

@@ -1,46 +1,12 @@
 -- `into_box` makes a box again of what the handle owns. Assumes `Logic`.
-use Rattle.std.proofs.Common.{◌≡◌, T, List, [], ◌∷◌, refl, sym, ap, ◌∙◌, subst}
-use Rattle.std.specs.Prelude.{Some}
-use mir.Raw.{raw as bare}
-use mir.Val.{Val, vptr, has_ty, WT}
-use base.Fraction.{full_share}
-use base.Logic.{SProp, emp, id⊢, fst∗, never}
-use base.Fml.{Lft, ftrue, flft}
-use prog.Wp.{spot_of}
-use types.Logic.{sem}
-use types.Kit.{‵, raw, ◌⊛◌, some, later, await, pick, at_ret, ◌$◌, ◌∵◌, !, qed, by, move, keep, drop, split, join, fsplit, fjoin, fjoin3, feq_i, use0, use1}
-use types.Run.{stop, fld, of_opd, no_more, and_then, first, blocks, exec, returns, enter}
-use types.ByLocal.{alloc_all, pass_all, free_all, look_at, get, get_in, sets, is, lands_last, env}
-use types.Part.{sub, whole}
-use types.Tokens.{lft_new}
-use contract.BorrowLft.{◌⊑◌}
-use contract.Monad.{fact, fact_i}
-use contract.Running.{tables}
-use denote.Exit.{yes}
-use denote.Memory.{lone}
-use denote.RattleType.{RattleType, owns}
-use denote.RawPtr.{Ptr, block_ptr, null_ptr, ptr_val, in_a_block}
-use denote.Signature.{types_at, plain}
-use denote.Steps.{nothing, heard, only}
-use denote.Triple.Call.{calls_at_last}
-use denote.Triple.Clauses.{Lasts, lasts}
-use denote.Triple.Spec.{triple_of}
-use denote.Triple.Walked.{Stays, stay_dropped, walk_of, Goes-dropped}
-use Rattle.core.proofs.slots.Bodies.{after as from_on}
-use Rattle.std_alloc.specs.Box.Ownership.{box_owns}
+use Rattle.std.proofs.Common.{List, []}
+use Rattle.piper_c.proofs.Kit.{◌≡◌, T, ◌∷◌, refl, sym, ap, ◌∙◌, subst, Some, bare, Val, vptr, has_ty, WT, full_share, SProp, emp, id⊢, fst∗, never, Lft, ftrue, flft, spot_of, sem, ‵, ◌⊛◌, some, later, await, pick, at_ret, ◌$◌, ◌∵◌, !, qed, by, move, keep, drop, split, join, fsplit, fjoin, fjoin3, feq_i, use0, use1, stop, fld, of_opd, no_more, and_then, first, blocks, exec, returns, enter, alloc_all, pass_all, free_all, look_at, get, get_in, sets, is, lands_last, env, sub, whole, lft_new, ◌⊑◌, fact, fact_i, tables, yes, lone, RattleType, owns, Ptr, block_ptr, null_ptr, ptr_val, in_a_block, types_at, plain, nothing, heard, only, calls_at_last, Lasts, lasts, triple_of, Stays, stay_dropped, walk_of, Goes-dropped, from_on, box_owns, box_out, box_in, word-Good, fm, proved, leaves, ghosts, dict, passed, heap_val, heap_Tells, heap_token}
+use types.Kit.{raw}
 use Rattle.std_alloc.proofs.BoxSteps.Form as Form
-use Rattle.std_alloc.proofs.BoxSteps.Steps.{box_out, box_in}
-use Rattle.std_alloc.proofs.RcSteps.{word-Good}
 use Rattle.std_alloc.specs.contracts.boxed.Box.from_raw as callee
 use Rattle.std_alloc.proofs.boxed.Box.from_raw.Met.{met}
-use Rattle.rtrb.proofs.Calls.{fm}
-use Rattle.rtrb.proofs.Walks.{proved, leaves}
 use Rattle.std_heap.specs.contracts.Global as Heap
-use Rattle.std_heap.specs.contracts.GlobalAllocator.TheImpl.{ghosts, dict}
 use Rattle.std_heap.proofs.Global.TheLaws as Owns
-use Rattle.std_heap.proofs.GlobalAllocator.TheImpl.Met.{passed}
-use Rattle.std_heap.proofs.Handle.{heap_val, heap_Tells}
-use Rattle.piper_ring.specs.Block.{heap_token}
 use Rattle.piper_c.specs.contracts.halves.WriteHalf as Half
 use Rattle.piper_c.proofs.halves.WriteHalf.TheLaws.{the_within}
 use Rattle.piper_c.specs.contracts.handles.PiperWriter as Handle
