@@ -209,7 +209,7 @@ cp -r "$here/../crates/piper_compare/data" stored
 sed -i '3s/"ok/"no/' stored/lines.jsonl
 try 'a stored answer that is another' 10 1 '' 'cd stored && ../piper_compare vectors'
 note 'it is named by its line and file' grep -q '^  in line 3 of lines.jsonl' out
-try 'a thousand drawn scripts, on handles and machine' 120 0 '' \
-    './piper_compare twin 1 1000 | grep -q "^1000 scripts, .*: no difference\$"'
+try 'a hundred thousand drawn scripts, on handles and machine' 120 0 '' \
+    './piper_compare twin 1 100000 | grep -q "^100000 scripts, .*: no difference\$"'
 
 count
