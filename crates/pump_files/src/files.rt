@@ -137,8 +137,8 @@ pub trait Opens<F: NamedFile> {
         ensures opened { OnOk result (F.is_made file.new × F.is_cut file.new) }
         ensures failed { IfErr result HasFailed };
 
-    /// Takes it away, which this run made.
-    fn remove(&self, name: &str, own: StillNamed) -> io::Result<()>
+    /// Takes the file of this name away, which this run made.
+    fn remove(&self, own: StillNamed<'_>) -> io::Result<()>
         ensures reported { IsOfStd result };
 }
 
@@ -232,7 +232,7 @@ impl<R: Files<File = File>> Opens<SystemFile> for R {
         Ok(())
     }
 
-    fn remove(&self, name: &str, _own: StillNamed) -> io::Result<()> {
-        reported(fs::remove_file(self, name))
+    fn remove(&self, own: StillNamed<'_>) -> io::Result<()> {
+        reported(fs::remove_file(self, own.name()))
     }
 }

@@ -1,6 +1,7 @@
 //! What lets a file be taken away.
 ghost use Rattle.std.specs.Prelude.{◌≡◌};
 ghost use Rattle.pump_files.specs.Found.{IsFound};
+ghost use Rattle.pump_files.specs.Handle.{IsAnswerFor};
 ghost use Rattle.pump_files.specs.Made.{WasMade, was_made_prop};
 
 use crate::files::NamedFile;
@@ -21,16 +22,34 @@ pub fn of_file<F: NamedFile>(_file: &F) -> Made
     made
 }
 
-/// That the name of a file which this run made is still that file's.
+/// That a name is still that of a file which this run made.
 #[derive(Clone, Copy)]
-pub struct StillNamed {
+pub struct StillNamed<'name> {
     made: Made,
+    name: &'name str,
 }
 
-/// Of a file and a name of which the same was found.
-pub fn still_named<F: NamedFile>(made: Made, _file: &F, _own: &Found, _named: &Found) -> StillNamed
+impl<'name> StillNamed<'name> {
+    /// The name.
+    pub fn name(&self) -> &'name str
+        ensures { result.now ≡ self.now.name.now }
+    {
+        self.name
+    }
+}
+
+/// Of a file and a name of which the system told the same.
+pub fn still_named<'name, F: NamedFile>(
+    made: Made,
+    _file: &F,
+    _own: &Found,
+    name: &'name str,
+    _named: &Found,
+) -> StillNamed<'name>
     requires own { IsFound (F.answers _file.now) _own.now }
+    requires named { IsFound (IsAnswerFor name.now) _named.now }
     requires same { _own.now.id ≡ _named.now.id }
+    ensures { result.name.now ≡ name.now }
 {
-    StillNamed { made }
+    StillNamed { made, name }
 }

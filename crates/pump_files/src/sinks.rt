@@ -159,13 +159,14 @@ impl<F: NamedFile> Sink<F> {
         let Some(made) = self.made else {
             return;
         };
-        let named = Found::of_name(&rt.look(self.name.as_str()));
+        let name = self.name.as_str();
+        let named = Found::of_name(&rt.look(name));
         if let Ok(own) = Found::of_output(&self.file)
             && own.id == named.id
         {
-            let still = made::still_named(made, &self.file, &own, &named);
+            let still = made::still_named(made, &self.file, &own, name, &named);
             // It is empty, and there is nothing to be said of one that stays.
-            let _ = rt.remove(self.name.as_str(), still);
+            let _ = rt.remove(still);
         }
     }
 
