@@ -1,5 +1,5 @@
 #!/usr/bin/env python3
-"""Draws the rows that tests/growth.py measured: docs/speed/rows.tsv into docs/speed/growth.svg."""
+"""Draws the rows that bench/growth.py measured: docs/speed/rows.tsv into docs/speed/growth.svg."""
 import csv, math, os
 
 SPEED = os.path.join(os.path.dirname(os.path.abspath(__file__)), "..", "docs", "speed")

@@ -1,7 +1,7 @@
 #!/usr/bin/env bash
 # Counts the instructions that the built benchmark makes for a piece of 64 bytes, by valgrind (a Debian package).
 #
-#     tests/count_instructions.sh [PROGRAM]
+#     bench/count_instructions.sh [PROGRAM]
 #
 # If PROGRAM is left out, `rt run` first builds crates/piper_bench/out/piper_bench, which takes minutes where something below
 # it changed. The file instructions.txt has a line for each means: its word, and the count that was stored. It prints a line

@@ -1,7 +1,7 @@
 #!/usr/bin/env bash
 # Times means of the built benchmark in turn, so that what else the machine does meets all of them alike.
 #
-#     tests/in_turn.sh ROUNDS TOTAL CAP CHUNK [PROGRAM:]WHAT..
+#     bench/in_turn.sh ROUNDS TOTAL CAP CHUNK [PROGRAM:]WHAT..
 #
 # PROGRAM is crates/piper_bench/out/piper_bench if it is left out, and WHAT one of its words: so two builds can be compared,
 # too. TASKSET may hold a list of cores, as 2,3. With PLACES=1 each round has the blocks of the heap at other places, the same

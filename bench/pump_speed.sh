@@ -1,7 +1,7 @@
 #!/usr/bin/env bash
 # Times the built pump beside mbuffer and pv (Debian packages), in turn: a file of random bytes to another program.
 #
-#     tests/pump_speed.sh [PROGRAM [ROUNDS]]
+#     bench/pump_speed.sh [PROGRAM [ROUNDS]]
 #
 # PROGRAM is crates/piper_pump/out/piper_pump if it is left out, and ROUNDS is 11. BYTES is how many bytes go through, 1 GiB if
 # it is not set. It prints the median of each in milliseconds, and beside it the ratio to the faster of the two others; and

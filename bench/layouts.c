@@ -1,7 +1,7 @@
 // Times what the blocks of a pipe cost: makes 100,000 of them, moves 64 bytes through each, and drops all,
 // with no more code than that, for each way to lay a pipe out. It prints the median of 31 rounds in turn.
 //
-//     cc -O2 -o layouts tests/layouts.c && ./layouts
+//     cc -O2 -o layouts bench/layouts.c && ./layouts
 #include <stdatomic.h>
 #include <stdint.h>
 #include <stdio.h>

@@ -1,12 +1,12 @@
 #!/usr/bin/env python3
 """Times the built benchmark over sizes of a piece and numbers of pipes, and prints a row for each.
 
-    tests/growth.py [PROGRAM] > docs/speed/rows.tsv
+    bench/growth.py [PROGRAM] > docs/speed/rows.tsv
 
 PROGRAM is crates/piper_bench/out/piper_bench if it is left out. The system's pipe is timed by
 system_pipe.c, beside it. All means of a row's x run in turn, so that what else the machine does
 meets all of them alike. It takes about a minute. A row: curve, means, x, the median of nanoseconds
-a byte, and its quartiles. tools/draw_growth.py draws them.
+a byte, and its quartiles. bench/draw_growth.py draws them.
 """
 import os, re, statistics, subprocess, sys, tempfile
 
