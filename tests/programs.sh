@@ -204,6 +204,12 @@ try 'a bench without a thread' 20 2 'no thread is granted' '$alone prlimit --npr
 try 'a word that is no text, to a comparison' 10 2 '^usage' './piper_compare $'"'\\xff'"
 try 'a word that is no text, to a replay' 10 1 '^usage' './piper_replay $'"'\\xff'"
 
+# The scripts that are there to be read, each with what is written beside it.
+for script in "$here"/../examples/*.script; do
+    export script
+    try_silent "the replay of $(basename "$script")" 10 0 './piper_replay < "$script" > replayed && cmp replayed "${script%script}output"'
+done
+
 # An answer that is not the one that is stored, and has its length.
 cp -r "$here/../crates/piper_compare/data" stored
 sed -i '3s/"ok/"no/' stored/lines.jsonl
