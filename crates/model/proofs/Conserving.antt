@@ -19,12 +19,15 @@ use Rattle.piper_protocol.specs.declared.table.Action.{Action}
 use Rattle.piper_protocol.specs.declared.table.Action.TheVariants as does
 use Rattle.piper_protocol.specs.declared.table.ReadPoint.{ReadPoint}
 use Rattle.piper_protocol.specs.declared.table.ReadPoint.TheVariants as at
+use Rattle.piper_protocol.specs.declared.table.WritePoint.{WritePoint}
+use Rattle.piper_protocol.specs.declared.table.WritePoint.TheVariants as on
+use Rattle.piper_protocol.specs.declared.table.AfterWrite.TheVariants as after_write
 use Rattle.piper_protocol.specs.Index.{place_of}
 use Rattle.model_sides.specs.Call.{side_of, kind_of, waker_of}
 use Rattle.model.specs.Pipe.{Pipe}
 use Rattle.model.specs.Places.{peeked_count}
 use Rattle.model.specs.Sound.{IsSound}
-use Rattle.piper_protocol.specs.Table.{head_store, read_action, write_action}
+use Rattle.piper_protocol.specs.Table.{head_store, read_action, tail_store, write_action}
 use Rattle.model.specs.Action.{performed, logged_of, registration_of, registration, wake_of, yield_of, woken_if}
 use Rattle.model.specs.Step.{went, opened, stepped, offering, answer_at_once}
 use Rattle.model_sides.specs.Log.{answer_event}
@@ -143,9 +146,17 @@ module _ (old q new : Pipe) (events : List Event) (side : Side) (answer : Option
     start = rw (consumed_same, start) m.start;
   }
 
-read_store : (point : ReadPoint) (n : ℕ) → read_action point ≡ does.StoreHead n → head_store point ≡ n
+pub read_store : (point : ReadPoint) (n : ℕ) → read_action point ≡ does.StoreHead n → head_store point ≡ n
 read_store (at.StoreHead m next) n e = cc
 read_store point n e = absurd (cc)
+
+pub write_store : (point : WritePoint) (n : ℕ) → write_action point ≡ does.StoreTail n → tail_store point ≡ n
+write_store (on.StoreTail m next) n e = cc
+write_store (on.StoreClosed after_write.Answer) n e = absurd (cc)
+write_store (on.StoreClosed after_write.Drop) n e = absurd (cc)
+write_store (on.StoreClosed after_write.WakeWriter) n e = absurd (cc)
+write_store (on.StoreClosed (after_write.Round form sum)) n e = absurd (cc)
+write_store point n e = absurd (cc)
 
 pub step-moves : (lent : List ℕ) (s : Step) (p : Pipe) → IsSound p → let new = stepped lent s p in Moves p new.pipe new.events
 step-moves lent (Begin c) p sound =

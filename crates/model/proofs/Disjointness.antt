@@ -1,9 +1,12 @@
 -- The places of the two sides are apart in every sound pipe, and no step of the writer changes a
 -- byte that the reader knows.
-use Rattle.std.proofs.Common.{◌≡◌, ◌≢◌, ℕ, ◌+◌, ◌-◌, ◌<◌, ◌≤◌, List, length, take, true, false, refl, sym, ap, ◌∙◌, arith}
+use Rattle.std.proofs.Common.{◌≡◌, ◌≢◌, ℕ, ◌+◌, ◌-◌, ◌<◌, ◌≤◌, List, length, take, true, false, Result, Ok, Err, refl, sym, ap, subst, ◌∙◌, arith}
+use Rattle.std.specs.Prelude.{OnOk, OnErr}
 use Rattle.std.proofs.lemmas.List.{take-append-le}
 use Rattle.std.proofs.lemmas.Bool.Decides.{nat_tests}
 use Rattle.piper_protocol.specs.declared.table.Side.TheVariants.{Reader, Writer}
+use Rattle.model_sides.specs.declared.events.Event.{Event}
+use Rattle.model_sides.specs.declared.refusals.StepRefusal.{StepRefusal}
 use Rattle.model_sides.specs.declared.calls.Step.{Step}
 use Rattle.model_sides.specs.declared.calls.Step.TheVariants.{Begin, Go, Put}
 use Rattle.piper_protocol.specs.declared.table.Action.{Action}
@@ -13,6 +16,7 @@ use Rattle.model.specs.Pipe.{Pipe}
 use Rattle.model.specs.Sound.{IsSound}
 use Rattle.piper_protocol.specs.Table.{write_action}
 use Rattle.model.specs.Action.{performed}
+use Rattle.model.specs.Run.{Made}
 use Rattle.model.specs.Step.{stepped, offering}
 use Rattle.model.proofs.Opened.{opened-leaves}
 use Rattle.model.proofs.Counting.{writer_never-head}
@@ -58,3 +62,8 @@ step-keeps lent (Go Writer) p sound writer =
     record { capacity = kept.capacity; start = kept.start; known = kept.known; bytes = kept.bytes }
 step-keeps lent (Go Reader) p sound writer = absurd (cc)
 step-keeps lent (Put offset byte) p sound writer = keeps_all p _ refl refl refl refl
+
+-- a step that is refused leaves the pipe as it is
+pub tried-keeps : (r : Result Unit StepRefusal) (s : Step) (p q : Pipe) (before after : List Event) → IsSound p → OnOk r (Made p s q before after) → OnErr r (q ≡ p) → IsWriterStep s → KeepsKnown p q
+tried-keeps (Ok done) s p q before after sound made same writer = subst (KeepsKnown p) (sym made.made.pipe) (step-keeps q.lent s p sound writer)
+tried-keeps (Err refusal) s p q before after sound made same writer = rw same (keeps_all p p refl refl refl refl)

@@ -5,14 +5,15 @@ use Rattle.piper_protocol.specs.declared.answer.Answer.{Answer}
 use Rattle.model_sides.specs.declared.scripted.SourceAct.{SourceAct}
 use Rattle.model.specs.declared.destination.Destination.{Destination}
 use Rattle.model.specs.declared.destination.Destination.TheVariants.{Slice}
+use Rattle.piper_protocol.specs.declared.table.Action.TheVariants as does
 use Rattle.piper_protocol.specs.declared.table.ReadPoint.{ReadPoint}
 use Rattle.piper_protocol.specs.declared.table.ReadPoint.TheVariants as at
 use Rattle.piper_protocol.specs.declared.table.WritePoint.{WritePoint}
 use Rattle.piper_protocol.specs.declared.table.WritePoint.TheVariants as on
 use Rattle.model_sides.specs.Open.{no_call}
 use Rattle.piper_protocol.specs.Index.{distance, place_of, advanced}
-use Rattle.piper_protocol.specs.Table.{Next, tail_store, write_after}
-use Rattle.model_sides.specs.Side.{Reading, Writing, IsReading, IsWriting, known_of, room_of}
+use Rattle.piper_protocol.specs.Table.{Next, read_action, tail_store, write_action, write_after}
+use Rattle.model_sides.specs.Side.{Reading, Writing, IsReading, IsWriting, known_of, peekable_of, room_of}
 use Rattle.model_sides.specs.SideSteps.{writing_answer}
 use Rattle.piper_protocol.specs.declared.table.Found.{Found}
 use Rattle.model.specs.Pipe.{Pipe}
@@ -21,6 +22,18 @@ use Rattle.model.specs.Machine.{pipe_of, IsMachine}
 use Rattle.model.specs.declared.machine.Machine.TheInside.{Inside}
 use Rattle.model.proofs.Indices.{distance-advanced_to, distance-advanced_from, place_below}
 use Rattle.model.proofs.Soundness.{tail_below}
+use Rattle.model.proofs.Conserving.{read_store, write_store}
+
+-- a store that is next stays within what its side holds
+pub head-within : (m : Inside) (i : IsMachine m) (p : Pipe) (n : ℕ) → pipe_of m ≡ p → read_action p.reader ≡ does.StoreHead n → n ≤ peekable_of m.read
+head-within m i p n is next =
+    let stores = read_store m.read.point n (ap (λ (q : Pipe). read_action q.reader) is ∙ next) in
+    omega (arith, stores, i.reading.store)
+
+pub tail-within : (m : Inside) (i : IsMachine m) (p : Pipe) (n : ℕ) → pipe_of m ≡ p → write_action p.writer ≡ does.StoreTail n → n ≤ m.write.lent
+tail-within m i p n is next =
+    let stores = write_store m.write.point n (ap (λ (q : Pipe). write_action q.writer) is ∙ next) in
+    omega (arith, stores, i.writing.store)
 
 -- the reader has passed n bytes
 pub reader-passed : (m : Inside) (i : IsMachine m) (n : ℕ) (r : Reading) (point : ReadPoint) (call : OpenCall) (destination : Destination) → r ≡ record m.read { head = advanced m.read.capacity m.read.head n; point = point }

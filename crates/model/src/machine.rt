@@ -19,7 +19,7 @@ use model_sides::woken::Woken;
 use model_sides::write_state::WriteState;
 use piper_protocol::indices;
 use piper_protocol::memory::OutOfMemory;
-use piper_protocol::table::{MOST_A_ROUND, ReadPoint, WritePoint};
+use piper_protocol::table::MOST_A_ROUND;
 use std::alloc::Global;
 use std::marker::Model;
 
@@ -113,19 +113,11 @@ impl Machine {
         self.read.capacity()
     }
 
-    // It does nothing: its clause is what holds of every machine, for the proof of its caller.
-    fn learn(&self)
-        ensures { IsSound self.now }
-    {
-        let _ = &self.is_closed;
-    }
-
     // How many bytes are unread.
     fn unread_count(&self) -> usize
         ensures value { result ≡ length self.now.unread }
         ensures sound { IsSound self.now }
     {
-        self.learn();
         indices::distance(self.read.capacity(), self.read.head(), self.write.tail())
     }
 
@@ -137,7 +129,6 @@ impl Machine {
         ensures sound { IsSound self.now }
         ensures disjoint { IsDisjoint self.now }
     {
-        self.learn();
         let place = self.read.front();
         &self.bytes[place..place + self.read.peekable()]
     }
@@ -206,7 +197,6 @@ impl Machine {
         ensures sound { IsSound self.now }
         ensures disjoint { IsDisjoint self.now }
     {
-        self.learn();
         let place = self.write.front();
         &self.bytes[place..place + self.write.lent()]
     }

@@ -1,7 +1,7 @@
-//! Callers of the machine and of open calls, proved from their contracts alone.
+//! Callers of the machine, proved from its contracts alone.
 #![tactic(auto)]
 
-ghost use Rattle.std.specs.Prelude.{◌≡◌, ◌≤◌, ◌+◌, ◌*◌, ◌⊎◌, ℕ, List, ◌++◌, ◌∷◌, [], length, replicate, true, IfOk, IfErr, Err};
+ghost use Rattle.std.specs.Prelude.{◌≡◌, ◌≤◌, ◌+◌, ◌*◌, ◌⊎◌, ℕ, List, ◌∷◌, [], length, replicate, true, IfOk, IfErr, Err};
 ghost use Rattle.piper_protocol.specs.Index.{IsCapacity};
 ghost use Rattle.piper_protocol.specs.Reported.{HasFailed};
 ghost use Rattle.model_sides.specs.Log.{events};
@@ -25,8 +25,6 @@ ghost use Rattle.model.specs.Wait.{wait_of};
 ghost use Rattle.model_examples.specs.Bytes.{KeepsBytes};
 ghost use Rattle.model_examples.specs.Outside.{IsOutside};
 ghost use Rattle.model_examples.specs.ReportedLast.{IsReportedLast};
-
-pub mod by_steps;
 
 use model::OutOfMemory;
 use model::calls::Step;

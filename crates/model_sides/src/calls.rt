@@ -1,5 +1,5 @@
 //! The calls of the two sides, as they are opened and made step by step.
-ghost use Rattle.std.specs.Prelude.{◌≡◌, ◌↔◌, ◌<◌, IsTrue};
+ghost use Rattle.std.specs.Prelude.{◌≡◌, ◌<◌};
 ghost use Rattle.model_sides.specs.Call.{side_of, kind_of, context_of, waker_of, has_good_draw};
 
 use crate::bytes::Bytes;

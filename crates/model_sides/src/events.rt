@@ -1,5 +1,5 @@
 //! What happens in a run, and the log that keeps it.
-ghost use Rattle.std.specs.Prelude.{◌≡◌, ◌<◌, ◌≤◌, ◌+◌, ◌++◌, ◌∷◌, [], OnOk, IfErr, vec_len, vec_capacity};
+ghost use Rattle.std.specs.Prelude.{◌≡◌, ◌<◌, ◌≤◌, ◌+◌, ◌++◌, [], OnOk, IfErr, vec_len, vec_capacity};
 ghost use Rattle.piper_protocol.specs.Reported.{HasFailed};
 ghost use Rattle.model_sides.specs.Log.{listed, answer_event};
 

@@ -77,14 +77,6 @@ impl ReadState {
         self.indices.front()
     }
 
-    /// How many bytes the reader knows of.
-    pub fn known(&self) -> usize
-        ensures value { result ≡ known_of self.now }
-        ensures within { result ≤ self.now.capacity }
-    {
-        self.indices.known()
-    }
-
     /// How many known bytes are contiguous.
     pub fn peekable(&self) -> usize
         ensures { result ≡ peekable_of self.now }

@@ -41,7 +41,7 @@ impl Model for WriteState {
 
 impl WriteState {
     ghost use Rattle.piper_protocol.specs.Table.{publishes, tail_store, write_sum};
-    ghost use Rattle.model_sides.specs.Side.{IsWriting, fresh_writing, room_of, left_of, lend_length, lent_out};
+    ghost use Rattle.model_sides.specs.Side.{IsWriting, fresh_writing, lend_length, lent_out};
     ghost use Rattle.model_sides.specs.SideSteps.{writing_after, writing_answer, head_found};
 
     /// The writer of an empty pipe.
@@ -71,14 +71,6 @@ impl WriteState {
         self.indices.front()
     }
 
-    /// How many free places the writer knows of.
-    pub fn room(&self) -> usize
-        ensures value { result ≡ room_of self.now }
-        ensures within { result ≤ self.now.capacity }
-    {
-        self.indices.room()
-    }
-
     /// How many places are lent.
     pub fn lent(&self) -> usize
         ensures { result ≡ self.now.lent }
@@ -91,16 +83,6 @@ impl WriteState {
         ensures { result ≡ self.now.point }
     {
         self.point
-    }
-
-    /// How many places are lent where `most` are asked for.
-    pub fn lendable(&self, most: usize) -> usize
-        ensures value { result ≡ lend_length most self.now }
-        ensures room { result ≤ room_of self.now }
-        ensures place { result ≤ left_of self.now }
-        ensures shut { self.now.is_shut ≡ true → result ≡ 0 }
-    {
-        self.indices.lendable(most)
     }
 
     /// Lends up to `most` free places in one piece, in place of what was lent before, and returns

@@ -1,5 +1,5 @@
 //! Calls that copy bytes between the pipe and a slice or a script, run whole.
-ghost use Rattle.std.specs.Prelude.{◌≡◌, ◌<◌, ◌≤◌, ◌-◌, ◌∷◌, ◌++◌, [], length, take, drop, min, Some};
+ghost use Rattle.std.specs.Prelude.{◌≡◌, ◌<◌, ◌≤◌, ◌-◌, ◌++◌, [], length, take, drop, min, Some};
 ghost use Rattle.model.specs.Action.{round_count};
 ghost use Rattle.model.specs.Round.{unspent};
 ghost use Rattle.model.specs.Step.{fill_opened, drain_opened};
@@ -46,7 +46,6 @@ impl Machine {
         ensures after { let p = fill_opened context (unspent bytes.now acts.now) self.old in
             self.new ≡ (writer_alone p.writer p).pipe }
     {
-        self.learn();
         self.open_fill(context, Source::none(self.alloc));
         'steps: loop {
             let action = self.writer_next();
@@ -93,7 +92,6 @@ impl Machine {
         ensures bytes { let n = length self.old.unread - length self.new.unread in
             dest.new ≡ take n self.old.unread ++ drop n dest.old }
     {
-        self.learn();
         self.open_drain(context, Destination::Slice(dest.len()));
         let mut done = 0;
         'steps: loop {
@@ -119,7 +117,6 @@ impl Machine {
         ensures after { let p = drain_opened context (Destination.Acts acts.now) self.old in
             self.new ≡ (reader_alone p.reader p).pipe }
     {
-        self.learn();
         self.open_drain(context, Destination::Slice(0));
         'steps: loop {
             let action = self.reader_next();
@@ -159,7 +156,6 @@ impl Machine {
         ensures after { self.new ≡ (try_drain (length dest.old) self.old).pipe }
         ensures by_steps { IsWholeBySteps (Call.TryDrain (length dest.old)) self.old }
     {
-        self.learn();
         self.begin_whole(Side::Reader);
         self.drain_slice(None, dest).count()
     }
@@ -203,7 +199,6 @@ impl Machine {
         ensures by_steps { IsWholeBySteps
             (Call.PollDrainBytes waker luck (length dest.old)) self.old }
     {
-        self.learn();
         self.begin_whole(Side::Reader);
         without_failure(
             self.drain_slice(Some(Context { waker, luck }), dest)

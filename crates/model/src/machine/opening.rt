@@ -6,6 +6,7 @@ ghost use Rattle.model_sides.specs.Log.{events};
 ghost use Rattle.model.specs.Round.{destination_of, source_of};
 ghost use Rattle.model.specs.Step.{opened, query_opened, is_closed_opened, poll_opened, drop_opened, drain_opened, fill_opened, form_of, answer_at_once, MayLend};
 ghost use Rattle.model.specs.Refusal.{past, IsIdle};
+ghost use Rattle.model.specs.Sound.{IsSound};
 ghost use Rattle.model.specs.Run.{IsStepped, MemoryIsRefused};
 
 use super::Machine;
@@ -109,7 +110,8 @@ impl Machine {
 
     pub(super) fn open_drain(&mut self, context: Option<Context>, destination: Destination)
         requires { self.old.reader ≡ ReadPoint.Idle }
-        ensures { self.new ≡ drain_opened context destination self.old }
+        ensures after { self.new ≡ drain_opened context destination self.old }
+        ensures sound { IsSound self.old }
     {
         self.read.begin_look(Purpose::Copy(form(context)));
         self.reader_call = OpenCall {
@@ -121,7 +123,8 @@ impl Machine {
 
     pub(super) fn open_fill(&mut self, context: Option<Context>, source: Source)
         requires { self.old.writer ≡ WritePoint.Idle }
-        ensures { self.new ≡ fill_opened context source self.old }
+        ensures after { self.new ≡ fill_opened context source self.old }
+        ensures sound { IsSound self.old }
     {
         self.write
             .begin(WritePoint::LookClosed(Purpose::Copy(form(context))));

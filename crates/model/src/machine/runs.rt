@@ -7,6 +7,7 @@ ghost use Rattle.model.specs.Places.{peeked_count};
 ghost use Rattle.model.specs.Step.{action_of, stepped, MayLend};
 ghost use Rattle.model.specs.Pipe.{fresh};
 ghost use Rattle.model.specs.Disjoint.{KeepsKnown, IsWriterStep};
+ghost use Rattle.model.specs.Sound.{IsSound};
 ghost use Rattle.model.specs.Lawful.{IsLawful};
 ghost use Rattle.model.specs.Front.{Front};
 ghost use Rattle.model.specs.Run.{Made, IsStepped, Runs, IsRefusal, IsRunRefusal, IsOfMemory, MemoryIsRefused};
@@ -84,20 +85,23 @@ impl Machine {
         ensures known_kept { IsWriterStep step.now → KeepsKnown self.old self.new }
         ensures same { OnErr result (self.new ≡ self.old) }
         ensures same_log { OnErr result (events log.new ≡ events log.old) }
+        ensures sound { OnOk result (IsSound self.new) }
     {
-        self.learn();
+        let _ = &self.is_closed; // what holds of every machine, holds of this one
         match self.refusal(step) {
             Some(refusal) => return Err(refusal),
             None => {}
         }
-        match step {
+        let made = match step {
             Step::Begin(call) => self.begin(call, log),
             Step::Go(side) => self.go(*side, log),
             Step::Put(offset, byte) => {
                 self.put(*offset, *byte);
                 Ok(())
             }
-        }
+        };
+        let _ = &self.is_closed; // and of what the step made of it
+        made
     }
 }
 
@@ -116,12 +120,10 @@ pub fn run(alloc: Global, cap: usize, steps: &[Step]) -> Result<(Machine, Log), 
     };
     let mut log = Log::new(alloc);
     for i in 0..steps.len() {
-        machine.learn();
         match machine.step(&steps[i], &mut log) {
-            Ok(()) => machine.learn(),
+            Ok(()) => {}
             Err(refusal) => return Err(RunRefusal::At(i, refusal)),
         }
     }
-    machine.learn();
     Ok((machine, log))
 }

@@ -2,12 +2,11 @@
 ghost use Rattle.std.specs.Prelude.{IsSome, ◌≡◌, ◌≢◌, ◌≤◌, ℕ, [], length, Bool, true, false};
 ghost use Rattle.model_sides.specs.Open.{is_granted, is_yield_granted, no_call};
 ghost use Rattle.piper_protocol.specs.Table.{head_store, moved_in, publishes, read_action, tail_store, write_action};
-ghost use Rattle.model_sides.specs.Side.{Writing};
 ghost use Rattle.model.specs.Lend.{Lendable, lending};
 ghost use Rattle.model.specs.Round.{given, found_of, moved_by};
 ghost use Rattle.model.specs.Action.{found_by, performed, registered_in, source_called};
 ghost use Rattle.model.specs.Places.{peeked_count};
-ghost use Rattle.model.specs.Step.{reader_stepped, writer_stepped, went, stepped, offering, call_after, source_after, destination_after, lent_count_after, round_left, round_answer, drain_left, drain_answer, MayLend};
+ghost use Rattle.model.specs.Step.{reader_stepped, writer_stepped, went, stepped, call_after, source_after, destination_after, lent_count_after, round_left, round_answer, drain_left, drain_answer, MayLend};
 
 use super::Machine;
 use crate::destination::Destination;
@@ -128,8 +127,7 @@ impl Machine {
     }
 
     fn reader_stores_head(&mut self, n: usize) -> Option<Answer>
-        requires next { read_action self.old.reader ≡ Action.StoreHead n }
-        requires within { n ≤ peeked_count self.old }
+        requires { read_action self.old.reader ≡ Action.StoreHead n }
         ensures after { self.new ≡ (reader_stepped (Action.StoreHead n) self.old).pipe }
         ensures answer { result ≡ (reader_stepped (Action.StoreHead n) self.old).answer }
     {
@@ -195,7 +193,6 @@ impl Machine {
         ensures after { self.new ≡ (went Side.Reader self.old).pipe }
         ensures answer { result ≡ (went Side.Reader self.old).answer }
     {
-        self.learn();
         match action {
             Action::Rest => None,
             Action::Refresh => self.reader_refreshes(),
@@ -242,8 +239,7 @@ impl Machine {
     }
 
     fn writer_stores_tail(&mut self, n: usize) -> Option<Answer>
-        requires next { write_action self.old.writer ≡ Action.StoreTail n }
-        requires within { n ≤ length self.old.lent }
+        requires { write_action self.old.writer ≡ Action.StoreTail n }
         ensures after { self.new ≡ (writer_stepped (Action.StoreTail n) self.old).pipe }
         ensures answer { result ≡ (writer_stepped (Action.StoreTail n) self.old).answer }
     {
@@ -352,7 +348,6 @@ impl Machine {
         ensures answer { result ≡ (stepped self.new.lent (Step.Go Side.Writer) self.old).answer }
         ensures lent { MayLend self.new.lent (Step.Go Side.Writer) self.old }
     {
-        self.learn();
         match action {
             Action::Rest => None,
             Action::CallSource => self.writer_calls_source(),

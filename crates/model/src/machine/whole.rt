@@ -10,6 +10,7 @@ ghost use Rattle.model.specs.Move.{produce, consume};
 ghost use Rattle.model.specs.Close.{close, dropped};
 ghost use Rattle.model.specs.Step.{action_of};
 ghost use Rattle.model.specs.Refusal.{IsIdle, state_of, past};
+ghost use Rattle.model.specs.Sound.{IsSound};
 ghost use Rattle.model.specs.BySteps.{IsWholeBySteps, AreWholeBySteps, is_plain, whole};
 ghost use Rattle.model.specs.Alone.{heard, yield_waker, resting, alone_of, is_copying, wakes_of};
 
@@ -38,6 +39,7 @@ impl Machine {
         requires { IsIdle side self.old }
         ensures after { self.new ≡ begun self.old }
         ensures rests { self.old ≡ resting side self.old }
+        ensures sound { IsSound self.old }
         ensures by_steps { AreWholeBySteps self.old }
     {
         self.woken.clear();
@@ -90,7 +92,6 @@ impl Machine {
         ensures after { self.new ≡ (whole [] call self.old).pipe }
         ensures by_steps { IsWholeBySteps call self.old }
     {
-        self.learn();
         let side = call.side();
         self.begin_whole(side);
         let mut destination = Destination::Slice(0);

@@ -1,3 +1,4 @@
+use Rattle.model.proofs.Soundness.{sound}
 use Rattle.model.proofs.WholeBySteps.{by_steps, rests}
 use Rattle.model.proofs.machine.Machine.begin_whole.Goals as goal
 
@@ -6,3 +7,6 @@ returns-clause-rests c = rests c.self.inside c.self.invariant c.args.side _ c.se
 
 pub returns-clause-by_steps : goal.returns-clause-by_steps
 returns-clause-by_steps c = by_steps c.self.inside c.self.invariant _ c.self.view_is
+
+pub returns-clause-sound : goal.returns-clause-sound
+returns-clause-sound c = sound c.self.inside c.self.invariant _ c.self.view_is

@@ -9,7 +9,7 @@ use Rattle.model.proofs.machine.Machine.drain_script.Goals as goal
 use Rattle.model.proofs.machine.Machine.drain_script.Goals.{Joined-action, in-CallDestination, in_default}
 
 pub steps-init : goal.steps-init
-steps-init c = record { draining = opened c.args.context (Acts c.args.acts.now) c.args.self.now c.open_drain.new.self c.learn.ensures c.requires.woken c.open_drain.ensures }
+steps-init c = record { draining = opened c.args.context (Acts c.args.acts.now) c.args.self.now c.open_drain.new.self c.open_drain.ensures.sound c.requires.woken c.open_drain.ensures.after }
 
 pub hear-requires : goal.hear-requires
 hear-requires c =

@@ -13,7 +13,7 @@ use Rattle.model.proofs.machine.Machine.drain_slice.Goals.{After-reader_goes, in
 
 pub steps-init : goal.steps-init
 steps-init c =
-    let opened = opened-slice c.args.context (length c.args.dest.now) c.args.self.now c.open_drain.new.self c.learn.ensures c.requires.woken c.open_drain.ensures in
+    let opened = opened-slice c.args.context (length c.args.dest.now) c.args.self.now c.open_drain.new.self c.open_drain.ensures.sound c.requires.woken c.open_drain.ensures.after in
     record { within = omega arith; known = omega arith; bytes = refl; read = opened.1; draining = opened.0 }
 
 pub hear-requires : goal.hear-requires

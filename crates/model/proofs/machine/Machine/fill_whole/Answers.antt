@@ -41,7 +41,7 @@ pub steps-init : goal.steps-init
 steps-init c =
     let p = c.args.self.now in
     let acts = unspent c.args.bytes.now c.args.acts.now in
-    record { filling = opened c.args.context acts p c.open_fill-2.new.self c.learn.ensures c.requires.woken (c.open_fill-2.ensures ∙ ap (λ (held : List SourceAct). fill_opened c.args.context held p) c.none.ensures) }
+    record { filling = opened c.args.context acts p c.open_fill-2.new.self c.open_fill-2.ensures.sound c.requires.woken (c.open_fill-2.ensures.after ∙ ap (λ (held : List SourceAct). fill_opened c.args.context held p) c.none.ensures) }
 
 pub source_called-answer-requires-clause-lent : goal.source_called-answer-requires-clause-lent
 source_called-answer-requires-clause-lent c = lent-anew c.steps.self c.write_round-count.new.self c.write_round-count.ensures.lent c.write_round-count.ensures.after

@@ -3,7 +3,7 @@ use Rattle.model.specs.Pipe.{Pipe}
 use Rattle.model.specs.Places.{peeked}
 use Rattle.model.proofs.Indices.{place_below, place_of_low}
 use Rattle.model.proofs.Between.{take-between}
-use Rattle.model.proofs.Soundness.{tail_below}
+use Rattle.model.proofs.Soundness.{tail_below, sound}
 use Rattle.model.proofs.Disjointness.{disjoint}
 use Rattle.model.proofs.machine.Machine.r_peek.Goals as goal
 
@@ -20,14 +20,17 @@ returns-clause-bytes c =
     let of_bytes = c.deref.ensures in
     cc
 
+pub returns-clause-sound : goal.returns-clause-sound
+returns-clause-sound c = sound c.self.inside c.self.invariant _ c.self.view_is
+
 pub returns-clause-held : goal.returns-clause-held
 returns-clause-held c i within =
     let p = c.args.self.now in
     record {
       number = i;
       is_known = omega arith;
-      valid = sym (place_of_low p.capacity (p.start + i) (omega (arith, c.learn.ensures.start)));
+      valid = sym (place_of_low p.capacity (p.start + i) (omega (arith, (returns-clause-sound c).start)));
     }
 
 pub returns-clause-disjoint : goal.returns-clause-disjoint
-returns-clause-disjoint c = disjoint _ c.learn.ensures
+returns-clause-disjoint c = disjoint _ (returns-clause-sound c)

@@ -28,7 +28,7 @@ returns-clause-bytes c =
     let ended = drains cx size p c.begin_whole.new.self begins.after begins.rests in
     let count : count_of c.without_failure.result ≡ count_of (drain (Some cx) size p).answer = ap count_of (returns-clause-answer c) in
     let left = ap (λ (e : Ended). e.pipe.unread) ended in
-    let counts = drain-counts (Some cx) size p c.learn.ensures.known in
+    let counts = drain-counts (Some cx) size p begins.sound.known in
     let unread : c.drain_slice.new.self.unread ≡ (drain (Some cx) size p).pipe.unread = ap (λ v. v.unread) c.drain_slice.ensures.after ∙ left in
     let is = subst (λ (n : ℕ). IsCounted p.unread n c.drain_slice.new.self.unread) (sym count) (subst (λ (bytes : List ℕ). IsCounted p.unread (count_of (drain (Some cx) size p).answer) bytes) (sym unread) counts) in
     counted-bytes (count_of c.without_failure.result) p.unread c.drain_slice.new.self.unread c.args.dest.now c.drain_slice.new.dest is (rw begins.after at c.drain_slice.ensures.bytes)

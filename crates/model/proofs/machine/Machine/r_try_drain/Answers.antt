@@ -21,7 +21,7 @@ returns-clause-bytes c =
     let ended = try_drains size p c.begin_whole.new.self begins.after begins.rests in
     let count : c.count.result ≡ count_of (try_drain size p).answer = c.count.ensures ∙ ap count_in c.drain_slice.ensures.answer ∙ ap (λ (e : Ended). count_in e.answer) ended in
     let left = ap (λ (e : Ended). e.pipe.unread) ended in
-    let counts = drain-counts None size p c.learn.ensures.known in
+    let counts = drain-counts None size p begins.sound.known in
     let unread : c.drain_slice.new.self.unread ≡ (try_drain size p).pipe.unread = ap (λ v. v.unread) c.drain_slice.ensures.after ∙ left in
     let is = subst (λ (n : ℕ). IsCounted p.unread n c.drain_slice.new.self.unread) (sym count) (subst (λ (bytes : List ℕ). IsCounted p.unread (count_of (try_drain size p).answer) bytes) (sym unread) counts) in
     counted-bytes c.count.result p.unread c.drain_slice.new.self.unread c.args.dest.now c.drain_slice.new.dest is (rw begins.after at c.drain_slice.ensures.bytes)

@@ -10,7 +10,7 @@ ended : (c : After-drive) → alone_of c.side-side.result c.open.new.self ≡ wh
 ended c =
     let side = c.side-side.ensures in
     let begins = c.begin_whole.ensures in
-    let opening = plain-opens c.args.call c.args.self.now c.begin_whole.new.self c.open.new.self c.requires.plain c.learn.ensures (rw side at begins.rests) c.requires.within begins.after c.open.ensures.after in
+    let opening = plain-opens c.args.call c.args.self.now c.begin_whole.new.self c.open.new.self c.requires.plain begins.sound (rw side at begins.rests) c.requires.within begins.after c.open.ensures.after in
     ap (λ (s : Side). alone_of s c.open.new.self) side ∙ opening.rest
 
 pub returns-clause-answer : goal.returns-clause-answer

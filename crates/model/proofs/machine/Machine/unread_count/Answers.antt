@@ -1,6 +1,6 @@
 use Rattle.std.proofs.Common.{ap, length}
 use Rattle.model.specs.Pipe.{Pipe}
-use Rattle.model.proofs.Soundness.{length-unread}
+use Rattle.model.proofs.Soundness.{length-unread, sound}
 use Rattle.model.proofs.machine.Machine.unread_count.Goals as goal
 
 pub returns-clause-value : goal.returns-clause-value
@@ -9,3 +9,6 @@ returns-clause-value c =
     let long = length-unread c.self.inside c.self.invariant in
     let same = ap (λ (p : Pipe). length p.unread) c.self.view_is in
     cc
+
+pub returns-clause-sound : goal.returns-clause-sound
+returns-clause-sound c = sound c.self.inside c.self.invariant _ c.self.view_is
