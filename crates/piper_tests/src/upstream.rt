@@ -1,5 +1,5 @@
 //! What the Rust crate tests of its own pipe on one thread. What it tests across threads is in
-//! crossing.rt of `piper_layer_tests`.
+//! crossing.rt of `piper_futures_streams_tests`.
 use crate::pair::{Act, plays};
 
 #[test]

@@ -20,7 +20,7 @@ const MOST_TURNS: u32 = 10_000;
 const TEXT_BYTES: usize = 60;
 
 /// What a poll for a line is to return, and what it leaves in the line.
-type Wanted<'a> = (Polled<LineAnswer>, &'a [u8]);
+type WantedLine<'a> = (Polled<LineAnswer>, &'a [u8]);
 
 /// Takes the next lines of a text that is sent through the pipe as there is room.
 fn expect_lines(
@@ -28,7 +28,7 @@ fn expect_lines(
     task: &MockTask,
     lines: &mut Lines<Reader>,
     limit: usize,
-    wanted: &[Wanted<'_>],
+    wanted: &[WantedLine<'_>],
 ) {
     for (answer, text) in wanted {
         let mut line = Vec::new(rt.alloc());

@@ -13,7 +13,7 @@ use std::process::Abort;
 const MOST_TURNS: u32 = 1_000;
 
 /// What a poll for a frame is to return, and what it leaves in the frame.
-type Wanted<'a> = (FrameAnswer, &'a [u8]);
+type WantedFrame<'a> = (FrameAnswer, &'a [u8]);
 
 /// Takes the next frames.
 fn expect_frames(
@@ -21,7 +21,7 @@ fn expect_frames(
     task: &MockTask,
     frames: &mut Frames<Reader>,
     limit: usize,
-    wanted: &[Wanted<'_>],
+    wanted: &[WantedFrame<'_>],
 ) {
     for (answer, bytes) in wanted {
         let mut frame = Vec::new(rt.alloc());
