@@ -8,13 +8,11 @@ use Rattle.std.proofs.Crossing.{crosses}
 use Rattle.piper.proofs.handles.Writer.TheSendSync as writer
 use Rattle.piper.specs.contracts.handles.Writer as Writer
 use Rattle.piper_transfer.specs.contracts.meter.Meter as Meter
-use Rattle.piper_transfer.specs.contracts.over.OutputOver as OutputOver
 use Rattle.piper_transfer.specs.contracts.start.Second as Second
 use Rattle.piper_transfer.specs.contracts.start.Start as Start
 use Rattle.piper_transfer.specs.contracts.turns.Turns as Turns
 use Rattle.piper_transfer.specs.declared.naming.Naming as Naming
 use Rattle.piper_transfer.proofs.meter.Meter.TheSendSync as meter
-use Rattle.piper_transfer.proofs.over.OutputOver.TheSendSync as over
 use Rattle.piper_transfer.proofs.start.Second.TheSendSync as second
 use Rattle.piper_transfer.proofs.start.Start.TheSendSync as start
 use Rattle.piper_transfer.proofs.turns.Turns.TheSendSync as turns
@@ -41,11 +39,6 @@ turns_lent ℓ = search (sendable, turns.the_send)
 
 pub meter_lent : (ℓ : NamedLft) → IsSend (shr_ref_field ℓ Meter.the_row tt).row
 meter_lent ℓ = search (sendable, meter.the_sync)
-
-pub over_lent : (ℓ : NamedLft) (T : RattleType) (g : Naming.Ghosts T.Denot) → IsSend (shr_ref_field ℓ (OutputOver.the_row T g) tt).row
-over_lent ℓ T g =
-    let y : IsSync (OutputOver.the_row T g) = over.the_sync T g in
-    search (sendable, y)
 
 pub count_lent : (ℓ : NamedLft) → IsSend (shr_ref_field ℓ (u64-field).row tt).row
 count_lent ℓ = search sendable

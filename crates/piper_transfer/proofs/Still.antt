@@ -8,7 +8,7 @@ use Rattle.piper.specs.declared.handles.Writer.{Writer}
 use Rattle.piper_transfer.specs.Transfer.{Closes}
 use Rattle.piper_transfer.specs.Turns.{IsStill}
 use Rattle.piper_transfer.specs.declared.error.TransferError.{TransferError}
-use Rattle.piper_transfer.specs.declared.error.TransferError.TheVariants.{Read, Write, Full, Memory, Turns}
+use Rattle.piper_transfer.specs.declared.error.TransferError.TheVariants.{Turns}
 
 pub reader_still : (a b : Reader) (cx : Context) → ReaderPends a b cx → IsStill cx
 reader_still a b cx pends = elim pends.registered [
@@ -24,8 +24,5 @@ writer_still a b cx pends = elim pends.registered [
 
 -- a side that fails closes the pipe, however it fails
 pub closes_failed : (e : TransferError) (w : WriteView) → w.shut ≡ true → Closes (Err e) w
-closes_failed (Read x) w shut = shut
-closes_failed (Write x) w shut = shut
-closes_failed Full w shut = shut
-closes_failed Memory w shut = shut
 closes_failed (Turns x) w shut = inl shut
+closes_failed e w shut = shut

@@ -10,39 +10,28 @@ use Rattle.piper_transfer.specs.declared.error.TransferError.TheVariants.{Read, 
 -- the output's side reports no failure of the input
 pub not_of_input : (fails : Error → Type 0) (full : Type 0) (e : TransferError) → IsOfDestination fails full e → ¬ IsOfInput e
 not_of_input fails full (Read x) reported = λ _. reported
-not_of_input fails full (Write x) reported = λ input. input
-not_of_input fails full Full reported = λ input. input
-not_of_input fails full Memory reported = λ input. input
-not_of_input fails full (Turns x) reported = λ input. input
+not_of_input fails full e reported = λ input. input
 
 -- nor does want of memory
 memory_is_not_of_input : (e : TransferError) → IsOfMemory e → ¬ IsOfInput e
 memory_is_not_of_input (Read x) reported = λ _. reported
-memory_is_not_of_input (Write x) reported = λ input. input
-memory_is_not_of_input Full reported = λ input. input
-memory_is_not_of_input Memory reported = λ input. input
-memory_is_not_of_input (Turns x) reported = λ input. input
+memory_is_not_of_input e reported = λ input. input
 
 of_memory : (s d : Error → Type 0) (full : Type 0) (e : TransferError) → IsOfMemory e → IsOfSide s d full e
-of_memory s d full (Read x) reported = absurd reported
-of_memory s d full (Write x) reported = absurd reported
-of_memory s d full Full reported = absurd reported
 of_memory s d full Memory reported = inl reported
 of_memory s d full (Turns x) reported = reported
+of_memory s d full e reported = absurd reported
 
 pub of_destination : (s d : Error → Type 0) (full : Type 0) (e : TransferError) → IsOfDestination d full e → IsOfSide s d full e
 of_destination s d full (Read x) reported = absurd reported
-of_destination s d full (Write x) reported = reported
-of_destination s d full Full reported = reported
 of_destination s d full Memory reported = inr reported
-of_destination s d full (Turns x) reported = reported
+of_destination s d full e reported = reported
 
 of_source : (s d : Error → Type 0) (full : Type 0) (e : TransferError) → IsOfSource s e → IsOfSide s d full e
-of_source s d full (Read x) reported = reported
 of_source s d full (Write x) reported = absurd reported
 of_source s d full Full reported = absurd reported
 of_source s d full Memory reported = inr reported
-of_source s d full (Turns x) reported = reported
+of_source s d full e reported = reported
 
 -- a pipe that was refused: nothing is written
 pub refused_writes_none : (r : Result Unit TransferError) → OnOk r ⊥ → IfErr r IsOfMemory → ¬ WritesAll r

@@ -77,7 +77,15 @@ where
     let (mut input, mut output) = open(rt, sizes)?;
     let chunk = sizes.chunk.min(sizes.capacity);
     let both = run_sides(rt, source, &mut input, &mut output, dest, chunk, meter);
-    let (mut reader, mut writer) = (output.into_reader(), input.into_writer());
+    let Input {
+        turns: _,
+        mut writer,
+    } = input;
+    let Output {
+        turns: _,
+        mut reader,
+        level: _,
+    } = output;
     // Now that both handles are held by one thread, what is left where the output failed is known;
     // else nothing is.
     reader.meet(&mut writer);
@@ -236,14 +244,11 @@ where
     ensures drain_late { IfNone result.1 (IsLate N.name) }
     ensures at_once { WereAtOnce result.0 result.1 }
 {
-    let (over, start) = name.named::<N>();
-    let over = OutputOver::new(over);
-    let (start, mut second) = Start::new(start);
-    let (begun, told) = (&start, &over);
-    let second = &mut second;
+    let (start, mut second) = Start::new(OutputOver::<N>::new(name));
+    let (start, second) = (&start, &mut second);
     at_once(
         rt,
-        &mut || fill_from(rt, begun, second, turns, source, writer, chunk, meter, told),
-        &mut || drain_from(rt, begun, output, dest, chunk, meter, told),
+        &mut || fill_from(rt, start, second, turns, source, writer, chunk, meter),
+        &mut || drain_from(rt, start, output, dest, chunk, meter),
     )
 }

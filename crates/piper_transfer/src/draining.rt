@@ -13,21 +13,22 @@ ghost use Rattle.piper_transfer.specs.Turns.{HasCounted, IsStill};
 
 use crate::ends::Destination;
 use crate::error::{TransferError, no_waker};
-use crate::level::{Level, Reached};
+use crate::level::Reached;
 use crate::meter::{Meter, OfOutput, Side};
 use crate::naming::Naming;
 use crate::over::OutputOver;
 use crate::patience::write_patiently;
 use crate::start::Start;
-use crate::turns::{Output, Still, Turns, end};
+use crate::turns::{Output, end};
 use futures::task::{Context, Poll};
 use piper::Reader;
 use std::io;
 use std::sync::Wait;
 use std::time::Clock;
 
-/// Empties the pipe as `drain` does, once the other side has begun. Where that one has not, it is
-/// given up; then the answer is `None` and nothing was done.
+/// Empties the pipe as `drain_output` does, once the other side has begun. Where that one has not,
+/// it is given up; then the answer is `None` and nothing was done. If the output fails, the other
+/// side is told to end: bytes that it publishes until then stay in the pipe or are dropped.
 pub(crate) fn drain_from<R, D, N>(
     rt: &R,
     start: &Start<N>,
@@ -35,7 +36,6 @@ pub(crate) fn drain_from<R, D, N>(
     dest: &mut D,
     chunk: usize,
     meter: &Meter,
-    over: &OutputOver<N>,
 ) -> Option<Result<(), TransferError>>
 where
     R: Wait + Clock,
@@ -59,43 +59,15 @@ where
     if !start.wait(rt) {
         return None;
     }
-    Some(drain(rt, output, dest, chunk, &meter.output, over))
-}
-
-/// Writes the pipe's bytes to the output, at most `chunk` at a time, up to the pipe's end.
-///
-/// Where that fails, the other side is told to end: bytes that it publishes until then stay in the
-/// pipe or are dropped.
-fn drain<R, D, N>(
-    rt: &R,
-    output: &mut Output,
-    dest: &mut D,
-    chunk: usize,
-    meter: &Side<OfOutput>,
-    over: &OutputOver<N>,
-) -> Result<(), TransferError>
-where
-    R: Wait + Clock,
-    D: Destination,
-    N: Naming,
-    requires chunk { 0 < chunk }
-    requires fails { OutputHasFailed D.fails D.full → N.failed }
-    ensures poured { Poured D.contents D.took dest.old dest.new
-        output.old.reader.side.end output.new.reader.side.end }
-    ensures all { OnOk result (PouredAll D.contents D.took dest.old dest.new
-        output.old.reader.side.end output.new.reader.side.end) }
-    ensures ended { OnOk result (IsEnded output.new.reader.side.end) }
-    ensures reported { IfErr result (IsOfDestination (D.fails dest.new) (D.full dest.new)) }
-    ensures told { OnErr result (IsTold N.name) }
-{
-    let ended = drain_output(rt, output, dest, chunk, meter);
+    let ended = drain_output(rt, output, dest, chunk, &meter.output);
     if let Err(error) = &ended {
-        give_up(&mut output.reader, dest, error, over);
+        give_up(&mut output.reader, dest, error, &start.over);
     }
-    ended
+    Some(ended)
 }
 
-/// Writes the pipe's bytes to the output as `drain` does, where the other side has ended.
+/// Writes the pipe's bytes to the output, at most `chunk` at a time, up to the pipe's end or the
+/// first failure.
 pub(crate) fn drain_output<R, D>(
     rt: &R,
     output: &mut Output,
@@ -112,9 +84,19 @@ where
     ensures ended { OnOk result (IsEnded output.new.reader.side.end) }
     ensures reported { IfErr result (IsOfDestination (D.fails dest.new) (D.full dest.new)) }
 {
-    let first = output.turns.first();
-    let (turns, reader) = (&output.turns, &mut output.reader);
-    drain_in_turns(rt, turns, first, &output.level, reader, dest, chunk, meter)
+    let mut still = output.turns.first();
+    for _ in rt.forever() {
+        meter.begin_wait(rt);
+        let mut cx = output.turns.next(rt, still).map_err(TransferError::Turns)?;
+        let reached = output.level.wait(rt, &output.reader);
+        meter.end_wait(rt);
+        let turn = drain_turn(rt, &mut cx, &mut output.reader, reached, dest, chunk, meter);
+        still = end(cx, &turn);
+        if let Poll::Ready(ended) = turn {
+            return ended;
+        }
+    }
+    unreachable!()
 }
 
 // Tells the other side to end, since this one failed so, and makes room: it wakes if it waits for
@@ -139,40 +121,6 @@ fn give_up<D: Destination, N: Naming>(
     over.end_output();
     let known = reader.peek_buf().len();
     reader.consume(known);
-}
-
-fn drain_in_turns<R, D>(
-    rt: &R,
-    turns: &Turns,
-    first: Still,
-    level: &Level,
-    reader: &mut Reader,
-    dest: &mut D,
-    chunk: usize,
-    meter: &Side<OfOutput>,
-) -> Result<(), TransferError>
-where
-    R: Wait + Clock,
-    D: Destination,
-    requires chunk { 0 < chunk }
-    ensures poured { PouredAll D.contents D.took dest.old dest.new
-        reader.old.side.end reader.new.side.end }
-    ensures ended { OnOk result (IsEnded reader.new.side.end) }
-    ensures reported { IfErr result (IsOfDestination (D.fails dest.new) (D.full dest.new)) }
-{
-    let mut still = first;
-    for _ in rt.forever() {
-        meter.begin_wait(rt);
-        let mut cx = turns.next(rt, still).map_err(TransferError::Turns)?;
-        let reached = level.wait(rt, reader);
-        meter.end_wait(rt);
-        let turn = drain_turn(rt, &mut cx, reader, reached, dest, chunk, meter);
-        still = end(cx, &turn);
-        if let Poll::Ready(ended) = turn {
-            return ended;
-        }
-    }
-    unreachable!()
 }
 
 // Goes on until no byte is known, or the side has ended.

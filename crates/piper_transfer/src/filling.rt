@@ -11,7 +11,7 @@ use crate::ends::Source;
 use crate::error::{Stop, TransferError, no_waker};
 use crate::meter::{Meter, OfInput, Side};
 use crate::naming::Naming;
-use crate::over::{Hears, OutputOver};
+use crate::over::Hears;
 use crate::patience::read_patiently;
 use crate::piece::Piece;
 use crate::start::{Second, Start};
@@ -32,7 +32,6 @@ pub(crate) fn fill_from<R, S, N>(
     writer: &mut Writer,
     chunk: usize,
     meter: &Meter,
-    over: &OutputOver<N>,
 ) -> Option<Result<(), TransferError>>
 where
     R: Wait + Clock,
@@ -53,7 +52,7 @@ where
     if !start.begin(rt, second) {
         return None;
     }
-    let first = turns.first();
+    let (first, over) = (turns.first(), &start.over);
     match fill_in_turns(rt, turns, first, source, writer, chunk, &meter.input, over) {
         Ok(()) => Some(Ok(())),
         Err(Stop::Failed(error)) => Some(Err(error)),

@@ -1,7 +1,5 @@
 //! The name of a transfer on two threads, so that evidence of its sides is not taken from another.
-ghost use Rattle.std.specs.Prelude.{◌≡◌};
-
-use std::marker::{Brand, PhantomData};
+use std::marker::Brand;
 use std::snapshot::Snapshot;
 
 /// One transfer, as its sides know it: a call that starts them picks it.
@@ -23,16 +21,11 @@ impl Naming for Brand {
     ghost failed = { ⊤ };
 }
 
-/// A name that no call knows, so that it is not known to be the same as another.
+/// A name that no call knows, so that it is not known to be the same as another. A transfer spends
+/// it on the one thing that its two threads share.
 #[derive(Drop)]
 pub(crate) struct Unnamed {
     name: Snapshot<u64>,
-}
-
-/// The right to make one thing of a transfer, by its name: it is spent by that.
-#[derive(Drop)]
-pub(crate) struct Named<N: Naming> {
-    _of: PhantomData<N>,
 }
 
 impl Unnamed {
@@ -41,14 +34,5 @@ impl Unnamed {
         Unnamed {
             name: Snapshot::of(&0),
         }
-    }
-
-    /// The rights to what a transfer has one of: how its output ends it, and how its second thread
-    /// begins.
-    pub(crate) fn named<N: Naming>(self) -> (Named<N>, Named<N>)
-        requires { self.name.value ≡ N.name }
-    {
-        let (over, start) = (PhantomData, PhantomData);
-        (Named { _of: over }, Named { _of: start })
     }
 }

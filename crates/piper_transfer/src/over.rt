@@ -1,8 +1,8 @@
 //! How the side that reads the input hears that the output is over.
-ghost use Rattle.std.specs.Prelude.{◌<◌, IsTrue, false};
+ghost use Rattle.std.specs.Prelude.{◌≡◌, ◌<◌, IsTrue, false};
 ghost use Rattle.piper_transfer.specs.Transfer.{IsTold};
 
-use crate::naming::{Named, Naming};
+use crate::naming::{Naming, Unnamed};
 use std::marker::PhantomData;
 use std::sync::atomic::{AtomicIn, Ordering, Rule};
 
@@ -36,15 +36,15 @@ impl<N: Naming> Rule for OnceFailed<N> {
 #[derive(Drop)]
 pub(crate) struct OutputOver<N: Naming> {
     word: AtomicIn<OnceFailed<N>>,
-    _named: Named<N>,
 }
 
 impl<N: Naming> OutputOver<N> {
     /// The output is not over.
-    pub(crate) fn new(named: Named<N>) -> OutputOver<N> {
+    pub(crate) fn new(_name: Unnamed) -> OutputOver<N>
+        requires { _name.name.value ≡ N.name }
+    {
         OutputOver {
             word: AtomicIn::new(0),
-            _named: named,
         }
     }
 

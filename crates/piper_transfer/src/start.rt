@@ -1,8 +1,9 @@
-//! Whether a second thread has begun.
+//! What two threads of a transfer tell each other: that the second one has begun, or is late.
 ghost use Rattle.std.specs.Prelude.{◌≡◌, ◌+◌, ◌<◌, IsTrue, false};
 ghost use Rattle.piper_transfer.specs.Threads.{HasTwoThreads, IsAsked, IsLate, Shows, shows_prop};
 
-use crate::naming::{Named, Naming};
+use crate::naming::Naming;
+use crate::over::OutputOver;
 use crate::rounds::Rounds;
 use piper_protocol::reported::reported;
 use std::marker::PhantomData;
@@ -42,8 +43,8 @@ struct Found<N: Naming> {
     ghost shown: { Shows N.name stage } by { shows_prop N.name stage },
 }
 
-/// Says to the first thread whether the second one has begun, and to the second one whether it is
-/// still waited for.
+/// What the two threads of a transfer share. It says to the first whether the second one has begun,
+/// and to the second one whether it is still waited for, and whether the output is over.
 ///
 /// A thread that the system refuses is run after the first one, on the same thread. That is known
 /// before, mostly, by `grants_thread`; but it may refuse one that it would have granted a moment
@@ -53,17 +54,20 @@ struct Found<N: Naming> {
 pub(crate) struct Start<N: Naming> {
     found: Mutex<Found<N>>,
     changed: Condvar,
+    /// Whether the output is over. It was made with the name of the transfer, and there is no other
+    /// of that name.
+    pub(crate) over: OutputOver<N>,
 }
 
 /// The right to begin, which one thread alone has: so the one that waits is another.
 #[derive(Drop)]
 pub(crate) struct Second<N: Naming> {
-    _named: Named<N>,
+    _of: PhantomData<N>,
 }
 
 impl<N: Naming> Start<N> {
     /// The second thread has not begun. The right to begin is for it alone.
-    pub(crate) fn new(named: Named<N>) -> (Start<N>, Second<N>) {
+    pub(crate) fn new(over: OutputOver<N>) -> (Start<N>, Second<N>) {
         let waited = Found {
             stage: Stage::Waited,
             _of: PhantomData,
@@ -71,8 +75,9 @@ impl<N: Naming> Start<N> {
         let start = Start {
             found: Mutex::new(waited),
             changed: Condvar::new(),
+            over,
         };
-        (start, Second { _named: named })
+        (start, Second { _of: PhantomData })
     }
 
     /// The second thread begins. Returns whether it was still waited for.

@@ -73,34 +73,10 @@ pub(crate) struct Input {
     pub(crate) writer: Writer,
 }
 
-impl Input {
-    /// The writer, once the thread has ended.
-    pub(crate) fn into_writer(self) -> Writer
-        ensures { result ≡ self.writer }
-    {
-        let Input { turns: _, writer } = self;
-        writer
-    }
-}
-
 /// What the thread has that writes the output.
 pub(crate) struct Output {
     pub(crate) turns: Turns,
     pub(crate) reader: Reader,
     /// How many bytes the pipe is to hold before one is written, and again once it ran dry.
     pub(crate) level: Level,
-}
-
-impl Output {
-    /// The reader, once the thread has ended.
-    pub(crate) fn into_reader(self) -> Reader
-        ensures { result ≡ self.reader }
-    {
-        let Output {
-            turns: _,
-            reader,
-            level: _,
-        } = self;
-        reader
-    }
 }

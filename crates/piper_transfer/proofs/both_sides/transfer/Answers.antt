@@ -1,11 +1,7 @@
-use Rattle.std.proofs.Common.{rules, ◌≡◌, [], OnOk, IfErr, ◌∙◌, ap, subst}
+use Rattle.std.proofs.Common.{rules, ◌≡◌, [], OnOk, IfErr, ◌∙◌}
 use Rattle.std.specs.Result.{result_and}
 use Rattle.std.specs.Io.KnownBytes.{IsAtEnd}
 use Rattle.piper.specs.Ends.{ReaderRefreshed}
-use Rattle.piper.specs.ReadView.{ReadView, KnowsEnd}
-use Rattle.piper.specs.WriteView.{WriteView}
-use Rattle.piper.specs.declared.handles.Reader.{Reader}
-use Rattle.piper.specs.declared.handles.Writer.{Writer}
 use Rattle.piper_transfer.specs.Transfer.{IsDrained, IsOfDestination, IsOfMemory, IsOfSource, PouredAll, WritesAll}
 use Rattle.piper_transfer.proofs.Sides.{poured_kept, poured_same}
 use Rattle.piper_transfer.proofs.Told.{refused_writes_none, refused_is_told, flushed_first, flush_is_told, ends_with_both, failed_writes_not, failure_is_told, holds_on_ok}
@@ -42,10 +38,8 @@ returns g c =
     let s = g.S.Source.fails both.new.source in
     let new_writer = c.in_ok-input.ensures.input.sent in
     let new_reader = c.in_ok-input.ensures.output.taken in
-    let reads : c.into_reader-reader.result.side.end ≡ r1 = ap (λ (r : Reader). r.side.end) c.into_reader-reader.ensures in
-    let writes : c.into_writer-writer.result.side.end ≡ w1 = ap (λ (w : Writer). w.side.end) c.into_writer-writer.ensures in
-    let met : ReaderRefreshed r1 r2 = subst (λ (r : ReadView). ReaderRefreshed r r2) reads c.meet.ensures.rest.reader in
-    let sent : c.meet.new.other.side.end.sent ≡ w1.sent = c.meet.ensures.rest.writer.sent ∙ ap (λ (w : WriteView). w.sent) writes in
+    let met : ReaderRefreshed r1 r2 = c.meet.ensures.rest.reader in
+    let sent : c.meet.new.other.side.end.sent ≡ w1.sent = c.meet.ensures.rest.writer.sent in
     let fifo = c.meet.ensures.fifo ∙ sent in
     elim c.match-both.branch [
       | in-Ok w ↦
@@ -56,8 +50,7 @@ returns g c =
           let whole : IsDrained r1 w1 = rw w.in-Ok.is at both.ensures.drained in
           let input_ended : OnOk filled (IsAtEnd j) = rw w.in-Ok.is at both.ensures.input_ended in
           let input_told : IfErr filled (IsOfSource s) = rw w.in-Ok.is at both.ensures.input_told in
-          let none : r2.known ≡ [] = none_known r1 r2 w1 c.meet.new.other.side.end whole met c.meet.ensures.fifo sent c.meet.ensures.closed.all
-          (subst (λ (r : ReadView). KnowsEnd r → r2.all ≡ r.all) reads c.meet.ensures.more.all) in
+          let none : r2.known ≡ [] = none_known r1 r2 w1 c.meet.new.other.side.end whole met c.meet.ensures.fifo sent c.meet.ensures.closed.all c.meet.ensures.more.all in
           let same : c.match-both.ended ≡ result_and w.flush.result filled = search rules in
           let ended = ends_with_both w.flush.result filled c.match-both.ended (IsAtEnd j) same input_ended in
           let d = g.D.Destination.fails w.flush.new.dest in

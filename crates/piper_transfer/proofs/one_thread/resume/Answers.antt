@@ -1,6 +1,5 @@
 -- What both handles say once they have met, and what is done after that.
-use Rattle.std.proofs.Common.{◌∙◌}
-use Rattle.piper_transfer.proofs.Sides.{fed_met, open_again, poured_met}
+use Rattle.piper_transfer.proofs.Sides.{fed_met, poured_met}
 use Rattle.piper_transfer.proofs.one_thread.resume.Goals as goal
 
 pub returns-clause-fed : goal.returns-clause-fed

@@ -1,6 +1,6 @@
 -- What earlier turns wrote, and what the last one writes.
 use Rattle.piper_transfer.proofs.Sides.{poured_none, poured_more}
-use Rattle.piper_transfer.proofs.draining.drain_in_turns.Goals as goal
+use Rattle.piper_transfer.proofs.draining.drain_output.Goals as goal
 
 pub loop-init : goal.loop-init
 loop-init g c = (tt, tt, poured_none _ _ _ _)
