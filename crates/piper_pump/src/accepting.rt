@@ -1,5 +1,5 @@
 //! What the words ask for, once all is refused in them that can be without a look at a file.
-ghost use Rattle.std.specs.Prelude.{◌≡◌, ◌≢◌, None, IfErr, IfOk, OnOk, codes, true};
+ghost use Rattle.std.specs.Prelude.{◌≡◌, ◌≢◌, IfErr, IfOk, OnOk, codes, true};
 ghost use Rattle.std.specs.List.{All};
 ghost use Rattle.piper_pump.specs.Accepting.{HasRead, IsRefusedFor};
 ghost use Rattle.piper_pump.specs.Ended.{IsEarly};

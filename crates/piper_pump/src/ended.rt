@@ -34,7 +34,7 @@ impl Unopened {
         Ok(Unopened { name, error })
     }
 
-    fn again(&self, alloc: Global) -> Result<Unopened, Ended>
+    fn try_clone(&self, alloc: Global) -> Result<Unopened, Ended>
         ensures { IfErr result IsUnopened }
     {
         Unopened::new(alloc, self.name.as_str(), self.error)
@@ -116,15 +116,15 @@ impl Ended {
     }
 
     /// The same again, of an end for a file that can't be opened.
-    pub(crate) fn again(&self, alloc: Global) -> Ended
+    pub(crate) fn try_clone(&self, alloc: Global) -> Ended
         ensures { IsUnopened self.now → IsUnopened result }
     {
         match self {
-            Ended::NoInput(file) => match file.again(alloc) {
+            Ended::NoInput(file) => match file.try_clone(alloc) {
                 Ok(file) => Ended::NoInput(file),
                 Err(refused) => refused,
             },
-            Ended::NoOutput(file) => match file.again(alloc) {
+            Ended::NoOutput(file) => match file.try_clone(alloc) {
                 Ok(file) => Ended::NoOutput(file),
                 Err(refused) => refused,
             },

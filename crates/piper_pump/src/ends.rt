@@ -1,5 +1,5 @@
 //! What the program reads and writes: the standard streams or files.
-ghost use Rattle.std.specs.Prelude.{◌≡◌, ◌⊎◌, ◌↔◌, [], ℕ, List, IfErr, IsErr, IsTrue, OnOk};
+ghost use Rattle.std.specs.Prelude.{◌≡◌, ◌↔◌, [], ℕ, List, IfErr, IsTrue, OnOk};
 ghost use Rattle.std.specs.Io.KnownBytes.{Keeps};
 ghost use Rattle.piper_transfer.specs.Taken.{StaysTaken};
 ghost use Rattle.piper_transfer.specs.Transfer.{IsLasting, IsOfDestination, WritesAll};
@@ -144,7 +144,7 @@ where
             → IsUnopened result }
     {
         match &self.opening {
-            Opening::Refused(ended) => ended.again(self.rt.alloc()),
+            Opening::Refused(ended) => ended.try_clone(self.rt.alloc()),
             _ => Ended::of(moved, self.copies.has_failed()),
         }
     }
@@ -184,7 +184,7 @@ where
                 Ok(())
             }
             Err(ended) => {
-                let told = ended.again(self.rt.alloc());
+                let told = ended.try_clone(self.rt.alloc());
                 self.outcome.fail(self.rt, Failure::Unopened(told));
                 self.turn(Opening::Refused(ended));
                 Err(cannot_open())

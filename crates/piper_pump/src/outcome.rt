@@ -30,7 +30,7 @@ pub enum Failure {
 
 /// How the run has ended.
 #[derive(Drop)]
-struct Over {
+struct RunEnd {
     ended: Ended,
     ghost of_run: { ∥ IsOfRun ended ∥₁ },
 }
@@ -47,7 +47,7 @@ struct Failed {
 enum Told {
     Nothing,
     Failed(Failed),
-    Over(Over),
+    Over(RunEnd),
 }
 
 /// The place where a run reports how it goes. Another thread may wait for that.
@@ -70,11 +70,11 @@ impl Failure {
     }
 }
 
-impl Over {
+impl RunEnd {
     fn into_ended(self) -> Ended
         ensures { IsTold result }
     {
-        let Over { ended } = self;
+        let RunEnd { ended } = self;
         ended
     }
 }
@@ -132,7 +132,7 @@ impl Outcome {
     pub(crate) fn end(&self, rt: &impl Wait, ended: Ended)
         requires { IsOfRun ended }
     {
-        let over = Over { ended };
+        let over = RunEnd { ended };
         *self.reported.lock(rt) = Told::Over(over);
         self.changed.notify_all();
     }

@@ -21,7 +21,7 @@ const LONGEST: u128 = 356_400_000;
 
 /// Whether what is watched is over. Another thread may wait for that.
 #[derive(Drop)]
-pub struct Over {
+pub struct EndSignal {
     is_over: Mutex<bool>,
     changed: Condvar,
 }
@@ -31,9 +31,9 @@ pub struct Reported<T> {
     value: T,
 }
 
-impl Over {
-    pub fn new() -> Over {
-        Over {
+impl EndSignal {
+    pub fn new() -> EndSignal {
+        EndSignal {
             is_over: Mutex::new(false),
             changed: Condvar::new(),
         }
@@ -93,7 +93,7 @@ pub struct Progress {
 
 /// Prints a line four times a second until the transfer is over, and then one of the whole. Where
 /// nobody reads them any more, it prints no more.
-pub fn watch<R>(rt: &R, meter: &Meter, watched: Watched, over: &Over)
+pub fn watch<R>(rt: &R, meter: &Meter, watched: Watched, over: &EndSignal)
 where
     R: Wait + Clock + Eprint,
 {

@@ -20,7 +20,7 @@ use crate::accepting::accept;
 use crate::ended::Ended;
 use crate::ends::{Inlet, Outlet};
 use crate::opening::{Places, open_files, size_of};
-use crate::progress::{Over, Watched, watch};
+use crate::progress::{EndSignal, Watched, watch};
 use crate::streams::Streams;
 use piper_transfer::{Destination, Meter, Sizes, Source, TransferError, transfer};
 use pump_files::files::{NamedFile, Opens};
@@ -220,7 +220,7 @@ where
     let Some(watched) = watched else {
         return transfer(rt, source, dest, sizes, meter);
     };
-    let over = Over::new();
+    let over = EndSignal::new();
     let done = &over;
     let (_, moved) = join_mut(
         rt,
