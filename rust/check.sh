@@ -1,7 +1,7 @@
 #!/usr/bin/env bash
 # Tries the cargo package, by cargo alone: its tests and examples, with and without `std`, as clippy and cargo doc see it, packed,
-# in a shared library, with what stands for the library under Miri, under the sanitizer of addresses where the toolchain has it, and
-# under valgrind.
+# in a shared library, over the stand-in that targets without a text get, under the sanitizer of addresses where the toolchain has
+# it, and under valgrind.
 #
 #     rust/check.sh [--install]
 #
@@ -113,6 +113,14 @@ fn main() {
     (cd "$room/above" && offline run --target-dir "$room/target" && offline run --release --target-dir "$room/target")
 }
 
+# A build that wants only what is proved gets one error where it would get the stand-in, and none where not.
+refuses_a_stand_in() {
+    RUSTFLAGS='--cfg piper_only_proved' offline check --target-dir "$room/only" || return
+    ! RUSTFLAGS='--cfg piper_only_proved --cfg piper_stand_in' offline check --target-dir "$room/only" 2> "$room/refused" || return
+    [ "$(grep -c '^error: the proved library of piper is there for' "$room/refused")" -eq 1 ] &&
+        [ "$(grep -c '^error' "$room/refused")" -eq 2 ] # the second is cargo's own
+}
+
 if [ "${1-}" = --install ]; then
     apt-get update > /dev/null && apt-get install -y --no-install-recommends "${packages[@]}" > /dev/null ||
         refuse 'apt-get did not install what is needed'
@@ -153,7 +161,10 @@ holds 'a shared library shows nothing of it' shows_nothing
 holds 'a program links to a dylib' links_to_a_dylib
 
 export PIPER_TEST_CALLS=200000 PIPER_TEST_SHARE=4
-RUSTFLAGS='--cfg miri' tests 'what stands for the library under Miri' offline test "${suites[@]}" --target-dir "$CARGO_TARGET_DIR/miri"
+RUSTFLAGS='--cfg piper_stand_in' tests 'over the stand-in' offline test --target-dir "$CARGO_TARGET_DIR/stand_in"
+RUSTFLAGS='--cfg piper_stand_in -Dwarnings' \
+    holds 'the stand-in without std' offline build --no-default-features --target-dir "$CARGO_TARGET_DIR/stand_in"
+holds 'the stand-in is refused where only what is proved is wanted' refuses_a_stand_in
 if compgen -G "$runtime/librustc-*_rt.asan.a" > /dev/null; then
     RUSTC_BOOTSTRAP=1 RUSTFLAGS=-Zsanitizer=address \
         tests 'under the sanitizer of addresses' offline test "${suites[@]}" --target "$host" --target-dir "$CARGO_TARGET_DIR/asan"

@@ -5,18 +5,21 @@
 //! it is used by one thread at a time, and lent memory is borrowed from the handle that lends it.
 
 mod reading;
-mod turns;
 mod writing;
 
 pub(crate) use reading::ReadEnd;
 pub(crate) use writing::WriteEnd;
 
+use crate::heap;
 use crate::sys::{self, Left, Polled, RawReader, RawWriter, Words};
 use core::ptr::{self, NonNull};
 use core::task::{Poll, RawWakerVTable, Waker};
 
-/// Opens a pipe. `None` says that memory was refused, or that there can be no such capacity.
-pub(crate) fn open(capacity: usize) -> Option<(ReadEnd, WriteEnd)> {
+/// The text that `sys` includes is that of the proved library.
+pub(crate) const IS_PROVED: bool = true;
+
+/// Opens a pipe that can hold at least one byte. Where memory is refused the program ends.
+pub(crate) fn open(capacity: usize) -> (ReadEnd, WriteEnd) {
     let mut reader = RawReader {
         at: ptr::null_mut(),
     };
@@ -25,12 +28,12 @@ pub(crate) fn open(capacity: usize) -> Option<(ReadEnd, WriteEnd)> {
     };
     // SAFETY: both pointers are to values of ours.
     if !unsafe { sys::piper_open_abi_1(capacity, &mut reader, &mut writer) } {
-        return None;
+        heap::end_for_want_of_memory();
     }
-    Some((
+    (
         ReadEnd::new(reader, capacity),
         WriteEnd::new(writer, capacity),
-    ))
+    )
 }
 
 /// An address that a call of the library put at a place of ours.

@@ -4,10 +4,11 @@
 //! All unsafe lines of this module rest on what is proved of the library: it gives back no block twice,
 //! each at the address that it got, and uses none after that.
 
-use alloc::alloc::{alloc, dealloc};
+use alloc::alloc::{alloc, dealloc, handle_alloc_error};
 use core::alloc::Layout;
 use core::mem::{align_of, size_of};
 use core::ptr::NonNull;
+use core::sync::atomic::{AtomicUsize, Ordering};
 
 // The library asks for memory under these names. They stand in a text of their own, since a function
 // under `no_mangle` would be exported by each shared library that a program makes with this crate.
@@ -87,8 +88,23 @@ fn claim_block(size: usize, align: usize) -> Option<NonNull<u8>> {
     Some(block)
 }
 
+/// How many bytes were refused last. Of threads that are refused at once one may name another's.
+static REFUSED: AtomicUsize = AtomicUsize::new(0);
+
+/// Ends the program as an allocation does that was refused. The library gave back what it got before.
+#[cold]
+pub(crate) fn end_for_want_of_memory() -> ! {
+    match Layout::array::<u8>(REFUSED.load(Ordering::Relaxed)) {
+        Ok(layout) => handle_alloc_error(layout),
+        Err(_) => panic!("capacity is too large"),
+    }
+}
+
 extern "C" fn claim(size: usize, align: usize) -> Claimed {
     let block = claim_block(size, align);
+    if block.is_none() {
+        REFUSED.store(size, Ordering::Relaxed);
+    }
     Claimed {
         is_some: block.is_some(),
         at: block.unwrap_or(NonNull::dangling()),

@@ -1,7 +1,7 @@
 //! A bounded pipe of bytes between one reader and one writer, for threads and for tasks.
 //!
-//! This crate takes the place of `piper` 0.2.5: it has the same calls under the same names. It needs
-//! Linux, on x86-64 (the level `x86-64-v2`, with SSE4.2) or on aarch64, and no build script.
+//! This crate takes the place of `piper` 0.2.5: it has the same calls under the same names. It is proved
+//! for the targets of [`IS_PROVED`]; elsewhere a stand-in is built. It has no build script.
 //!
 //! - **Proved** is the source of the library that carries the bytes, for all orders in which two
 //!   threads take their steps: bytes come in order, none is lost, doubled or read unset, no
@@ -55,11 +55,16 @@
 //! - The handles have a `Debug` that prints counts and no bytes.
 //! - A pipe takes three blocks of memory; with 0.2.5 it takes two.
 //!
-//! # Under Miri and sanitizers
+//! # The stand-in
 //!
-//! Miri runs no assembler's text, so a queue behind a lock, which is not proved, stands for the library
-//! there. It lends all room at once; in all else the tests of this crate pass over it, too. The
-//! sanitizer of addresses and valgrind take the text as it is. The sanitizer of threads doesn't see the
+//! Where there is no text of the library, as for WebAssembly or 32 bits, and under Miri, which runs none, a
+//! queue that both sides use in turn stands for the library. It is not proved; all tests of this crate pass
+//! over it, too. It has the bytes of a pipe up to three times. Each call takes a lock, and without `std`
+//! spins: there no interrupt may use a side while the code that it stops uses the other.
+//!
+//! # Under sanitizers
+//!
+//! The sanitizer of addresses and valgrind take the text as it is. The sanitizer of threads doesn't see the
 //! text's accesses: it reports a race where bytes cross a pipe. The text has no unwind tables: a stack
 //! that is taken below it, as in your global allocator, ends there.
 
@@ -69,25 +74,64 @@
 
 extern crate alloc;
 
+/// Builds each item of the first list for targets that have a text of the library, and each of the
+/// second list for all others. Miri runs no text, and tests of the stand-in want none.
+macro_rules! by_target {
+    ({ $($proved:item)* } else { $($other:item)* }) => {
+        by_target! {
+            @all(
+                any(
+                    all(target_arch = "x86_64", target_os = "linux"),
+                    all(target_arch = "aarch64", target_endian = "little", target_os = "linux"),
+                ),
+                target_pointer_width = "64",
+                not(any(miri, piper_stand_in)),
+            ),
+            { $($proved)* } else { $($other)* }
+        }
+    };
+    (@$has_text:meta, { $($proved:item)* } else { $($other:item)* }) => {
+        $(#[cfg($has_text)] $proved)*
+        $(#[cfg(not($has_text))] $other)*
+    };
+}
+
 mod copies;
 mod draws;
-#[cfg(not(miri))]
-#[allow(unsafe_code)]
-mod ends;
-#[cfg(miri)]
-#[path = "stand_in.rs"]
-mod ends;
-#[cfg(not(miri))]
-#[allow(unsafe_code)]
-mod heap;
 mod reader;
-#[cfg(not(miri))]
 #[allow(unsafe_code)]
-mod sys;
+mod turns;
 mod writer;
+
+by_target! {
+    {
+        #[allow(unsafe_code)]
+        mod ends;
+        #[allow(unsafe_code)]
+        mod heap;
+        #[allow(unsafe_code)]
+        mod sys;
+    } else {
+        #[path = "stand_in.rs"]
+        mod ends;
+
+        #[cfg(piper_only_proved)]
+        compile_error!(
+            "the proved library of piper is there for Linux on x86_64 and on aarch64 (64 bits, little endian); this target \
+             would get a stand-in that is not proved, which `--cfg piper_only_proved` refuses"
+        );
+    }
+}
 
 pub use reader::Reader;
 pub use writer::Writer;
+
+/// Whether this build has the proved library. It is `false` for a target that has no text of the library,
+/// and under Miri: there a queue in Rust stands for it, which is tested and not proved.
+///
+/// A program that wants no stand-in has a line `const _: () = assert!(piper::IS_PROVED);`, or is built with
+/// `RUSTFLAGS="--cfg piper_only_proved"`: then a target that would get a stand-in is an error.
+pub const IS_PROVED: bool = ends::IS_PROVED;
 
 /// Makes a pipe that holds up to `cap` bytes, and returns both of its sides.
 ///
@@ -104,13 +148,11 @@ pub fn pipe(cap: usize) -> (Reader, Writer) {
     assert!(cap > 0, "capacity must be positive");
     assert!(cap.checked_mul(2).is_some(), "capacity is too large");
     let (of_reader, of_writer) = draws::Draws::pair();
-    match ends::open(cap) {
-        Some((reader, writer)) => (
-            Reader::new(reader, of_reader),
-            Writer::new(writer, of_writer),
-        ),
-        None => refused(cap),
-    }
+    let (reader, writer) = ends::open(cap);
+    (
+        Reader::new(reader, of_reader),
+        Writer::new(writer, of_writer),
+    )
 }
 
 /// Both handles can go to another thread and be shared, with and without `std`.
@@ -119,11 +161,3 @@ const _: fn() = || {
     is_shared::<Reader>();
     is_shared::<Writer>();
 };
-
-/// Ends the program for want of memory.
-fn refused(cap: usize) -> ! {
-    match core::alloc::Layout::array::<u8>(cap) {
-        Ok(layout) => alloc::alloc::handle_alloc_error(layout),
-        Err(_) => panic!("capacity is too large"),
-    }
-}

@@ -13,31 +13,10 @@ macro_rules! library_for {
     };
 }
 
-#[cfg(all(
-    target_arch = "x86_64",
-    target_os = "linux",
-    target_pointer_width = "64"
-))]
+#[cfg(target_arch = "x86_64")]
 library_for!("x86_64", raw, att_syntax);
-#[cfg(all(
-    target_arch = "aarch64",
-    target_os = "linux",
-    target_pointer_width = "64",
-    target_endian = "little"
-))]
+#[cfg(target_arch = "aarch64")]
 library_for!("aarch64", raw);
-#[cfg(not(any(all(
-    any(
-        target_arch = "x86_64",
-        all(target_arch = "aarch64", target_endian = "little")
-    ),
-    target_os = "linux",
-    target_pointer_width = "64"
-))))]
-compile_error!(
-    "the library of this piper is compiled for Linux on x86_64 and on aarch64 (64 bits, little endian), and for no other target"
-);
-
 /// Two words that a side leaves while it waits. Here they are the data and the vtable of a waker;
 /// a null vtable says that there are none.
 #[repr(C)]

@@ -127,7 +127,6 @@ fn room_is_lent_and_published() {
 }
 
 #[test]
-#[cfg_attr(miri, ignore = "what stands for the library lends as much as there is")]
 fn the_first_loans_of_a_large_pipe_are_small() {
     let (_reader, mut writer) = pipe(200_000);
     assert_eq!(writer.write_buf(131_072).len(), 4_096);

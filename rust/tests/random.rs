@@ -296,7 +296,7 @@ fn play(capacity: usize, calls: usize, seed: usize) {
 }
 
 #[test]
-#[cfg_attr(miri, ignore = "the queue foretells how much the library lends")]
+#[cfg_attr(miri, ignore = "it would take hours")]
 fn any_calls_do_what_a_queue_does() {
     let mut capacities: Vec<usize> = (1..=20).collect();
     capacities.extend(&[

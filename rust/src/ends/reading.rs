@@ -1,8 +1,8 @@
 //! The side that reads.
 
-use super::turns::Turns;
 use super::{address, call, found, wake, words_of};
 use crate::sys::{self, RawReader};
+use crate::turns::Turns;
 use core::ptr::{self, NonNull};
 use core::slice;
 use core::task::{Poll, Waker};

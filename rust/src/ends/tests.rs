@@ -53,7 +53,7 @@ fn no_words_are_no_waker() {
 
 #[test]
 fn a_loan_ends_with_its_publish_and_before_any_other_call() {
-    let (_reader, mut writer) = open(64).unwrap();
+    let (_reader, mut writer) = open(64);
     assert!(!writer.has_lent());
     writer.lend(3);
     assert!(writer.has_lent());
@@ -81,7 +81,7 @@ fn a_loan_ends_with_its_publish_and_before_any_other_call() {
 #[test]
 #[should_panic(expected = "cannot publish more bytes than `write_buf` lent")]
 fn no_more_is_published_than_was_lent() {
-    let (_reader, mut writer) = open(64).unwrap();
+    let (_reader, mut writer) = open(64);
     writer.lend(3);
     writer.publish(4);
 }
@@ -89,7 +89,7 @@ fn no_more_is_published_than_was_lent() {
 #[test]
 #[should_panic(expected = "a source gave more bytes than there was room for")]
 fn no_more_is_copied_than_was_lent() {
-    let (_reader, mut writer) = open(64).unwrap();
+    let (_reader, mut writer) = open(64);
     writer.lend_to_copy(3);
     writer.lender().next(4, 3);
 }
@@ -97,7 +97,7 @@ fn no_more_is_copied_than_was_lent() {
 #[test]
 #[should_panic(expected = "cannot publish more bytes than `write_buf` lent")]
 fn what_a_copy_was_lent_is_not_left_for_a_publish() {
-    let (_reader, mut writer) = open(64).unwrap();
+    let (_reader, mut writer) = open(64);
     writer.lend(8);
     writer.lend_to_copy(3);
     writer.publish(1);

@@ -1,5 +1,8 @@
 //! A value that calls through a shared reference use in turn, since the library lets one thread at
-//! a time use a handle.
+//! a time use a handle. In place of the library it is what both sides of a pipe share.
+
+// The stand-in has no use for `get_mut`.
+#![allow(dead_code)]
 
 /// With `std` they wait for each other by a lock.
 #[cfg(feature = "std")]
