@@ -81,10 +81,8 @@ def repeated():
     text = without_comments(REPEATED.read_text())
     structs = rust_structs(text)
     calls = {}
-    for link, name, given, result in re.findall(
-        r'(?:#\[link_name = "(\w+)"\]\s*)?pub\(crate\) fn (\w+)\((.*?)\)\s*(?:->\s*(\w+))?;', text, re.S
-    ):
-        calls[link or name] = rust_call(given, result, structs)
+    for name, given, result in re.findall(r"pub\(crate\) fn (\w+)\((.*?)\)\s*(?:->\s*(\w+))?;", text, re.S):
+        calls[f"piper_{name}"] = rust_call(given, result, structs)
     return calls
 
 
@@ -134,7 +132,9 @@ def differences():
             if name in others and others[name] != calls[name]:
                 yield f"{name} takes and gives {calls[name]}, and {others[name]} in {where}"
     for text in TEXTS:
-        defined = {*re.findall(r"^\t\.globl\t(\w+)", text.read_text(), re.M)}
+        # A text has its exports under names of its own, and that for Linux also under those of the header.
+        found = re.findall(r"^\t\.(?:globl|weak)\t_?piper_(?:[0-9a-f]{12}_)?(\w+)", text.read_text(), re.M)
+        defined = {f"piper_{name}" for name in found}
         for name in sorted(defined ^ {*calls}):
             yield f"{name} stands in {'crates/piper_c' if name in calls else text.name} alone"
     codes, of_c, of_rust = numbers_of_outcomes()

@@ -27,7 +27,7 @@ pub(crate) fn open(capacity: usize) -> (ReadEnd, WriteEnd) {
         at: ptr::null_mut(),
     };
     // SAFETY: both pointers are to values of ours.
-    if !unsafe { sys::piper_open_abi_1(capacity, &mut reader, &mut writer) } {
+    if !unsafe { sys::open_abi_1(capacity, &mut reader, &mut writer) } {
         heap::end_for_want_of_memory();
     }
     (

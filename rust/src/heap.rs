@@ -10,33 +10,78 @@ use core::mem::{align_of, size_of};
 use core::ptr::NonNull;
 use core::sync::atomic::{AtomicUsize, Ordering};
 
-// The library asks for memory under these names. They stand in a text of their own, since a function
-// under `no_mangle` would be exported by each shared library that a program makes with this crate.
-macro_rules! jump {
-    ($jump:literal) => {
-        core::arch::global_asm!(
-            ".pushsection .text.piper_heap, \"ax\", %progbits",
-            ".globl piper_heap_alloc",
-            ".hidden piper_heap_alloc",
-            ".type piper_heap_alloc, %function",
-            "piper_heap_alloc:",
-            concat!($jump, " {claim}"),
-            ".globl piper_heap_dealloc",
-            ".hidden piper_heap_dealloc",
-            ".type piper_heap_dealloc, %function",
-            "piper_heap_dealloc:",
-            concat!($jump, " {free}"),
-            ".popsection",
-            claim = sym claim,
-            free = sym free,
-        );
+/// What an assembler is told before a function that the linker is to see under a name of the text's own,
+/// where other objects may have the same.
+#[cfg(target_os = "linux")]
+macro_rules! begin {
+    ($name:expr) => {
+        concat!(
+            ".pushsection .text.", $name, ", \"ax\", %progbits\n",
+            ".weak ", $name, "\n.hidden ", $name, "\n.type ", $name, ", %function\n", $name, ":"
+        )
+    };
+}
+#[cfg(target_os = "macos")]
+macro_rules! begin {
+    ($name:expr) => {
+        concat!(
+            ".section __TEXT,__text,regular,pure_instructions\n.p2align 2\n.globl _", $name,
+            "\n.weak_definition _", $name, "\n.private_extern _", $name, "\n_", $name, ":"
+        )
+    };
+}
+#[cfg(target_os = "windows")]
+macro_rules! begin {
+    ($name:expr) => {
+        concat!(
+            ".section .text$", $name, ", \"xr\", discard, ", $name, "\n.globl ", $name, "\n", $name, ":"
+        )
     };
 }
 
+/// A jump to a function of ours, on each processor.
 #[cfg(target_arch = "x86_64")]
-jump!("jmp");
+macro_rules! jump {
+    ($to:literal) => {
+        concat!("jmp {", $to, "}")
+    };
+}
 #[cfg(target_arch = "aarch64")]
-jump!("b");
+macro_rules! jump {
+    ($to:literal) => {
+        concat!("b {", $to, "}")
+    };
+}
+
+/// What ends it.
+#[cfg(target_os = "linux")]
+macro_rules! end {
+    () => {
+        ".popsection"
+    };
+}
+#[cfg(not(target_os = "linux"))]
+macro_rules! end {
+    () => {
+        ".text"
+    };
+}
+
+// The library asks for memory under these names. They stand in a text of their own, since a function
+// under `no_mangle` would be exported by each shared library that a program makes with this crate. Where
+// objects were joined before they are assembled, the text may be here twice.
+core::arch::global_asm!(
+    concat!(".ifndef ", own!(), "heap_is_here\n.set ", own!(), "heap_is_here, 1"),
+    begin!(concat!(own!(), "heap_alloc")),
+    jump!("claim"),
+    end!(),
+    begin!(concat!(own!(), "heap_dealloc")),
+    jump!("free"),
+    end!(),
+    ".endif",
+    claim = sym claim,
+    free = sym free,
+);
 
 /// A block, if there was memory.
 #[repr(C)]
@@ -100,23 +145,31 @@ pub(crate) fn end_for_want_of_memory() -> ! {
     }
 }
 
-extern "C" fn claim(size: usize, align: usize) -> Claimed {
-    let block = claim_block(size, align);
-    if block.is_none() {
-        REFUSED.store(size, Ordering::Relaxed);
-    }
-    Claimed {
-        is_some: block.is_some(),
-        at: block.unwrap_or(NonNull::dangling()),
-    }
+macro_rules! called {
+    ($abi:literal;) => {
+        extern $abi fn claim(size: usize, align: usize) -> Claimed {
+            let block = claim_block(size, align);
+            if block.is_none() {
+                REFUSED.store(size, Ordering::Relaxed);
+            }
+            Claimed {
+                is_some: block.is_some(),
+                at: block.unwrap_or(NonNull::dangling()),
+            }
+        }
+
+        /// # Safety
+        ///
+        /// `claim` gave this block, and it wasn't given back since.
+        unsafe extern $abi fn free(block: NonNull<u8>) {
+            #[cfg(piper_tsan)]
+            crate::tsan::all_is_done();
+            // SAFETY: `claim` wrote the head there, and nobody writes there after it.
+            let Head { whole, begin } = unsafe { block.cast::<Head>().sub(1).read() };
+            // SAFETY: that is where the memory begins, which was asked for with this layout.
+            unsafe { dealloc(begin.as_ptr(), whole) };
+        }
+    };
 }
 
-/// # Safety
-///
-/// `claim` gave this block, and it wasn't given back since.
-unsafe extern "C" fn free(block: NonNull<u8>) {
-    // SAFETY: `claim` wrote the head there, and nobody writes there after it.
-    let Head { whole, begin } = unsafe { block.cast::<Head>().sub(1).read() };
-    // SAFETY: that is where the memory begins, which was asked for with this layout.
-    unsafe { dealloc(begin.as_ptr(), whole) };
-}
+by_convention! { called! }

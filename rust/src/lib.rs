@@ -65,8 +65,8 @@
 //! # Under sanitizers
 //!
 //! The sanitizer of addresses and valgrind take the text as it is. The sanitizer of threads doesn't see the
-//! text's accesses: it reports a race where bytes cross a pipe. The text has no unwind tables: a stack
-//! that is taken below it, as in your global allocator, ends there.
+//! text's accesses, and would report a race where bytes cross a pipe: with `--cfg piper_tsan` beside
+//! `-Zsanitizer=thread` this crate tells it of each call.
 
 #![cfg_attr(not(feature = "std"), no_std)]
 #![deny(unsafe_code)]
@@ -81,8 +81,8 @@ macro_rules! by_target {
         by_target! {
             @all(
                 any(
-                    all(target_arch = "x86_64", target_os = "linux"),
-                    all(target_arch = "aarch64", target_endian = "little", target_os = "linux"),
+                    all(target_arch = "x86_64", any(target_os = "linux", target_os = "windows", target_os = "macos")),
+                    all(target_arch = "aarch64", target_endian = "little", any(target_os = "linux", target_os = "macos")),
                 ),
                 target_pointer_width = "64",
                 not(any(miri, piper_stand_in)),
@@ -95,6 +95,11 @@ macro_rules! by_target {
         $(#[cfg(not($has_text))] $other)*
     };
 }
+
+#[macro_use]
+mod convention;
+#[macro_use]
+mod names;
 
 mod copies;
 mod draws;
@@ -111,14 +116,17 @@ by_target! {
         mod heap;
         #[allow(unsafe_code)]
         mod sys;
+        #[cfg(piper_tsan)]
+        #[allow(unsafe_code)]
+        mod tsan;
     } else {
         #[path = "stand_in.rs"]
         mod ends;
 
         #[cfg(piper_only_proved)]
         compile_error!(
-            "the proved library of piper is there for Linux on x86_64 and on aarch64 (64 bits, little endian); this target \
-             would get a stand-in that is not proved, which `--cfg piper_only_proved` refuses"
+            "the proved library of piper is there for x86_64 with Linux, Windows or macOS and for aarch64 with Linux or macOS \
+             (64 bits, little endian); this target would get a stand-in, which `--cfg piper_only_proved` refuses"
         );
     }
 }

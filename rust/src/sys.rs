@@ -3,20 +3,28 @@
 
 use core::ffi::c_void;
 
-/// Includes the text for a target. Its braces are no arguments.
+/// Includes the text for a target, whose symbols keep names of their own. Its braces are no arguments.
 macro_rules! library_for {
     ($target:literal, $($option:ident),*) => {
         core::arch::global_asm!(
-            include_str!(concat!("../lib/", $target, "-unknown-linux-gnu.s")),
+            ".set piper_own_names, 1",
+            include_str!(concat!("../lib/", $target, ".s")),
             options($($option),*)
         );
     };
 }
 
-#[cfg(target_arch = "x86_64")]
-library_for!("x86_64", raw, att_syntax);
-#[cfg(target_arch = "aarch64")]
-library_for!("aarch64", raw);
+#[cfg(all(target_arch = "x86_64", target_os = "linux"))]
+library_for!("x86_64-unknown-linux-gnu", raw, att_syntax);
+#[cfg(all(target_arch = "aarch64", target_os = "linux"))]
+library_for!("aarch64-unknown-linux-gnu", raw);
+#[cfg(target_os = "windows")]
+library_for!("x86_64-pc-windows", raw, att_syntax);
+#[cfg(all(target_arch = "x86_64", target_os = "macos"))]
+library_for!("x86_64-apple-darwin", raw, att_syntax);
+#[cfg(all(target_arch = "aarch64", target_os = "macos"))]
+library_for!("aarch64-apple-darwin", raw);
+
 /// Two words that a side leaves while it waits. Here they are the data and the vtable of a waker;
 /// a null vtable says that there are none.
 #[repr(C)]
@@ -85,27 +93,35 @@ pub(crate) struct Left {
     pub(crate) mine: Words,
 }
 
-/// Declares functions of the library.
-#[cfg(not(feature = "dylib"))]
-macro_rules! library {
-    ($($(#[cfg($cfg:meta)])? pub(crate) fn $name:ident($($value:ident: $of:ty),* $(,)?) $(-> $result:ty)?;)*) => {
-        extern "C" {
-            $($(#[cfg($cfg)])? pub(crate) fn $name($($value: $of),*) $(-> $result)?;)*
+/// Declares functions of the library, under the names that they have in its text.
+macro_rules! foreign {
+    ($abi:literal; $($(#[cfg($cfg:meta)])? pub($seen:ident) fn $name:ident($($value:ident: $of:ty),* $(,)?) $(-> $result:ty)?;)*) => {
+        extern $abi {
+            $(
+                $(#[cfg($cfg)])?
+                #[link_name = concat!(own!(), stringify!($name))]
+                pub($seen) fn $name($($value: $of),*) $(-> $result)?;
+            )*
         }
     };
 }
 
+/// Declares functions of the library.
+#[cfg(not(any(feature = "dylib", piper_tsan)))]
+macro_rules! library {
+    ($($declared:tt)*) => { by_convention! { foreign! $($declared)* } };
+}
+
 /// Declares functions of the library, and makes one of ours of each. Theirs are hidden: what a program takes
-/// inline of this crate doesn't find them in a shared library of Rust, a `dylib`, which shows ours.
-#[cfg(feature = "dylib")]
+/// inline of this crate doesn't find them in a shared library of Rust, a `dylib`, which shows ours. Ours
+/// also tell the sanitizer of threads of each call.
+#[cfg(any(feature = "dylib", piper_tsan))]
 macro_rules! library {
     ($($(#[cfg($cfg:meta)])? pub(crate) fn $name:ident($($value:ident: $of:ty),* $(,)?) $(-> $result:ty)?;)*) => {
         mod hidden {
             use super::*;
 
-            extern "C" {
-                $($(#[cfg($cfg)])? pub(super) fn $name($($value: $of),*) $(-> $result)?;)*
-            }
+            by_convention! { foreign! $($(#[cfg($cfg)])? pub(super) fn $name($($value: $of),*) $(-> $result)?;)* }
         }
         $(
             /// # Safety
@@ -113,7 +129,9 @@ macro_rules! library {
             /// The call is one that the header allows.
             $(#[cfg($cfg)])?
             #[inline(never)]
-            pub(crate) unsafe extern "C" fn $name($($value: $of),*) $(-> $result)? {
+            pub(crate) unsafe fn $name($($value: $of),*) $(-> $result)? {
+                #[cfg(piper_tsan)]
+                let _told = crate::tsan::Call::begin(stringify!($name));
                 // SAFETY: as above.
                 unsafe { hidden::$name($($value),*) }
             }
@@ -122,39 +140,39 @@ macro_rules! library {
 }
 
 library! {
-    pub(crate) fn piper_open_abi_1(
+    pub(crate) fn open_abi_1(
         capacity: usize,
         reader: *mut RawReader,
         writer: *mut RawWriter,
     ) -> bool;
 
-    pub(crate) fn piper_reader_look(reader: *mut RawReader, at: *mut *const u8) -> Seen;
-    pub(crate) fn piper_reader_poll(reader: *mut RawReader, mine: Words) -> Polled;
-    pub(crate) fn piper_reader_peek(reader: *mut RawReader, at: *mut *const u8) -> usize;
-    pub(crate) fn piper_reader_consume(reader: *mut RawReader, n: usize) -> Words;
-    pub(crate) fn piper_reader_read(reader: *mut RawReader, to: *mut u8, len: usize) -> Moved;
-    pub(crate) fn piper_reader_len(reader: *mut RawReader) -> usize;
-    pub(crate) fn piper_reader_is_closed(reader: *mut RawReader) -> bool;
-    pub(crate) fn piper_reader_drop(reader: *mut RawReader) -> Left;
+    pub(crate) fn reader_look(reader: *mut RawReader, at: *mut *const u8) -> Seen;
+    pub(crate) fn reader_poll(reader: *mut RawReader, mine: Words) -> Polled;
+    pub(crate) fn reader_peek(reader: *mut RawReader, at: *mut *const u8) -> usize;
+    pub(crate) fn reader_consume(reader: *mut RawReader, n: usize) -> Words;
+    pub(crate) fn reader_read(reader: *mut RawReader, to: *mut u8, len: usize) -> Moved;
+    pub(crate) fn reader_len(reader: *mut RawReader) -> usize;
+    pub(crate) fn reader_is_closed(reader: *mut RawReader) -> bool;
+    pub(crate) fn reader_drop(reader: *mut RawReader) -> Left;
 
-    pub(crate) fn piper_writer_look(writer: *mut RawWriter) -> u32;
-    pub(crate) fn piper_writer_poll(writer: *mut RawWriter, mine: Words) -> Polled;
-    pub(crate) fn piper_writer_lend(writer: *mut RawWriter, max: usize, at: *mut *mut u8) -> usize;
+    pub(crate) fn writer_look(writer: *mut RawWriter) -> u32;
+    pub(crate) fn writer_poll(writer: *mut RawWriter, mine: Words) -> Polled;
+    pub(crate) fn writer_lend(writer: *mut RawWriter, max: usize, at: *mut *mut u8) -> usize;
     #[cfg(feature = "std")]
-    pub(crate) fn piper_writer_offer(writer: *mut RawWriter, max: usize, at: *mut *mut u8) -> Seen;
-    pub(crate) fn piper_writer_publish(writer: *mut RawWriter, at: *mut u8, n: usize) -> Words;
-    pub(crate) fn piper_writer_next(
+    pub(crate) fn writer_offer(writer: *mut RawWriter, max: usize, at: *mut *mut u8) -> Seen;
+    pub(crate) fn writer_publish(writer: *mut RawWriter, at: *mut u8, n: usize) -> Words;
+    pub(crate) fn writer_next(
         writer: *mut RawWriter,
         at: *mut u8,
         n: usize,
         max: usize,
         next: *mut *mut u8,
     ) -> Next;
-    pub(crate) fn piper_writer_reclaim(writer: *mut RawWriter, at: *mut u8);
-    pub(crate) fn piper_writer_write(writer: *mut RawWriter, from: *const u8, len: usize) -> Moved;
-    pub(crate) fn piper_writer_len(writer: *mut RawWriter) -> usize;
-    pub(crate) fn piper_writer_is_closed(writer: *mut RawWriter) -> bool;
+    pub(crate) fn writer_reclaim(writer: *mut RawWriter, at: *mut u8);
+    pub(crate) fn writer_write(writer: *mut RawWriter, from: *const u8, len: usize) -> Moved;
+    pub(crate) fn writer_len(writer: *mut RawWriter) -> usize;
+    pub(crate) fn writer_is_closed(writer: *mut RawWriter) -> bool;
     #[cfg(feature = "std")]
-    pub(crate) fn piper_writer_close(writer: *mut RawWriter) -> Left;
-    pub(crate) fn piper_writer_drop(writer: *mut RawWriter) -> Left;
+    pub(crate) fn writer_close(writer: *mut RawWriter) -> Left;
+    pub(crate) fn writer_drop(writer: *mut RawWriter) -> Left;
 }

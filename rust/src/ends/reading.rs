@@ -38,7 +38,7 @@ pub(crate) struct ReadEnd {
 fn peek(raw: &mut RawReader) -> Piece {
     let mut at = ptr::null();
     // SAFETY: the handle is open, whoever has it mutably has it alone, and `at` is a value of ours.
-    let len = unsafe { sys::piper_reader_peek(raw, &mut at) };
+    let len = unsafe { sys::reader_peek(raw, &mut at) };
     // SAFETY: the call gave this address.
     let at = unsafe { address(at as *mut u8) };
     Piece { at, len }
@@ -80,7 +80,7 @@ impl ReadEnd {
         // it happen, takes it.
         let mut at = ptr::null();
         // SAFETY: the handle is open and ours alone, and `at` is a value of ours.
-        let seen = unsafe { sys::piper_reader_look(self.raw.get_mut(), &mut at) };
+        let seen = unsafe { sys::reader_look(self.raw.get_mut(), &mut at) };
         match found(seen.outcome) {
             Poll::Ready(true) => {
                 // SAFETY: a look that found a byte gave this address.
@@ -99,7 +99,7 @@ impl ReadEnd {
         let mine = words_of(waker.clone());
         self.known = None;
         // SAFETY: the handle is open and ours alone, and the words are given away.
-        unsafe { sys::piper_reader_poll(self.raw.get_mut(), mine) }.settle()
+        unsafe { sys::reader_poll(self.raw.get_mut(), mine) }.settle()
     }
 
     /// The known bytes in one piece.
@@ -148,7 +148,7 @@ impl ReadEnd {
         });
         self.goes_on(n);
         // SAFETY: the handle is open and ours alone.
-        wake(unsafe { sys::piper_reader_consume(self.raw.get_mut(), n) });
+        wake(unsafe { sys::reader_consume(self.raw.get_mut(), n) });
     }
 
     /// Counts bytes that are taken. At the buffer's end known bytes may come next that lie at its
@@ -171,7 +171,7 @@ impl ReadEnd {
         self.known = None;
         // SAFETY: the handle is open and ours alone, and the place is ours for the call.
         let moved =
-            unsafe { sys::piper_reader_read(self.raw.get_mut(), place.as_mut_ptr(), place.len()) };
+            unsafe { sys::reader_read(self.raw.get_mut(), place.as_mut_ptr(), place.len()) };
         self.goes_on(moved.count);
         wake(moved.wake);
         moved.count
@@ -180,7 +180,7 @@ impl ReadEnd {
     pub(crate) fn len(&self) -> usize {
         // SAFETY: the handle is open, and other queries wait for their turn.
         self.raw
-            .take_turn(|raw| unsafe { sys::piper_reader_len(raw) })
+            .take_turn(|raw| unsafe { sys::reader_len(raw) })
     }
 
     pub(crate) fn capacity(&self) -> usize {
@@ -190,7 +190,7 @@ impl ReadEnd {
     pub(crate) fn is_closed(&self) -> bool {
         // SAFETY: as in `len`.
         self.raw
-            .take_turn(|raw| unsafe { sys::piper_reader_is_closed(raw) })
+            .take_turn(|raw| unsafe { sys::reader_is_closed(raw) })
     }
 }
 
@@ -198,7 +198,7 @@ impl Drop for ReadEnd {
     fn drop(&mut self) {
         self.known = None;
         // SAFETY: the handle is open and ours alone, and this is the last call with it.
-        let left = unsafe { sys::piper_reader_drop(self.raw.get_mut()) };
+        let left = unsafe { sys::reader_drop(self.raw.get_mut()) };
         let (other, _mine) = left.wakers();
         call(other);
     }

@@ -61,7 +61,7 @@ impl Lender {
         self.left -= n;
         // SAFETY: the handle is open, whoever has it mutably has it alone, the room is that of its
         // last lend, of which no slice is left, and `n` is at most its length, as `left` was.
-        wake(unsafe { sys::piper_writer_publish(&mut self.raw, at.as_ptr(), n) });
+        wake(unsafe { sys::writer_publish(&mut self.raw, at.as_ptr(), n) });
     }
 
     /// Lends what is left once more. A loan ends with each call; what was left of it lies at the front of
@@ -81,7 +81,7 @@ impl Lender {
         let mut next_at = ptr::null_mut();
         // SAFETY: as in `publish`, with `n` at most the length of the loan; and `next_at` is a value of ours.
         let next =
-            unsafe { sys::piper_writer_next(&mut self.raw, at.as_ptr(), n, max, &mut next_at) };
+            unsafe { sys::writer_next(&mut self.raw, at.as_ptr(), n, max, &mut next_at) };
         // SAFETY: `next` gave this address.
         let at = unsafe { address(next_at) };
         self.lends(Loan { at, len: next.len }, 0);
@@ -102,7 +102,7 @@ impl Lender {
     fn ask(&mut self, max: usize) -> Loan {
         let mut at = ptr::null_mut();
         // SAFETY: the handle is open, whoever has it mutably has it alone, and `at` is a value of ours.
-        let len = unsafe { sys::piper_writer_lend(&mut self.raw, max, &mut at) };
+        let len = unsafe { sys::writer_lend(&mut self.raw, max, &mut at) };
         // SAFETY: the lend gave this address.
         let at = unsafe { address(at) };
         Loan { at, len }
@@ -114,7 +114,7 @@ impl Lender {
         if let Some(Loan { at, .. }) = self.loan.take() {
             // SAFETY: the handle is open, whoever has it mutably has it alone, and the room is that of
             // its last lend, of which no slice is left.
-            unsafe { sys::piper_writer_reclaim(&mut self.raw, at.as_ptr()) };
+            unsafe { sys::writer_reclaim(&mut self.raw, at.as_ptr()) };
         }
         &mut self.raw
     }
@@ -138,7 +138,7 @@ impl WriteEnd {
     pub(crate) fn poll(&mut self, waker: &Waker) -> Poll<bool> {
         // As for the reader.
         // SAFETY: the handle is open and ours alone.
-        match found(unsafe { sys::piper_writer_look(self.free()) }) {
+        match found(unsafe { sys::writer_look(self.free()) }) {
             Poll::Ready(found) => Poll::Ready(found),
             Poll::Pending => self.leave(waker),
         }
@@ -150,7 +150,7 @@ impl WriteEnd {
     pub(crate) fn offer(&mut self, waker: &Waker, max: usize) -> Poll<bool> {
         let mut at = ptr::null_mut();
         // SAFETY: the handle is open and ours alone, and `at` is a value of ours.
-        let seen = unsafe { sys::piper_writer_offer(self.free(), max, &mut at) };
+        let seen = unsafe { sys::writer_offer(self.free(), max, &mut at) };
         match found(seen.outcome) {
             Poll::Ready(true) => {
                 // SAFETY: an offer of room gave this address.
@@ -168,7 +168,7 @@ impl WriteEnd {
     fn leave(&mut self, waker: &Waker) -> Poll<bool> {
         let mine = words_of(waker.clone());
         // SAFETY: the handle is open and ours alone, and the words are given away.
-        unsafe { sys::piper_writer_poll(self.free(), mine) }.settle()
+        unsafe { sys::writer_poll(self.free(), mine) }.settle()
     }
 
     /// As `leave`; and where there is room now, it lends some to a copy.
@@ -243,7 +243,7 @@ impl WriteEnd {
     pub(crate) fn write(&mut self, bytes: &[u8]) -> usize {
         // SAFETY: the handle is open and ours alone, no slice of lent room is left, and the bytes are
         // only read.
-        let moved = unsafe { sys::piper_writer_write(self.free(), bytes.as_ptr(), bytes.len()) };
+        let moved = unsafe { sys::writer_write(self.free(), bytes.as_ptr(), bytes.len()) };
         wake(moved.wake);
         moved.count
     }
@@ -251,7 +251,7 @@ impl WriteEnd {
     pub(crate) fn len(&self) -> usize {
         // SAFETY: the handle is open, and other queries wait for their turn.
         self.raw
-            .take_turn(|lender| unsafe { sys::piper_writer_len(lender.free()) })
+            .take_turn(|lender| unsafe { sys::writer_len(lender.free()) })
     }
 
     pub(crate) fn capacity(&self) -> usize {
@@ -261,14 +261,14 @@ impl WriteEnd {
     pub(crate) fn is_closed(&self) -> bool {
         // SAFETY: as in `len`.
         self.raw
-            .take_turn(|lender| unsafe { sys::piper_writer_is_closed(lender.free()) })
+            .take_turn(|lender| unsafe { sys::writer_is_closed(lender.free()) })
     }
 
     /// Closes the pipe for good, and wakes both sides.
     #[cfg(feature = "std")]
     pub(crate) fn close(&mut self) {
         // SAFETY: the handle is open and ours alone, and no slice of lent room is left.
-        let left = unsafe { sys::piper_writer_close(self.free()) };
+        let left = unsafe { sys::writer_close(self.free()) };
         let (other, mine) = left.wakers();
         call(other);
         call(mine);
@@ -278,7 +278,7 @@ impl WriteEnd {
 impl Drop for WriteEnd {
     fn drop(&mut self) {
         // SAFETY: the handle is open and ours alone, and this is the last call with it.
-        let left = unsafe { sys::piper_writer_drop(self.raw.get_mut().free()) };
+        let left = unsafe { sys::writer_drop(self.raw.get_mut().free()) };
         let (other, _mine) = left.wakers();
         call(other);
     }

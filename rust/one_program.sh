@@ -1,0 +1,151 @@
+#!/usr/bin/env bash
+# Tries that one program can have several copies of the package: two versions of it, two with the same text, as they are and optimized
+# as one unit; two static libraries with other features; and a static library beside that of C.
+#
+#     rust/one_program.sh
+#
+# It needs cargo, gcc, make, and the sources of other packages as for check.sh. The last line is 'one program: N passed, M failed'.
+set -uo pipefail
+here=$(cd "$(dirname "$0")" && pwd)
+sources=${CARGO_SOURCES:-/usr/share/cargo/registry}
+room=$(mktemp -d)
+trap 'rm -rf "$room"' EXIT
+passed=0
+failed=0
+cd "$room"
+
+offline() { # COMMAND, and what else it takes
+    cargo "$1" --quiet --offline --config "source.crates-io.replace-with='here'" --config "source.here.directory='$sources'" \
+        --target-dir "$room/target" "${@:2}"
+}
+
+holds() { # NAME COMMAND..
+    local name=$1
+    shift
+    if "$@" > "$room/said" 2>&1; then
+        echo "$name: passed"
+        passed=$((passed + 1))
+    else
+        cat "$room/said"
+        echo "$name: FAILED"
+        failed=$((failed + 1))
+    fi
+}
+
+copy() { # FOLDER VERSION
+    mkdir "$1"
+    cp -r "$here"/{Cargo.toml,README.md,src,lib} "$1"
+    sed -i "s/^version = .*/version = \"$2\"/; /^\[\[example\]\]/,\$d" "$1/Cargo.toml"
+}
+
+manifest() { # NAME LINE.. of its manifest
+    mkdir -p "$1/src"
+    printf '%s\n' '[package]' "name = \"$1\"" 'version = "0.1.0"' 'edition = "2021"' "${@:2}" > "$1/Cargo.toml"
+}
+
+# A program over two copies, each of which carries bytes.
+two_copies() { # NAME FOLDER FOLDER
+    manifest "$1" '[dependencies]' "piper = { path = \"$room/$2\" }" "other = { package = \"piper\", path = \"$room/$3\" }" \
+        '[profile.release]' 'lto = "fat"' 'codegen-units = 1'
+    cat > "$1/src/main.rs" <<'MAIN'
+macro_rules! carries {
+    ($piper:ident) => {{
+        let (mut reader, mut writer) = $piper::pipe(8);
+        assert_eq!(writer.try_fill(b"abc"), 3);
+        let mut place = [0; 8];
+        assert_eq!(reader.try_drain(&mut place), 3);
+        assert_eq!(&place[..3], b"abc");
+    }};
+}
+fn main() {
+    carries!(piper);
+    carries!(other);
+}
+MAIN
+    (cd "$1" && offline run && offline run --release)
+}
+
+# A static library over the package. One of a program may have an allocator: this one counts which blocks are out.
+static_library() { # NAME FEATURES
+    manifest "$1" '[lib]' 'crate-type = ["staticlib"]' '[dependencies]' "piper = { path = \"$room/this\"$2 }"
+    cat > "$1/src/lib.rs" <<'LIB'
+/// How many bytes come through a pipe.
+#[no_mangle]
+pub extern "C" fn NAME_carries(byte: u8) -> usize {
+    let (mut reader, mut writer) = piper::pipe(4);
+    writer.try_fill(&[byte]);
+    reader.try_drain(&mut [0; 4])
+}
+LIB
+    [ "$1" = two ] || cat >> "$1/src/lib.rs" <<'LIB'
+use std::alloc::{GlobalAlloc, Layout, System};
+use std::sync::atomic::{AtomicUsize, Ordering};
+struct Counts;
+static OUT: AtomicUsize = AtomicUsize::new(0);
+unsafe impl GlobalAlloc for Counts {
+    unsafe fn alloc(&self, layout: Layout) -> *mut u8 {
+        OUT.fetch_add(1, Ordering::SeqCst);
+        System.alloc(layout)
+    }
+    unsafe fn dealloc(&self, at: *mut u8, layout: Layout) {
+        OUT.fetch_sub(1, Ordering::SeqCst);
+        System.dealloc(at, layout)
+    }
+}
+#[global_allocator]
+static HEAP: Counts = Counts;
+/// How many blocks are out.
+#[no_mangle]
+pub extern "C" fn blocks_out() -> usize {
+    OUT.load(Ordering::SeqCst)
+}
+LIB
+    sed -i "s/NAME/$1/g" "$1/src/lib.rs"
+    (cd "$1" && offline build)
+}
+
+link() { # PROGRAM LIBRARY..
+    gcc -o "$1" "$1.c" "${@:2}" -I "$here/../c" -lpthread -ldl -lm && "./$1"
+}
+
+two_static_libraries() {
+    static_library one '' && static_library two ', default-features = false' || return
+    echo '#include <stddef.h>
+size_t one_carries(unsigned char), two_carries(unsigned char), blocks_out(void);
+int main(void) {
+    size_t before = blocks_out();
+    return !(one_carries(1) == 1 && two_carries(2) == 1 && blocks_out() == before);
+}' > both.c
+    # Rust itself wants the one that has an allocator ahead.
+    link both target/debug/libone.a target/debug/libtwo.a
+}
+
+beside_c() {
+    make -s -C "$here/../c" B="$room/c" || return
+    echo '#include "piper.h"
+size_t one_carries(unsigned char);
+int main(void) {
+    piper_reader reader;
+    piper_writer writer;
+    uint8_t to;
+    if (one_carries(1) != 1 || !piper_open(4, &reader, &writer))
+        return 1;
+    bool came = piper_writer_write(&writer, (const uint8_t *)"a", 1).count == 1 && piper_reader_read(&reader, &to, 1).count == 1;
+    piper_writer_drop(&writer);
+    piper_reader_drop(&reader);
+    return !(came && one_carries(2) == 1);
+}' > beside.c
+    link beside "$room/c/libpiper.a" target/debug/libone.a && link beside target/debug/libone.a "$room/c/libpiper.a"
+}
+
+copy this 0.2.5
+copy again 0.2.4
+copy older 0.2.3
+# Each other text has other names.
+sed -i -E 's/piper_[0-9a-f]{12}_/piper_00000000cafe_/g' older/lib/*.s older/src/names.rs
+holds 'two versions in one program' two_copies versions this older
+holds 'the same text twice in one program' two_copies twice this again
+holds 'two static libraries with other features' two_static_libraries
+holds 'a static library beside that of C' beside_c
+echo "one program: $passed passed, $failed failed"
+[ "$failed" -eq 0 ]

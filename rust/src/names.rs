@@ -1,0 +1,9 @@
+//! What each symbol of the texts begins with. Written by tools/write_assembly; not to be edited.
+
+#![allow(unused_macros)]
+
+macro_rules! own {
+    () => {
+        "piper_e703bd3026c7_"
+    };
+}

@@ -1,0 +1,45 @@
+"""A text for Linux in the words of macOS' assembler: the same instructions, one by one, with other
+directives and names."""
+import re
+
+TEXT = "\t.section\t__TEXT,__text,regular,pure_instructions"
+SECTIONS = {8: "\t.section\t__TEXT,__literal8,8byte_literals", 16: "\t.section\t__TEXT,__literal16,16byte_literals"}
+# What only ELF has.
+LEFT_OUT = re.compile(r"^\t\.(type|size)\t.*\n|^\t\.section\t\"\.note\.GNU-stack\".*\n", re.M)
+SYMBOL = r'"[^"\n]*"|[A-Za-z_]\w*'
+
+
+class Unread(Exception):
+    """Says what has no counterpart that is known here."""
+
+
+def section(found):
+    name = found[1].strip('"')
+    if name.startswith(".text"):
+        return TEXT
+    constants = re.search(r"^\.rodata\.cst(\d+)$", name)
+    if constants and int(constants[1]) in SECTIONS:
+        return SECTIONS[int(constants[1])]
+    raise Unread(f"a section {name}")
+
+
+def symbol(name):
+    return f'"_{name[1:]}' if name.startswith('"') else f"_{name}"
+
+
+def translated(text, exports, prefix):
+    if re.search(r"\b[xw]18\b", re.sub(r"//.*", "", text)):
+        raise Unread("an instruction that takes the register x18, which is the system's")
+    text = LEFT_OUT.sub("", text)
+    text = re.sub(r"^\t\.section\t(\"[^\"]*\"|[\w.]+).*$", section, text, flags=re.M)
+    # Constants of aarch64 are reached by a page and an offset in it.
+    text = re.sub(r"(\tadrp\t\w+, )(\.L\w+)", r"\1\2@PAGE", text)
+    text = re.sub(r":lo12:(\.L\w+)", r"\1@PAGEOFF", text)
+    text = re.sub(rf"\.L({prefix}CPI)", r"l\1", text)
+    text = re.sub(r"\.L(\w+)", r"L\1", text)
+    text = re.sub(rf"^({SYMBOL}):", lambda it: it[0] if it[1][0] in "Ll" else f"{symbol(it[1])}:", text, flags=re.M)
+    text = re.sub(rf"^(\t(?:callq|jmp|bl|b)\t)({SYMBOL})(@PLT)?(?=\s|$)",
+                  lambda it: it[0] if it[2][0] in "Ll" else it[1] + symbol(it[2]), text, flags=re.M)
+    seen = "".join(f"\t.globl\t_{prefix}{it}\n\t.weak_definition\t_{prefix}{it}\n\t.private_extern\t_{prefix}{it}\n"
+                   for it in exports)
+    return f"{text}\n/* Of several copies in one program a linker takes one. */\n{seen}"
