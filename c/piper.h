@@ -19,6 +19,12 @@
  *   writer's to write, until another call of that side is made.
  * - No call is made from a signal handler, nor in the forked child of a process with threads.
  *
+ * How long what the words name must live: until each time that they were left they came back, to this
+ * side in a result's `before` or `mine`, or to the other side as `wake`, and that wake is done. So where
+ * the last poll was pending, and neither a later result nor the drop gave its words back, the other side's
+ * thread has them, and will still use what they name, though this side was dropped: keep it until that
+ * thread was joined, or count its holders, as piper_wait.h does. Any wake may be a stale one: look again.
+ *
  * Memory comes from `malloc` and goes back by `free`.
  */
 #ifndef PIPER_H
@@ -114,6 +120,9 @@ typedef struct {
     piper_words mine;
 } piper_left;
 
+/* The version of the package, which is that of the `piper` whose calls the Rust crate has. */
+#define PIPER_VERSION "0.2.5"
+
 /* The version of these declarations. A pipe is opened under a name that has it, so that a program
  * which was compiled with others does not link. */
 #define PIPER_ABI 1
@@ -121,9 +130,12 @@ typedef struct {
 #define PIPER_NAME(abi) PIPER_NAME_OF(abi)
 #define piper_open PIPER_NAME(PIPER_ABI)
 
+/* The largest capacity that there can be. */
+#define PIPER_MAX_CAPACITY (SIZE_MAX / 2)
+
 /* Opens a pipe that holds `capacity` bytes. `*reader` and `*writer` are overwritten, whatever they
- * held. Returns false, and makes both null, where the capacity is 0 or 2^63 or more, or where
- * memory was refused. */
+ * held. Returns false, and makes both null, where the capacity is 0 or more than PIPER_MAX_CAPACITY;
+ * and for a capacity between these only where memory was refused. */
 bool piper_open(size_t capacity, piper_reader *reader, piper_writer *writer);
 
 /* ---- The side that reads ---- */

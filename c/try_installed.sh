@@ -25,3 +25,5 @@ lib=$room/root/opt/piper/lib
 )
 $make -s uninstall DESTDIR="$room/root" PREFIX=/opt/piper
 test -z "$(find "$room/root" ! -type d)"
+$make -s install DESTDIR="$room/root" PREFIX=/opt/piper LIBDIR=/opt/piper/lib64 INCLUDEDIR=/opt/include
+test -e "$room/root/opt/piper/lib64/libpiper.a" -a -e "$room/root/opt/include/piper.h"

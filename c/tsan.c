@@ -1,25 +1,26 @@
 /* Shows ThreadSanitizer which call comes after which, since it doesn't see into the library: what one
  * side's calls did before it published or gave room back has been done for the other side's calls
- * after that. So it checks that the code of callers keeps to what piper.h allows. Linked with --wrap. */
+ * after that. So it checks that the code of callers keeps to what piper.h allows. It is linked with
+ * -Wl,--wrap=NAME for each NAME that a line below begins with WRAP. */
 #include "piper.h"
 
 void __tsan_acquire(void *at);
 void __tsan_release(void *at);
 
-/* Not each sanitizer has these two. */
-#define WEAK __attribute__((weak))
-WEAK void AnnotateIgnoreReadsAndWritesBegin(const char *file, int line);
-WEAK void AnnotateIgnoreReadsAndWritesEnd(const char *file, int line);
+void AnnotateIgnoreReadsBegin(const char *file, int line);
+void AnnotateIgnoreReadsEnd(const char *file, int line);
+void AnnotateIgnoreWritesBegin(const char *file, int line);
+void AnnotateIgnoreWritesEnd(const char *file, int line);
 
 /* It sees what the library has memmove do, and not why that is in order. */
 static void begin(void) {
-    if (AnnotateIgnoreReadsAndWritesBegin)
-        AnnotateIgnoreReadsAndWritesBegin(__FILE__, __LINE__);
+    AnnotateIgnoreReadsBegin(__FILE__, __LINE__);
+    AnnotateIgnoreWritesBegin(__FILE__, __LINE__);
 }
 
 static void end(void) {
-    if (AnnotateIgnoreReadsAndWritesEnd)
-        AnnotateIgnoreReadsAndWritesEnd(__FILE__, __LINE__);
+    AnnotateIgnoreReadsEnd(__FILE__, __LINE__);
+    AnnotateIgnoreWritesEnd(__FILE__, __LINE__);
 }
 
 /* From the writer to the reader, and back. */
