@@ -66,9 +66,29 @@ packed() {
     offline package --quiet --allow-dirty --target-dir "$room/target" || return
     local list
     list=$(tar -tzf "$room"/target/package/piper-*.crate)
-    for file in lib/x86_64-unknown-linux-gnu.s lib/aarch64-unknown-linux-gnu.s LICENSE-MIT LICENSE-APACHE README.md CHANGELOG.md; do
+    for file in lib/*.s LICENSE-MIT LICENSE-APACHE README.md CHANGELOG.md; do
         grep -q "/$file\$" <<< "$list" || { echo "the package lacks $file"; return 1; }
     done
+}
+
+# A program takes the package by its own name, with no patch; that package has the same sources, features and dependencies.
+has_a_name_of_its_own() {
+    diff <(sed -n '/^\[features\]/,/^\[dev-dependencies\]/p' Cargo.toml | sed '/^\[dev-/d') \
+        <(sed -n '/^\[features\]/,$p' named/Cargo.toml; echo) || return
+    mkdir -p "$room/own/src"
+    printf '%s\n' '[package]' 'name = "own"' 'version = "0.1.0"' 'edition = "2021"' \
+        '[dependencies]' "piper = { package = \"piper-proved\", path = \"$top/rust/named\" }" > "$room/own/Cargo.toml"
+    echo 'fn main() { assert!(piper::IS_PROVED && piper::pipe(4).1.try_fill(b"abc") == 3); }' > "$room/own/src/main.rs"
+    (cd "$room/own" && offline run --target-dir "$room/target" && offline tree --invert piper-proved | grep -q "$top/rust/named")
+}
+
+# The page names each module that may have unsafe lines, and no link of it leads out of the package.
+page_is_exact() {
+    local module
+    for module in $(grep -A 1 'allow(unsafe_code)' src/lib.rs | sed -n 's/^ *mod \(.*\);/\1/p' | sort -u); do
+        grep -q "src/$module" README.md || { echo "the page does not name src/$module"; return 1; }
+    done
+    [ -n "${module-}" ] && ! grep -n '](\.\./' README.md
 }
 
 # A shared library that is made with this crate shows none of it.
@@ -113,6 +133,49 @@ fn main() {
     (cd "$room/above" && offline run --target-dir "$room/target" && offline run --release --target-dir "$room/target")
 }
 
+# The sanitizer of threads, which sees neither into the library nor into std, reports a race where bytes cross a pipe, unless it is
+# told of the calls.
+is_told_of_calls() {
+    mkdir -p "$room/threads/src"
+    printf '%s\n' '[package]' 'name = "threads"' 'version = "0.1.0"' 'edition = "2021"' \
+        '[dependencies]' "piper = { path = \"$top/rust\" }" > "$room/threads/Cargo.toml"
+    cat > "$room/threads/src/main.rs" <<< 'use std::task::{Context, Waker};
+const COUNT: usize = 50_000;
+fn main() {
+    let (mut reader, mut writer) = piper::pipe(64);
+    let writing = std::thread::spawn(move || {
+        let (mut sent, mut cx) = (0, Context::from_waker(Waker::noop()));
+        while sent < COUNT {
+            let _ = writer.poll(&mut cx);
+            let room = writer.write_buf(16.min(COUNT - sent));
+            let n = room.len();
+            for i in 0..n {
+                room[i] = (sent + i) as u8;
+            }
+            writer.produced(n);
+            sent += n;
+        }
+    });
+    let (mut came, mut cx) = (0, Context::from_waker(Waker::noop()));
+    while came < COUNT {
+        let _ = reader.poll(&mut cx);
+        let n = reader.peek_buf().len();
+        for i in 0..n {
+            let byte = reader.peek_buf()[i];
+            assert!(byte == (came + i) as u8);
+        }
+        reader.consume(n);
+        came += n;
+    }
+    writing.join().unwrap();
+}'
+    local flags='-Zsanitizer=thread -Cunsafe-allow-abi-mismatch=sanitizer'
+    (cd "$room/threads" && export RUSTC_BOOTSTRAP=1
+        ! RUSTFLAGS=$flags offline run --target "$host" --target-dir "$room/threads/untold" 2> "$room/untold" &&
+            grep -q 'ThreadSanitizer: data race' "$room/untold" &&
+            RUSTFLAGS="$flags --cfg piper_tsan" offline run --target "$host" --target-dir "$room/threads/told")
+}
+
 # A build that wants only what is proved gets one error where it would get the stand-in, and none where not.
 refuses_a_stand_in() {
     RUSTFLAGS='--cfg piper_only_proved' offline check --target-dir "$room/only" || return
@@ -149,6 +212,8 @@ tests 'tests, examples of the page and example programs' offline test
 CARGO_PROFILE_RELEASE_LTO=fat CARGO_PROFILE_RELEASE_CODEGEN_UNITS=1 tests 'optimized as one unit' offline test --release "${suites[@]}"
 RUSTFLAGS=-Dwarnings holds 'without std' offline build --no-default-features --target-dir "$CARGO_TARGET_DIR/strict"
 RUSTDOCFLAGS=-Dwarnings holds 'cargo doc' offline doc --no-deps
+RUSTDOCFLAGS=-Dwarnings holds 'cargo doc without std' offline doc --no-deps --no-default-features
+holds 'the page names the unsafe modules, and has no link that leads out of the package' page_is_exact
 if cargo clippy --version > /dev/null 2>&1; then
     holds 'clippy' offline clippy --all-targets -- -D warnings
     holds 'clippy without std' offline clippy --no-default-features -- -D warnings
@@ -157,6 +222,7 @@ else
     echo 'clippy: left out, this toolchain has none'
 fi
 holds 'cargo package' packed
+holds 'a name of its own' has_a_name_of_its_own
 holds 'a shared library shows nothing of it' shows_nothing
 holds 'a program links to a dylib' links_to_a_dylib
 
@@ -171,7 +237,11 @@ if compgen -G "$runtime/librustc-*_rt.asan.a" > /dev/null; then
 else
     echo 'under the sanitizer of addresses: left out, this toolchain has none'
 fi
-echo 'under the sanitizer of threads: left out, it sees neither the library nor std'
+if compgen -G "$runtime/librustc-*_rt.tsan.a" > /dev/null; then
+    holds 'the sanitizer of threads is told of calls' is_told_of_calls
+else
+    echo 'the sanitizer of threads: left out, this toolchain has none'
+fi
 
 export PIPER_TEST_CALLS=20000 PIPER_TEST_SHARE=50
 triple=${host//-/_}

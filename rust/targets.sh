@@ -59,9 +59,9 @@ links() { # TARGET ARCHITECTURE
 }
 
 for target in x86_64-pc-windows-gnu x86_64-pc-windows-msvc x86_64-unknown-linux-musl aarch64-unknown-linux-musl; do
-    holds "$target, proved" cargo_for check "$target" true
+    holds "$target, proved, built" cargo_for build "$target" true
 done
-for target in wasm32-unknown-unknown i686-unknown-linux-gnu aarch64-linux-android x86_64-unknown-freebsd riscv64gc-unknown-linux-gnu; do
+for target in wasm32-wasip1 i686-unknown-linux-gnu aarch64-linux-android x86_64-unknown-freebsd riscv64gc-unknown-linux-gnu; do
     holds "$target, with the stand-in" cargo_for check "$target" false
 done
 if [ -n "$linker" ]; then

@@ -1,7 +1,9 @@
 #!/usr/bin/env bash
-# Tries the packages for cargo and for C, on a PATH that has no `rt`: `rust/check.sh`, the tests of crates that stand on such a
-# pipe by `rust/clients.sh`, `make -C c check`, and the same for aarch64 under qemu. The last line counts them. What can't be
-# tried, since a tool or sources of Debian's are missing and can't be installed, is left out, and said.
+# Tries the packages for cargo and for C, on a PATH that has no `rt`: `rust/check.sh`, several copies in one program, the tests of
+# crates that stand on such a pipe by `rust/clients.sh`, `make -C c check`, and the same for aarch64 under qemu; that clang-22 makes
+# the same texts of the modules, where it is there; and `rust/windows.sh`, where it was run once with the folder that PIPER_PLATFORMS
+# names. The last line counts them. What can't be tried, since a tool or sources of Debian's are missing and can't be installed, it
+# says.
 set -u
 cd "$(dirname "$0")/.."
 room=$(mktemp -d)
@@ -25,7 +27,7 @@ try() { # NAME COMMAND..
     local status=0
     check "$@" || status=$?
     if [ "$status" -eq 2 ]; then
-        echo "$1: left out" > "$room/$1"
+        echo "$1: not tried" > "$room/$1"
     elif [ "$status" -ne 0 ]; then
         failed=1
         echo "$1: FAILED" >> "$room/$1"
@@ -74,8 +76,27 @@ aarch64() {
     make -s -C c check CC=aarch64-linux-gnu-gcc RUN="taskset -c $one qemu-aarch64 -L /usr/aarch64-linux-gnu"
 }
 
-for name in rust clients c aarch64; do
+one_program() {
+    has cargo gcc make || return 2
+    rust/one_program.sh
+}
+
+modules() {
+    has clang-22 || { echo 'modules: not tried'; return 2; }
+    tools/compile_modules clang-22
+}
+
+windows() {
+    local folder=${PIPER_PLATFORMS:-/var/tmp/piper-platforms}
+    [ -d "$folder/target" ] || { echo 'windows: not tried'; return 2; }
+    rust/windows.sh "$folder"
+}
+
+names=(rust one_program clients c aarch64 modules windows)
+line=
+for name in "${names[@]}"; do
     try "$name" "$name"
+    line+="; $(tail -n 1 "$room/$name")"
 done
-echo "$(cat "$room/rust"); $(tail -n 1 "$room/clients"); $(cat "$room/c"); $(cat "$room/aarch64")"
+echo "${line#; }"
 exit "$failed"

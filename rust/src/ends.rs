@@ -1,5 +1,4 @@
-//! The two sides of a pipe as the library has them, made safe. All unsafe lines of the crate are in
-//! this module and in that of the heap.
+//! The two sides of a pipe as the library has them, made safe.
 //!
 //! What the library asks of its callers is kept here: a handle is open until its owner is dropped,
 //! it is used by one thread at a time, and lent memory is borrowed from the handle that lends it.

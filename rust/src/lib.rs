@@ -11,7 +11,7 @@
 //! - **Tested** is what this crate adds: it turns wakers into the two words that the library keeps, and
 //!   tests what the library asks of its callers.
 //! - **Trusted** are the prover, the compiler that made the text, the assembler that reads it, and the
-//!   unsafe lines of this crate, which are in two modules: `ends` and `heap`.
+//!   unsafe lines of this crate, each with its reason beside it.
 //! - Nothing is claimed of progress, fairness, freedom from deadlock, or time.
 //!
 //! ```
@@ -28,6 +28,15 @@
 //! assert_eq!(text, "hello world");
 //! ```
 //!
+//! # Features and targets
+//!
+//! - `std`, by default, has the traits of `futures-io`, `Writer::poll_fill` and `Reader::poll_drain`.
+//! - `dylib` is for a program that has this crate by a shared library of Rust.
+//! - `portable-atomic` changes nothing: the library has atomics of its own.
+//!
+//! The lowest Rust is 1.85. The proved library is there for x86-64 with Linux, Windows and macOS, and for
+//! aarch64 with Linux and macOS; other targets get [a stand-in](#the-stand-in).
+//!
 //! # When a pipe is closed
 //!
 //! - The writer is dropped, or `poll_close` is called: the reader is woken. What is unread can still
@@ -41,7 +50,7 @@
 //!   to. 0.2.5 lets more pass where it can.
 //! - `poll_close` is final for the writer, too: nothing is lent any more, and what was lent is taken
 //!   back. Every copy into the pipe ends with nothing lent.
-//! - Where the reader is dropped during a read of [`Writer::poll_fill`], what was read is counted, as in
+//! - Where the reader is dropped during a read of `Writer::poll_fill`, what was read is counted, as in
 //!   0.2.5, and published, too, so that [`Writer::len`] has it.
 //! - [`Reader::try_drain`] and [`Writer::try_fill`] leave the waker of an earlier poll where it is, so
 //!   that a task that waits is not forgotten.
@@ -51,7 +60,6 @@
 //! - A copy panics where a `Read` or a `Write` claims more bytes than it was handed.
 //! - Calls through a shared reference that ask the pipe (`len`, `is_empty`, `is_full`, `is_closed`, and
 //!   `peek_buf` after bytes were taken) wait for each other: by a lock, and without `std` by spinning.
-//! - The feature `portable-atomic` changes nothing: the library has atomics of its own.
 //! - The handles have a `Debug` that prints counts and no bytes.
 //! - A pipe takes three blocks of memory; with 0.2.5 it takes two.
 //!
@@ -163,9 +171,9 @@ pub fn pipe(cap: usize) -> (Reader, Writer) {
     )
 }
 
-/// Both handles can go to another thread and be shared, with and without `std`.
+/// Both handles can go to another thread, be shared, and outlive a caught panic, with and without `std`.
 const _: fn() = || {
-    fn is_shared<T: Send + Sync>() {}
+    fn is_shared<T: Send + Sync + core::panic::UnwindSafe + core::panic::RefUnwindSafe>() {}
     is_shared::<Reader>();
     is_shared::<Writer>();
 };

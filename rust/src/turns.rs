@@ -42,6 +42,9 @@ mod held {
     // SAFETY: a shared reference gives the value to one thread at a time, as a lock does.
     unsafe impl<T: Send> Sync for Turns<T> {}
 
+    // As of a lock: a turn that panics ends, and what it was asked leaves the value whole.
+    impl<T> core::panic::RefUnwindSafe for Turns<T> {}
+
     /// Ends a turn, also where what is asked panics.
     struct Turn<'a>(&'a AtomicBool);
 
