@@ -9,10 +9,6 @@ LEFT_OUT = re.compile(r"^\t\.(type|size)\t.*\n|^\t\.section\t\"\.note\.GNU-stack
 SYMBOL = r'"[^"\n]*"|[A-Za-z_]\w*'
 
 
-class Unread(Exception):
-    """Says what has no counterpart that is known here."""
-
-
 def section(found):
     name = found[1].strip('"')
     if name.startswith(".text"):
@@ -20,7 +16,7 @@ def section(found):
     constants = re.search(r"^\.rodata\.cst(\d+)$", name)
     if constants and int(constants[1]) in SECTIONS:
         return SECTIONS[int(constants[1])]
-    raise Unread(f"a section {name}")
+    raise ValueError(f"a section {name} has no counterpart of macOS that is known here")
 
 
 def symbol(name):
@@ -29,7 +25,7 @@ def symbol(name):
 
 def translated(text, exports, prefix):
     if re.search(r"\b[xw]18\b", re.sub(r"//.*", "", text)):
-        raise Unread("an instruction that takes the register x18, which is the system's")
+        raise ValueError("an instruction takes the register x18, which is the system's on macOS")
     text = LEFT_OUT.sub("", text)
     text = re.sub(r"^\t\.section\t(\"[^\"]*\"|[\w.]+).*$", section, text, flags=re.M)
     # Constants of aarch64 are reached by a page and an offset in it.

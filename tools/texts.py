@@ -31,7 +31,7 @@ LABEL = re.compile(r'^("[^"\n]*"|[A-Za-z_]\w*):', re.M)
 HEAP = {"rattle_alloc": "heap_alloc", "rattle_dealloc": "heap_dealloc"}
 
 
-class Failed(Exception):
+class Failed(ValueError):
     """Says what is not as it should be."""
 
 
