@@ -31,11 +31,17 @@ holds() { # NAME COMMAND..
     fi
 }
 
+# Debian's fastrand lacks the crate that it wants on WebAssembly.
+rm -rf "$root/fastrand"
+cp -rL "$root"/crates/fastrand-[0-9]* "$root/fastrand"
+sed -i 's/^use instant::Instant;/use std::time::Instant;/' "$root/fastrand/src/lib.rs"
+
 # A library that other languages call, whose build fails where it doesn't get what is wanted.
 program() { # IS_PROVED
     mkdir -p "$root/program/src"
     printf '%s\n' '[package]' 'name = "program"' 'version = "0.1.0"' 'edition = "2021"' '[lib]' 'crate-type = ["staticlib"]' \
-        '[dependencies]' "piper = { path = \"$here\" }" > "$root/program/Cargo.toml"
+        '[dependencies]' "piper = { path = \"$here\" }" \
+        '[patch.crates-io]' "fastrand = { path = \"$root/fastrand\" }" > "$root/program/Cargo.toml"
     cat > "$root/program/src/lib.rs" <<LIB
 const _: () = assert!(piper::IS_PROVED == $1);
 #[no_mangle]
@@ -58,10 +64,10 @@ links() { # TARGET ARCHITECTURE
         -o "$root/$1.dylib" "$root/checked/$1/debug/libprogram.a"
 }
 
-for target in x86_64-pc-windows-gnu x86_64-pc-windows-msvc x86_64-unknown-linux-musl aarch64-unknown-linux-musl; do
+for target in x86_64-pc-windows-gnu x86_64-pc-windows-msvc {x86_64,aarch64}-unknown-linux-musl riscv64gc-unknown-linux-gnu; do
     holds "$target, proved, built" cargo_for build "$target" true
 done
-for target in wasm32-wasip1 i686-unknown-linux-gnu aarch64-linux-android x86_64-unknown-freebsd riscv64gc-unknown-linux-gnu; do
+for target in wasm32-unknown-unknown i686-unknown-linux-gnu aarch64-linux-android x86_64-unknown-freebsd; do
     holds "$target, with the stand-in" cargo_for check "$target" false
 done
 if [ -n "$linker" ]; then

@@ -9,7 +9,8 @@
 A word is known by its offset in the ring's block (crates/piper_ring/src/ring/memory.rt), where no other
 block is so long. Of the two words before those, the head's store is looked for in the calls that take
 bytes, and the count of sides only as an atomic change that is there. What a pipe's opening writes nobody
-else sees yet. Of each text a changed copy has to be refused. The last line is 'texts: N passed, M failed'.
+else sees yet. The text for riscv64 is not read: there the order is that of LLVM's fences. Of each text a
+changed copy has to be refused. The last line is 'texts: N passed, M failed'.
 """
 import re
 import sys
@@ -163,7 +164,7 @@ def check_same(linux, macos):
 
 
 def main():
-    texts = {it.stem: it.read_text() for it in sorted(LIB.glob("*.s"))}
+    texts = {it.stem: it.read_text() for it in sorted(LIB.glob("*.s")) if not it.stem.startswith("riscv64")}
     tries = [(name, check_order, (name, text)) for name, text in texts.items()]
     tries += [(macos, check_same, (texts[linux], texts[macos])) for linux, macos in PAIRS]
     failed = 0

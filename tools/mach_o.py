@@ -6,7 +6,7 @@ TEXT = "\t.section\t__TEXT,__text,regular,pure_instructions"
 SECTIONS = {8: "\t.section\t__TEXT,__literal8,8byte_literals", 16: "\t.section\t__TEXT,__literal16,16byte_literals"}
 # What only ELF has.
 LEFT_OUT = re.compile(r"^\t\.(type|size)\t.*\n|^\t\.section\t\"\.note\.GNU-stack\".*\n", re.M)
-SYMBOL = r'"[^"\n]*"|[A-Za-z_]\w*'
+SYMBOL = r"[A-Za-z_][\w.]*"
 
 
 def section(found):
@@ -19,10 +19,6 @@ def section(found):
     raise ValueError(f"a section {name} has no counterpart of macOS that is known here")
 
 
-def symbol(name):
-    return f'"_{name[1:]}' if name.startswith('"') else f"_{name}"
-
-
 def translated(text, exports, prefix):
     if re.search(r"\b[xw]18\b", re.sub(r"//.*", "", text)):
         raise ValueError("an instruction takes the register x18, which is the system's on macOS")
@@ -33,9 +29,9 @@ def translated(text, exports, prefix):
     text = re.sub(r":lo12:(\.L\w+)", r"\1@PAGEOFF", text)
     text = re.sub(rf"\.L({prefix}CPI)", r"l\1", text)
     text = re.sub(r"\.L(\w+)", r"L\1", text)
-    text = re.sub(rf"^({SYMBOL}):", lambda it: it[0] if it[1][0] in "Ll" else f"{symbol(it[1])}:", text, flags=re.M)
+    text = re.sub(rf"^({SYMBOL}):", lambda it: it[0] if it[1][0] in "Ll" else f"_{it[1]}:", text, flags=re.M)
     text = re.sub(rf"^(\t(?:callq|jmp|bl|b)\t)({SYMBOL})(@PLT)?(?=\s|$)",
-                  lambda it: it[0] if it[2][0] in "Ll" else it[1] + symbol(it[2]), text, flags=re.M)
+                  lambda it: it[0] if it[2][0] in "Ll" else f"{it[1]}_{it[2]}", text, flags=re.M)
     seen = "".join(f"\t.globl\t_{prefix}{it}\n\t.weak_definition\t_{prefix}{it}\n\t.private_extern\t_{prefix}{it}\n"
                    for it in exports)
     return f"{text}\n/* Of several copies in one program a linker takes one. */\n{seen}"

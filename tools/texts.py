@@ -1,8 +1,9 @@
 """From the LLVM modules of rust/module to the assembler's texts of rust/lib.
 
 A module's first line has the words for clang. Its text for Linux has the instructions of the proved
-build, one by one, and tables for unwinding beside them. The text for Windows is another compilation
-of the x86-64 module; those for macOS are the texts for Linux in the words of another assembler.
+build, one by one, and tables for unwinding beside them. The texts for Windows and for riscv64 are other
+compilations of the x86-64 module; those for macOS are the texts for Linux in the words of another
+assembler.
 """
 import hashlib
 import re
@@ -12,6 +13,7 @@ from pathlib import Path
 
 import frames
 import mach_o
+import riscv64
 import windows
 
 TOP = Path(__file__).resolve().parent.parent
@@ -22,11 +24,11 @@ LINUX = ("x86_64-unknown-linux-gnu", "aarch64-unknown-linux-gnu")
 WINDOWS = "x86_64-pc-windows"
 MACOS = {"x86_64-apple-darwin": LINUX[0], "aarch64-apple-darwin": LINUX[1]}
 # Directives that GNU's assembler refuses, or that name this build.
-LEFT_OUT = re.compile(r"^\t\.(addrsig|addrsig_sym|file|ident)\b.*\n", re.M)
+LEFT_OUT = re.compile(r"^\t\.(addrsig|addrsig_sym|attribute|file|ident)\b.*\n", re.M)
 # A symbol, in quotes or not, or a label of the file's own.
 TOKEN = re.compile(r'"[^"\n]*"|\.L\w+|(?<![\w.$%])[A-Za-z_]\w*(?![\w:.]*::)')
 GLOBAL = re.compile(r"^\t\.globl\t(\w+).*\n", re.M)
-LABEL = re.compile(r'^("[^"\n]*"|[A-Za-z_]\w*):', re.M)
+LABEL = re.compile(r'^("[^"\n]*"|[A-Za-z_][\w.]*):', re.M)
 # The heap's two functions get names of ours, so that no other library of the toolchain meets them.
 HEAP = {"rattle_alloc": "heap_alloc", "rattle_dealloc": "heap_dealloc"}
 
@@ -81,12 +83,16 @@ def linux(clang, target, module):
     return LEFT_OUT.sub("", text)
 
 
+def compiled(clang, module, changed):
+    """The text of another compilation of a module, with tables."""
+    return compile_module(clang, module, "-S", lambda text, words: changed(*with_tables(text, words))).decode()
+
+
 def raw_texts(clang, modules):
     """The text of each target that clang writes, with the symbols that the module has."""
     texts = {target: linux(clang, target, modules[target]) for target in LINUX}
-    change = lambda text, words: windows.changed(*with_tables(text, words))
-    texts[WINDOWS] = windows.without_features(compile_module(clang, modules[LINUX[0]], "-S", change).decode())
-    texts[WINDOWS] = LEFT_OUT.sub("", texts[WINDOWS])
+    texts[riscv64.TARGET] = LEFT_OUT.sub("", compiled(clang, modules[LINUX[0]], riscv64.changed))
+    texts[WINDOWS] = LEFT_OUT.sub("", windows.without_features(compiled(clang, modules[LINUX[0]], windows.changed)))
     return texts
 
 
@@ -97,9 +103,9 @@ def own_prefix(texts):
 
 
 def own_name(name, prefix):
-    """The symbol under a name of this text's own."""
+    """The symbol under a name of this text's own. Not each assembler takes a name of Rust's in quotes."""
     if name.startswith('"'):
-        return f'"{prefix}{name[1:]}'
+        return prefix + re.sub(r"[^\w.]", "_", name.strip('"').replace("::", "."))
     return prefix + HEAP.get(name, name.removeprefix("piper_"))
 
 
@@ -133,9 +139,8 @@ def source_of(name):
 def with_sources(text, prefix):
     """Above each function the place of its source."""
     def place(found):
-        name = found[1].strip('"').removeprefix(prefix)
-        of_module = name if found[1].startswith('"') else f"piper_{name}"
-        return f"/* {source_of(of_module)} */\n{found[0]}"
+        name = found[1].removeprefix(prefix)
+        return f"/* {source_of(name.replace('.', '::') if '.' in name else f'piper_{name}')} */\n{found[0]}"
 
     return LABEL.sub(place, text)
 
@@ -213,6 +218,7 @@ def texts_of(clang, modules):
     prefix = own_prefix(raw)
     checks = {it: said(modules[it], "check") for it in LINUX}
     made = {it: linux_text(it, checks[it], raw[it], prefix) for it in LINUX}
+    made[riscv64.TARGET] = linux_text(riscv64.TARGET, checks[LINUX[0]], raw[riscv64.TARGET], prefix)
     made[WINDOWS] = windows_text(checks[LINUX[0]], raw[WINDOWS], prefix)
     for target, of in MACOS.items():
         made[target] = macos_text(target, checks[of], raw[of], prefix)

@@ -1,6 +1,6 @@
 #!/usr/bin/env bash
 # Tries the packages for cargo and for C, on a PATH that has no `rt`: `rust/check.sh`, several copies in one program, the tests of
-# crates that stand on such a pipe by `rust/clients.sh`, `make -C c check`, and the same for aarch64 under qemu; that clang-22 makes
+# crates that stand on such a pipe by `rust/clients.sh`, `make -C c check`, and the same for aarch64 and riscv64 under qemu; that clang-22 makes
 # the same texts of the modules, where it is there; and `rust/windows.sh`, where it was run once with the folder that PIPER_PLATFORMS
 # names. The last line counts them. What can't be tried, since a tool or sources of Debian's are missing and can't be installed, it
 # says.
@@ -66,14 +66,23 @@ c() {
     make -s -C c check
 }
 
-aarch64() {
-    has make taskset aarch64-linux-gnu-gcc qemu-aarch64 ||
-        apt-get install -y --no-install-recommends qemu-user gcc-aarch64-linux-gnu libc6-dev-arm64-cross > /dev/null 2>&1
-    has make taskset aarch64-linux-gnu-gcc qemu-aarch64 || { echo 'aarch64: not tried'; return 2; }
+# The tests of C under an emulator.
+under_qemu() { # MACHINE
+    has make taskset "$1-linux-gnu-gcc" "qemu-$1" || { echo "$1: not tried"; return 2; }
     # On the first processor that this shell may use.
     local one
     one=$(taskset -pc $$ | sed 's/.*: //; s/[-,].*//')
-    make -s -C c check CC=aarch64-linux-gnu-gcc RUN="taskset -c $one qemu-aarch64 -L /usr/aarch64-linux-gnu"
+    make -s -C c check CC="$1-linux-gnu-gcc" RUN="taskset -c $one qemu-$1 -L /usr/$1-linux-gnu"
+}
+
+aarch64() {
+    has aarch64-linux-gnu-gcc qemu-aarch64 ||
+        apt-get install -y --no-install-recommends qemu-user gcc-aarch64-linux-gnu libc6-dev-arm64-cross > /dev/null 2>&1
+    under_qemu aarch64
+}
+
+riscv64() {
+    under_qemu riscv64
 }
 
 one_program() {
@@ -92,7 +101,7 @@ windows() {
     rust/windows.sh "$folder"
 }
 
-names=(rust one_program clients c aarch64 modules windows)
+names=(rust one_program clients c aarch64 riscv64 modules windows)
 line=
 for name in "${names[@]}"; do
     try "$name" "$name"

@@ -52,6 +52,12 @@ macro_rules! jump {
         concat!("b {", $to, "}")
     };
 }
+#[cfg(target_arch = "riscv64")]
+macro_rules! jump {
+    ($to:literal) => {
+        concat!("tail {", $to, "}")
+    };
+}
 
 /// What ends it.
 #[cfg(target_os = "linux")]

@@ -34,8 +34,8 @@
 //! - `dylib` is for a program that has this crate by a shared library of Rust.
 //! - `portable-atomic` changes nothing: the library has atomics of its own.
 //!
-//! The lowest Rust is 1.85. The proved library is there for x86-64 with Linux, Windows and macOS, and for
-//! aarch64 with Linux and macOS; other targets get [a stand-in](#the-stand-in).
+//! The lowest Rust is 1.85. The proved library is there for x86-64 with Linux, Windows and macOS, for
+//! aarch64 with Linux and macOS, and for riscv64 with Linux; other targets get [a stand-in](#the-stand-in).
 //!
 //! # When a pipe is closed
 //!
@@ -91,6 +91,7 @@ macro_rules! by_target {
                 any(
                     all(target_arch = "x86_64", any(target_os = "linux", target_os = "windows", target_os = "macos")),
                     all(target_arch = "aarch64", target_endian = "little", any(target_os = "linux", target_os = "macos")),
+                    all(target_arch = "riscv64", target_os = "linux"),
                 ),
                 target_pointer_width = "64",
                 not(any(miri, piper_stand_in)),
@@ -133,8 +134,8 @@ by_target! {
 
         #[cfg(piper_only_proved)]
         compile_error!(
-            "the proved library of piper is there for x86_64 with Linux, Windows or macOS and for aarch64 with Linux or macOS \
-             (64 bits, little endian); this target would get a stand-in, which `--cfg piper_only_proved` refuses"
+            "the proved library of piper is there for x86_64 with Linux, Windows or macOS, for aarch64 with Linux or macOS, and for \
+             riscv64 with Linux (64 bits, little endian); this target would get a stand-in, which `--cfg piper_only_proved` refuses"
         );
     }
 }

@@ -4,6 +4,6 @@
 
 macro_rules! own {
     () => {
-        "piper_e703bd3026c7_"
+        "piper_ebfe84342e0e_"
     };
 }

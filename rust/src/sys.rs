@@ -18,6 +18,8 @@ macro_rules! library_for {
 library_for!("x86_64-unknown-linux-gnu", raw, att_syntax);
 #[cfg(all(target_arch = "aarch64", target_os = "linux"))]
 library_for!("aarch64-unknown-linux-gnu", raw);
+#[cfg(target_arch = "riscv64")]
+library_for!("riscv64-unknown-linux-gnu", raw);
 #[cfg(target_os = "windows")]
 library_for!("x86_64-pc-windows", raw, att_syntax);
 #[cfg(all(target_arch = "x86_64", target_os = "macos"))]
