@@ -97,7 +97,7 @@ modules() {
 
 windows() {
     local folder=${PIPER_PLATFORMS:-/var/tmp/piper-platforms}
-    [ -d "$folder/target" ] || { echo 'windows: not tried'; return 2; }
+    [ -d "$folder/target/x86_64-pc-windows-gnu" ] || { echo 'windows: not tried'; return 2; }
     rust/windows.sh "$folder"
 }
 
