@@ -13,6 +13,7 @@ use core::sync::atomic::{AtomicUsize, Ordering};
 /// What an assembler is told before a function that the linker is to see under a name of the text's own,
 /// where other objects may have the same.
 #[cfg(target_os = "linux")]
+#[rustfmt::skip]
 macro_rules! begin {
     ($name:expr) => {
         concat!(
@@ -22,6 +23,7 @@ macro_rules! begin {
     };
 }
 #[cfg(target_os = "macos")]
+#[rustfmt::skip]
 macro_rules! begin {
     ($name:expr) => {
         concat!(
@@ -31,6 +33,7 @@ macro_rules! begin {
     };
 }
 #[cfg(target_os = "windows")]
+#[rustfmt::skip]
 macro_rules! begin {
     ($name:expr) => {
         concat!(

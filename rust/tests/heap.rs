@@ -105,7 +105,11 @@ fn a_refusal_ends_the_program_as_any_allocation_does() {
         .unwrap();
     let said = String::from_utf8_lossy(&run.stderr);
     assert!(!run.status.success());
-    let mut words = said.split_once("memory allocation of ").unwrap().1.split(' ');
+    let mut words = said
+        .split_once("memory allocation of ")
+        .unwrap()
+        .1
+        .split(' ');
     let refused: usize = words.next().unwrap().parse().unwrap();
     assert!((2_000_000..2_001_000).contains(&refused), "{said}");
 }

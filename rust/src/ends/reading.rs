@@ -179,8 +179,7 @@ impl ReadEnd {
 
     pub(crate) fn len(&self) -> usize {
         // SAFETY: the handle is open, and other queries wait for their turn.
-        self.raw
-            .take_turn(|raw| unsafe { sys::reader_len(raw) })
+        self.raw.take_turn(|raw| unsafe { sys::reader_len(raw) })
     }
 
     pub(crate) fn capacity(&self) -> usize {

@@ -80,8 +80,7 @@ impl Lender {
         assert!(n <= len, "a source gave more bytes than there was room for");
         let mut next_at = ptr::null_mut();
         // SAFETY: as in `publish`, with `n` at most the length of the loan; and `next_at` is a value of ours.
-        let next =
-            unsafe { sys::writer_next(&mut self.raw, at.as_ptr(), n, max, &mut next_at) };
+        let next = unsafe { sys::writer_next(&mut self.raw, at.as_ptr(), n, max, &mut next_at) };
         // SAFETY: `next` gave this address.
         let at = unsafe { address(next_at) };
         self.lends(Loan { at, len: next.len }, 0);
