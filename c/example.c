@@ -134,6 +134,7 @@ int main(int argc, char **argv) {
     }
     size_t lines = count_lines(&reader, &mine);
     wake(piper_reader_drop(&reader).wake);
+    /* Until then the thread may have words of this side, and ring its bell. */
     pthread_join(thread, NULL);
     printf("%zu\n", lines);
     bell_close(&mine);

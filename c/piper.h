@@ -19,11 +19,12 @@
  *   writer's to write, until another call of that side is made.
  * - No call is made from a signal handler, nor in the forked child of a process with threads.
  *
- * How long what the words name must live: until each time that they were left they came back, to this
- * side in a result's `before` or `mine`, or to the other side as `wake`, and that wake is done. So where
- * the last poll was pending, and neither a later result nor the drop gave its words back, the other side's
- * thread has them, and will still use what they name, though this side was dropped: keep it until that
- * thread was joined, or count its holders, as piper_wait.h does. Any wake may be a stale one: look again.
+ * How long what the words name must live: for each time that they were left they come back, to this
+ * side in a result's `before` or `mine`, or to the other side as `wake`; until then, and until that
+ * wake is done. So if the last poll was pending, and neither a later result nor the drop gave its
+ * words back, the other side's thread has them, and will still use what they name, though this side
+ * was dropped. Keep it until that thread was joined, or count its holders, as piper_wait.h does. Any
+ * wake may be a stale one: look again.
  *
  * Memory comes from `malloc` and goes back by `free`.
  */
