@@ -18,12 +18,15 @@ from pathlib import Path
 TOP = Path(__file__).resolve().parent.parent
 
 
-
 def of_sides(*calls):
-    """The proofs of these calls of both sides of the ring."""
-    sides = ("reader/ReadSide", "writer/WriteSide")
-    return [f"piper_ring/proofs/ends/slots/{side}/{call}" for side in sides for call in calls]
+    """The proofs of these calls of a side of the ring, which reader and writer share."""
+    return [f"piper_ring/proofs/ends/slots/side/Side/{call}" for call in calls]
 
+
+FINISHES = [
+    "piper_ring/proofs/ends/slots/reader/Side+ReadEnd+T/finish",
+    "piper_ring/proofs/ends/slots/writer/Side+WriteEnd+T/finish",
+]
 
 # each lemma, the specs that have it, and the proofs that may use it
 SEALS = {
@@ -36,8 +39,8 @@ SEALS = {
             "piper_ring/proofs/ring/memory/Memory/claim",
         ],
     ),
-    "as_published": ("piper_ring/specs/Loads", ["piper_ring/proofs/ring/seats/ReadSeat/look_tail"]),
-    "as_consumed": ("piper_ring/specs/Loads", ["piper_ring/proofs/ring/seats/WriteSeat/look_head"]),
+    "as_published": ("piper_ring/specs/Loads", ["piper_ring/proofs/ring/seats/ReadSeat/load_tail"]),
+    "as_consumed": ("piper_ring/specs/Loads", ["piper_ring/proofs/ring/seats/WriteSeat/load_head"]),
     "as_closed": (
         "piper_ring/specs/Loads",
         [f"piper_ring/proofs/ring/seats/{seat}/load_closed" for seat in ("ReadSeat", "WriteSeat")],
@@ -48,16 +51,13 @@ SEALS = {
     ),
     "as_waiter": (
         "piper_ring/specs/Loads",
-        [f"piper_ring/proofs/ring/slots/SlotWords/{load}" for load in ("look_flag", "take_waker")],
+        [f"piper_ring/proofs/ring/slots/SlotWords/{load}" for load in ("load_flag", "take_waker")],
     ),
     "as_handed_back": ("piper_ring/specs/Loads", ["piper_ring/proofs/ring/slots/SlotWords/reclaim"]),
-    "as_back": (
-        "piper_ring/specs/Loads",
-        of_sides("reclaim_waker"),
-    ),
+    "as_back": ("piper_ring/specs/Loads", of_sides("reclaim_waker")),
     "as_put": ("piper_ring/specs/Loads", of_sides("publish_waker")),
     "as_taken_back": ("piper_ring/specs/Loads", of_sides("cancel", "reclaim_waker")),
-    "as_taken": ("piper_ring/specs/Loads", of_sides("take", "finish")),
+    "as_taken": ("piper_ring/specs/Loads", of_sides("take") + FINISHES),
     "as_gone": (
         "piper_ring/specs/Loads",
         [f"piper_ring/proofs/ring/seats/{seat}/leave" for seat in ("ReadSeat", "WriteSeat")],
@@ -65,9 +65,9 @@ SEALS = {
     "as_lying": ("piper_ring/specs/Loads", ["piper_ring/proofs/ring/remains/Remains/into_parts"]),
     "as_dropped": (
         "piper/specs/Waits",
-        [f"piper/proofs/handles/{handle}/leave" for handle in ("Reader", "Writer")],
+        [f"piper/proofs/handles/{handle}/drop" for handle in ("Reader", "Writer")],
     ),
-    "just_registered": ("piper/specs/Contexts", ["piper/proofs/taken/Taken/grant"]),
+    "just_registered": ("piper/specs/Contexts", ["piper/proofs/handles/waiting/grant"]),
     "as_read": ("piper/specs/StdEnds", ["piper/proofs/like/std_ends/std_read"]),
     "as_written": ("piper/specs/StdEnds", ["piper/proofs/like/std_ends/std_write"]),
     "as_flushed": ("piper/specs/StdEnds", ["piper/proofs/like/std_ends/std_flush"]),

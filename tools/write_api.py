@@ -47,6 +47,8 @@ def item_named(owner, name):
 def facts(crate, name, path):
     """How a type is imported, whether it is dropped, sent and shared, and its traits."""
     item = item_named(crate, name)
+    if item.kind == "type":
+        return [f"`use {path};`"]
     found, into = set(re.findall(r"\w+", " ".join(
         re.findall(r"derive\((.*?)\)", " ".join(item.attributes))))), set()
     for trait, of_type, body in (one for where in dict.fromkeys([crate, *CRATES])
@@ -277,7 +279,7 @@ def crate_page(crate, links):
     page.lines += ["", f"`piper` exports some of it, too: {listed(above)}."] if above else []
     names = {name: one for name, one in sorted(exports(crate).items()) if name != "OutOfMemory"}
     kinds = {name: item_named(names[name][0], name).kind for name in names}
-    for title, of_kind in (("Functions", ("fn",)), ("Types", ("struct", "enum", "const")),
+    for title, of_kind in (("Functions", ("fn",)), ("Types", ("struct", "enum", "const", "type")),
                            ("Traits", ("trait",))):
         group = [name for name in names if kinds[name] in of_kind]
         if group:

@@ -4,6 +4,6 @@
 
 macro_rules! own {
     () => {
-        "piper_ebfe84342e0e_"
+        "piper_9727a8306628_"
     };
 }

@@ -8,7 +8,7 @@ from functools import cache
 from pathlib import Path
 
 TOP = Path(__file__).resolve().parents[2]
-START = re.compile(r"(?:pub |final |unsafe )*(fn|struct|enum|trait|const|impl)\b(.*)")
+START = re.compile(r"(?:pub |final |unsafe )*(fn|struct|enum|trait|const|type|impl)\b(.*)")
 
 
 class Item:
@@ -184,8 +184,10 @@ def bare(text):
 
 @cache
 def impls(crate):
-    """The impls of a crate: the trait, or none, the type, and the item."""
+    """The impls of a crate: the trait, or none, the type, and the item. A type with an alias has its name."""
     found = []
+    heads = [item.head() for item in items_of(crate) if item.kind == "type"]
+    aliases = {of: bare(name.split("type ")[1]) for name, of in (head.split(" = ") for head in heads)}
     for item in items_of(crate):
         if item.kind == "impl":
             head = re.sub(r"^(unsafe )?impl\s*", "", item.head())
@@ -197,7 +199,8 @@ def impls(crate):
                         break
                 head = head[end + 1:].strip()
             of_trait, is_for, of_type = re.split(r" where ", head)[0].partition(" for ")
-            found.append((of_trait, of_type, item) if is_for else (None, of_trait, item))
+            of_trait, of_type = (of_trait, of_type) if is_for else (None, of_trait)
+            found.append((of_trait, aliases.get(of_type, of_type), item))
     return found
 
 

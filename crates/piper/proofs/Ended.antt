@@ -45,12 +45,12 @@ ended_seen a b same seen ended = record {
 }
 
 -- and nothing is left to be consumed
-pub ended_consumed : (n : ℕ) (a b : ReadView) → b.taken ≡ a.taken ++ take n a.known → b.known ≡ drop n a.known → b.all ≡ a.all → b.saw ≡ a.saw → IsEnded a → IsEnded b
-ended_consumed n a b taken known all saw ended = record {
-  known = known ∙ ap (λ l. drop n l) ended.known ∙ drop-nil n;
-  saw = saw ∙ ended.saw;
-  all = taken ∙ ap (λ l. a.taken ++ take n l) ended.known ∙ ap (λ l. a.taken ++ l) (take-nil n) ∙ append-nil a.taken ∙ ended.all ∙ sym all;
-}
+pub ended_consumed : (n : ℕ) (a b : ReadView) → b ≡ record a { taken = a.taken ++ take n a.known; known = drop n a.known } → IsEnded a → IsEnded b
+ended_consumed n a b stored ended = rw stored (record {
+  known = ap (λ l. drop n l) ended.known ∙ drop-nil n;
+  saw = ended.saw;
+  all = ap (λ l. a.taken ++ take n l) ended.known ∙ ap (λ l. a.taken ++ l) (take-nil n) ∙ append-nil a.taken ∙ ended.all;
+})
 
 -- what was taken stays the same
 ended_takes : (a b : ReadView) → (KnowsEnd a → b.all ≡ a.all) → IsEnded a → IsEnded b → b.taken ≡ a.taken

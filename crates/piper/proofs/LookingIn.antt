@@ -5,7 +5,7 @@ use Rattle.piper_ring.specs.WriteView.{WriteView}
 use Rattle.piper.specs.CopyAnswers.{Copies}
 use Rattle.piper.specs.Fills.{Fills}
 use Rattle.piper.specs.Like.{Passes}
-use Rattle.piper.specs.Looks.{WriterLooked}
+use Rattle.piper_ring.specs.Looks.{WriterLooked}
 use Rattle.piper.specs.Polls.{IfReadyOk}
 use Rattle.piper.specs.declared.error.Inner.{Inner}
 

@@ -6,7 +6,7 @@ use Rattle.piper_ring.specs.ReadView.{ReadView}
 use Rattle.piper.specs.CopyAnswers.{Copies}
 use Rattle.piper.specs.Drains.{Drains, DrainRounds, found_len}
 use Rattle.piper.specs.Like.{Passes}
-use Rattle.piper.specs.Looks.{ReaderLooked}
+use Rattle.piper_ring.specs.Looks.{ReaderLooked}
 use Rattle.piper.specs.Polls.{OnReadyOk}
 use Rattle.piper_ring.proofs.Loaded.{still_loaded}
 use Rattle.piper.specs.declared.error.Inner.{Inner}

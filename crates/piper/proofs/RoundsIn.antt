@@ -1,10 +1,9 @@
 -- Rounds of a fill, one after the other.
-use Rattle.std.proofs.Common.{◌≡◌, ℕ, ◌+◌, ◌<◌, ◌≤◌, ◌⊎◌, true, List, [], ◌++◌, take, length, Ok, Err, refl, sym, ap, ◌∙◌, subst, append_assoc, append-nil, length-append, length-take-le, inl, inr, arith}
+use Rattle.std.proofs.Common.{◌≡◌, ℕ, ◌+◌, ◌-◌, ◌<◌, ◌≤◌, ◌⊎◌, true, false, List, [], ◌++◌, take, drop, length, Ok, Err, refl, sym, ap, ◌∙◌, subst, append_assoc, append-nil, length-append, length-take-le, inl, inr, arith}
 use Rattle.futures.specs.declared.task.Poll.TheVariants.{Ready}
 use Rattle.piper_ring.specs.Shared.{flag}
-use Rattle.piper_ring.specs.WriteView.{WriteView}
+use Rattle.piper_ring.specs.WriteView.{WriteView, SameButSaw}
 use Rattle.piper.specs.Copies.{IsReplaced}
-use Rattle.piper.specs.Ends.{WriterSaw, WriterPublished}
 use Rattle.piper.specs.Fills.{FillRounds, WriterFilled, WriterRelent, most_of_round}
 use Rattle.piper.specs.Like.{Passes, PassesInOrder}
 use Rattle.piper.specs.declared.error.Inner.TheVariants.{Like}
@@ -27,15 +26,15 @@ filled_relent a b c p q = record {
 }
 
 -- a round has as many bytes at most
-same_round : (c w : WriteView) → WriterSaw c w → most_of_round w ≡ most_of_round c
+same_round : (c w : WriteView) → SameButSaw c w → most_of_round w ≡ most_of_round c
 same_round c w saw = λ j. most_of_round (record c { capacity = saw.end.capacity j; sent = saw.sent j; room = saw.room j })
 
 -- and w may have seen closed since
-filled_saw : (a c w : WriteView) → WriterFilled a c → WriterSaw c w → WriterFilled a w
-filled_saw a c w p q = record {
+filled_saw : (a c w : WriteView) → WriterFilled a c → c.saw ≡ false → SameButSaw c w → WriterFilled a w
+filled_saw a c w p unseen q = record {
   end = record { ring = q.end.ring ∙ p.end.ring; capacity = q.end.capacity ∙ p.end.capacity; told = q.end.told ∙ p.end.told };
   shut = q.shut ∙ p.shut;
-  saw = omega (arith, p.saw, q.saw);
+  saw = omega (arith, p.saw, ap flag unseen);
 }
 
 module _ {S : Type 0} (gives : Passes S) (in_order : PassesInOrder gives) (a b c : WriteView) (s t u : S) (sum : ℕ) (d : Filled gives a b s t sum) (relent : WriterRelent b c) where
@@ -76,35 +75,32 @@ module _ {S : Type 0} (gives : Passes S) (in_order : PassesInOrder gives) (a b c
   }
 
   -- the source gave n bytes to a pipe that was then seen closed
-  pub fill_closed : {E : Type 0} (is_dry : S → Type 0) (fails : S → E → S → Type 0) (w : WriteView) (n : ℕ) → n ≤ length c.lent → n ≤ most_of_round c → gives t (take n c.lent) u → WriterSaw c w → w.saw ≡ true
+  pub fill_closed : {E : Type 0} (is_dry : S → Type 0) (fails : S → E → S → Type 0) (w : WriteView) (n : ℕ) → n ≤ length c.lent → n ≤ most_of_round c → gives t (take n c.lent) u → c.saw ≡ false → SameButSaw c w → w.saw ≡ true
       → FillRounds gives is_dry fails (Ready (Ok (sum + n))) a w s u
-  fill_closed is_dry fails w n within within_round some saw closed = record {
+  fill_closed is_dry fails w n within within_round some unseen saw closed = record {
     published = d.given;
     lost = take n c.lent;
     sent = saw.sent ∙ relent.sent ∙ d.sent;
-    all = λ unseen. let never = closed in absurd (cc);
+    all = λ unclosed. let never = closed in absurd (cc);
     last = omega (arith, length-take-le n c.lent within, within_round, same_round c w saw);
     room = omega (arith, replaced, ap length saw.sent, saw.room);
     copied = (in_order s d.given t (take n c.lent) u d.passed some, more w n within);
     most = inr closed;
-    end = filled_saw a c w (filled_relent a b c d.end relent) saw;
+    end = filled_saw a c w (filled_relent a b c d.end relent) unseen saw;
   }
 
   -- the source gave n bytes, which were published
-  pub filled_more : (w x : WriteView) (n : ℕ) → n ≤ length c.lent → gives t (take n c.lent) u → WriterSaw c w → x.sent ≡ w.sent ++ take n w.lent → x.room + n ≡ w.room → WriterPublished w x
+  pub filled_more : (w x : WriteView) (n : ℕ) → n ≤ length c.lent → gives t (take n c.lent) u → c.saw ≡ false → SameButSaw c w → n ≤ w.room
+      → x ≡ record w { sent = w.sent ++ take n w.lent; lent = drop n w.lent; room = w.room - n }
       → Filled gives a x s u (sum + n)
-  filled_more w x n within some saw stored used published =
-      let before : WriterFilled a w = filled_saw a c w (filled_relent a b c d.end relent) saw in
-      let sent : x.sent ≡ (a.sent ++ d.given) ++ take n c.lent = stored ∙ (λ j. (saw.sent ∙ relent.sent ∙ d.sent) j ++ take n (saw.lent j)) in
-      record {
+  filled_more w x n within some unseen saw fits stored =
+      let before : WriterFilled a w = filled_saw a c w (filled_relent a b c d.end relent) unseen saw in
+      let sent : w.sent ++ take n w.lent ≡ (a.sent ++ d.given) ++ take n c.lent = λ j. (saw.sent ∙ relent.sent ∙ d.sent) j ++ take n (saw.lent j) in
+      rw stored (record {
         given = d.given ++ take n c.lent;
         sent = sent ∙ append_assoc a.sent d.given (take n c.lent);
         passed = in_order s d.given t (take n c.lent) u d.passed some;
         count = more w n within;
-        room = omega (arith, replaced, ap length saw.sent, saw.room, used, ap length stored, length-append w.sent (take n w.lent), ap length (ap (take n) saw.lent), length-take-le n c.lent within);
-        end = record {
-          end = record { ring = published.end.ring ∙ before.end.ring; capacity = published.end.capacity ∙ before.end.capacity; told = published.end.told ∙ before.end.told };
-          shut = published.shut ∙ before.shut;
-          saw = omega (arith, before.saw, ap flag published.saw);
-        };
-      }
+        room = omega (arith, replaced, ap length saw.sent, saw.room, fits, length-append w.sent (take n w.lent), ap length (ap (take n) saw.lent), length-take-le n c.lent within);
+        end = record { end = record { ring = before.end.ring; capacity = before.end.capacity; told = before.end.told }; shut = before.shut; saw = before.saw };
+      })

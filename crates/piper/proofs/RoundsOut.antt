@@ -39,26 +39,21 @@ module _ {S : Type 0} (takes : Passes S) (in_order : PassesInOrder takes) (a b :
       record { moved = d.moved; taken = d.taken; known = d.known; copied = (none_more none, (t, d.passed, failed)); most = tt; end = d.end }
 
   -- the destination took n bytes, which were consumed
-  pub drained_more : (w : ReadView) (n : ℕ) → n ≤ in_one_piece b → takes t (take n b.known) u → w.taken ≡ b.taken ++ take n b.known → w.known ≡ drop n b.known → ReaderConsumed b w
+  pub drained_more : (w : ReadView) (n : ℕ) → n ≤ in_one_piece b → takes t (take n b.known) u → w ≡ record b { taken = b.taken ++ take n b.known; known = drop n b.known }
       → Drained takes a w s u (sum + n)
-  drained_more w n within some stored left consumed =
+  drained_more w n within some stored =
       let front : List ℕ = take n b.known in
-      record {
+      rw stored (record {
         moved = d.moved ++ front;
-        taken = stored ∙ ap (λ l. l ++ front) d.taken ∙ append_assoc a.taken d.moved front;
-        known = d.known ∙ ap (λ l. d.moved ++ l) (sym (take-append-drop n b.known)) ∙ sym (append_assoc d.moved front (drop n b.known)) ∙ ap (λ l. (d.moved ++ front) ++ l) (sym left);
+        taken = ap (λ l. l ++ front) d.taken ∙ append_assoc a.taken d.moved front;
+        known = d.known ∙ ap (λ l. d.moved ++ l) (sym (take-append-drop n b.known)) ∙ sym (append_assoc d.moved front (drop n b.known));
         passed = in_order s d.moved t front u d.passed some;
         count = length-append d.moved front ∙ omega (arith, d.count, length-take-le n b.known (omega (arith, within)));
         end = record {
-          end = record {
-            ring = consumed.end.ring ∙ d.end.end.ring;
-            capacity = consumed.end.capacity ∙ d.end.end.capacity;
-            told = consumed.end.told ∙ d.end.end.told;
-            told_shut = consumed.end.told_shut ∙ d.end.end.told_shut;
-          };
-          saw = consumed.saw ∙ d.end.saw;
+          end = record { ring = d.end.end.ring; capacity = d.end.end.capacity; told = d.end.end.told; told_shut = d.end.end.told_shut };
+          saw = d.end.saw;
         };
-      }
+      })
 
 -- before the rounds
 pub drained_none : {S : Type 0} (takes : Passes S) (a : ReadView) (s : S) → takes s [] s → Drained takes a a s s 0

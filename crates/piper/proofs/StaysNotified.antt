@@ -4,7 +4,4 @@ use Rattle.piper.specs.declared.handles.Writer.{Writer}
 use Rattle.piper.specs.Handles.{NotifiesReader}
 
 pub reader_stays : (a b : Writer) → b.side.slots ≡ a.side.slots → b.side.end.sent ≡ a.side.end.sent → b.side.end.shut ≡ a.side.end.shut → NotifiesReader a → NotifiesReader b
-reader_stays a b registrations sent shut woke = record {
-  bytes = rw (sent, registrations) woke.bytes;
-  shut = rw (shut, registrations) woke.shut;
-}
+reader_stays a b registrations sent shut woke = rw (sent, shut, registrations) woke

@@ -1,48 +1,47 @@
 -- A writer that waits still waits once it has taken back what it lent.
-use Rattle.std.proofs.Common.{◌≡◌, ◌∙◌, sym, ℕ, Result, Ok, Err, inl, inr}
+use Rattle.std.proofs.Common.{◌≡◌, ℕ, [], Result, Ok, Err, inl, inr}
 use Rattle.futures.specs.declared.task.context.Context.{Context}
 use Rattle.futures.specs.declared.task.Poll.{Poll}
 use Rattle.futures.specs.declared.task.Poll.TheVariants.{Ready, Pending}
 use Rattle.futures.specs.Poll.{OnPending}
 use Rattle.piper.specs.declared.handles.Writer.{Writer}
-use Rattle.piper.specs.Ends.{WriterUnlent}
 use Rattle.piper.specs.Handles.{SameWriter}
 use Rattle.piper.specs.Waits.{WriterRegistered}
 use Rattle.piper.specs.WriterCalls.{DrawsToYield, FillPends, FillsWaiting}
 use Rattle.piper.specs.declared.error.Inner.{Inner}
 use Rattle.piper.specs.declared.error.Inner.TheVariants.{Memory, Like}
 
-draws : {E : Type 0} (r : Poll (Result ℕ (Inner E))) (a b d : Writer) → WriterUnlent b.side.end d.side.end → SameWriter b d → DrawsToYield r a b → DrawsToYield r a d
-draws (Ready (Ok n)) a b d end rest h = rw (rest.rng, end.saw) h
+draws : {E : Type 0} (r : Poll (Result ℕ (Inner E))) (a b d : Writer) → d.side.end ≡ record b.side.end { lent = [] } → SameWriter b d → DrawsToYield r a b → DrawsToYield r a d
+draws (Ready (Ok n)) a b d end rest h = rw (rest.rng, end) h
 draws (Ready (Err Memory)) a b d end rest h = rw rest.rng h
 draws (Ready (Err (Like e))) a b d end rest h = rw rest.rng h
-draws Pending a b d end rest h = rw (rest.rng, end.room) h
+draws Pending a b d end rest h = rw (rest.rng, end) h
 
-still : (a b d : Writer) (cx : Context) → WriterUnlent b.side.end d.side.end → d.side.slots ≡ b.side.slots → WriterRegistered a b cx → WriterRegistered a d cx
+still : (a b d : Writer) (cx : Context) → d.side.end ≡ record b.side.end { lent = [] } → d.side.slots ≡ b.side.slots → WriterRegistered a b cx → WriterRegistered a d cx
 still a b d cx end registrations (inl w) = inl (record {
   ticket = rw registrations w.ticket;
   pending = record {
     registered = rw registrations w.pending.registered;
-    none = end.room ∙ w.pending.none;
-    stays_open = end.saw ∙ w.pending.stays_open;
-    looked = rw (registrations, end.sent, end.end.capacity) w.pending.looked;
+    none = rw end w.pending.none;
+    stays_open = rw end w.pending.stays_open;
+    looked = rw (registrations, end) w.pending.looked;
     goes_on = rw registrations w.pending.goes_on;
   };
   calm = w.calm;
 })
 still a b d cx end registrations (inr away) = inr (away.0, (away.1.0, rw registrations away.1.1, away.1.2))
 
-pending : {A : Type 0} (r : Poll A) (a b d : Writer) (cx : Context) → WriterUnlent b.side.end d.side.end → SameWriter b d
+pending : {A : Type 0} (r : Poll A) (a b d : Writer) (cx : Context) → d.side.end ≡ record b.side.end { lent = [] } → SameWriter b d
     → OnPending r (FillPends a b cx) → OnPending r (FillPends a d cx)
 pending (Ready x) a b d cx end rest h = tt
 pending Pending a b d cx end rest h = record {
-  yields = rw end.room h.yields;
+  yields = rw end h.yields;
   covered = h.covered;
-  registered = λ none. still a b d cx end rest.registrations (h.registered (sym end.room ∙ none));
+  registered = λ none. still a b d cx end rest.registrations (h.registered (rw end at none));
 }
 
 -- and the whole fill waits as it did
-pub stays_waiting : {E : Type 0} (r : Poll (Result ℕ (Inner E))) (a b d : Writer) (old left : Context) → WriterUnlent b.side.end d.side.end → SameWriter b d
+pub stays_waiting : {E : Type 0} (r : Poll (Result ℕ (Inner E))) (a b d : Writer) (old left : Context) → d.side.end ≡ record b.side.end { lent = [] } → SameWriter b d
     → FillsWaiting r a b old left → FillsWaiting r a d old left
 stays_waiting r a b d old left end rest h = record {
   draws = draws r a b d end rest h.draws;

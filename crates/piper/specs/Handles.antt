@@ -3,7 +3,7 @@ use Rattle.std.specs.Prelude.{◌≡◌, ℕ, List, bit_xor}
 use Rattle.std.specs.Borrow.{Fml, MutBor, Array, Lends}
 use denote.Builtin.{u8}
 use Rattle.piper_ring.specs.LendsBuffer.{with_lent}
-use Rattle.piper_ring.specs.SlotsView.{IsAtRest, IsReaderAtRest, SameReaderLooks, SameReaderPlace, SameWriterLooks, SameWriterPlace}
+use Rattle.piper_ring.specs.SlotsView.{IsAtRest, IsReaderAtRest, SameLooks, SamePlace}
 use Rattle.piper_ring.specs.Opened.{FreshReadEnd, FreshWriteEnd}
 use Rattle.piper.specs.Generator.{generator}
 use Rattle.piper.specs.declared.handles.Reader.{Reader}
@@ -54,23 +54,23 @@ SameWriterCells a b = (b.side.cells ≡ a.side.cells) × (b.source ≡ a.source)
 pub record SameReaderButWoke (a b : Reader) : Type 0 where
   pub slots : SameReaderCells a b
   pub rng : b.rng ≡ a.rng
-  pub waits : SameReaderPlace a.side.slots b.side.slots
+  pub waits : SamePlace a.side.slots b.side.slots
 
 pub record SameWriterButWoke (a b : Writer) : Type 0 where
   pub slots : SameWriterCells a b
   pub rng : b.rng ≡ a.rng
-  pub waits : SameWriterPlace a.side.slots b.side.slots
+  pub waits : SamePlace a.side.slots b.side.slots
 
 -- since a, b may have woken the other side again, and may wait otherwise
 pub record SameReaderButWaits (a b : Reader) : Type 0 where
   pub slots : SameReaderCells a b
   pub rng : b.rng ≡ a.rng
-  pub looks : SameReaderLooks a.side.slots b.side.slots
+  pub looks : SameLooks a.side.slots b.side.slots
 
 pub record SameWriterButWaits (a b : Writer) : Type 0 where
   pub slots : SameWriterCells a b
   pub rng : b.rng ≡ a.rng
-  pub looks : SameWriterLooks a.side.slots b.side.slots
+  pub looks : SameLooks a.side.slots b.side.slots
 
 -- b may wait otherwise, and have woken the other side since
 pub record SameWriterButSlots (a b : Writer) : Type 0 where

@@ -5,7 +5,6 @@ pub mod Fills
 pub mod Polls
 pub mod Like
 pub mod Written
-pub mod Slots
 pub mod StdEnds
 pub mod Contexts
 pub mod Copies
@@ -15,6 +14,7 @@ pub mod Failed
 pub mod Generator
 pub mod Handles
 pub mod Looks
+pub mod Runs
 pub mod Owned
 pub mod Waits
 pub mod OfReader

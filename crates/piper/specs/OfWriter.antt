@@ -2,6 +2,7 @@
 use Rattle.std.specs.Prelude.{ℕ, List, Bool}
 use Rattle.piper_ring.specs.Shared.{Ring}
 use Rattle.piper_ring.specs.WriteView.{WriteView}
+use Rattle.piper_ring.specs.Log.{Log}
 use Rattle.piper.specs.declared.handles.Writer.{Writer}
 
 -- its end of the ring
@@ -39,3 +40,7 @@ saw writer = writer.side.end.saw
 -- how many consumed bytes marks reported to it
 abbrev pub told : Writer → ℕ
 told writer = writer.side.end.told
+
+-- what it did, call by call
+abbrev pub log : Writer → Log
+log writer = writer.side.log

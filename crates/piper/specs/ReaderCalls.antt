@@ -7,17 +7,18 @@ use Rattle.futures.specs.declared.task.Poll.{Poll}
 use Rattle.futures.specs.declared.task.Poll.TheVariants.{Ready}
 use Rattle.std.specs.Io.{StartsWith}
 use denote.Ref.{Bor}
-use Rattle.piper_ring.specs.ReadView.{KnowsEnd, MayBeUnread as EndMayHave, in_one_piece}
-use Rattle.piper_ring.specs.SlotsView.{IsPending, IsWriterPending, SameReaderPlace}
+use Rattle.piper_ring.specs.ReadView.{KnowsEnd, MayBeUnread as EndMayHave, SameButTold, in_one_piece}
+use Rattle.piper_ring.specs.SlotsView.{IsPending, IsWriterPending, SamePlace}
 use Rattle.piper.specs.Contexts.{AsksAgain, WantsWaker}
 use Rattle.piper.specs.Copies.{ReaderCopied}
 use Rattle.piper.specs.CopyAnswers.{OnMemory}
 use Rattle.piper.specs.Drains.{Drains, EndIsTrue, EndIsUnseen, found_len}
 use Rattle.piper.specs.Draws.{Draws, Undrawn}
-use Rattle.piper.specs.Ends.{IsEnded, ReaderConsumed, ReaderHeeded, ReaderIsUpToDate, ReaderRefreshed, WriterRefreshed}
+use Rattle.piper.specs.Ends.{IsEnded, ReaderConsumed, ReaderIsUpToDate, ReaderRefreshed, WriterRefreshed}
 use Rattle.piper.specs.Handles.{NotifiesReader, NotifiesWriter, SameReader, SameReaderButWaits, SameWriter, SameReaderButWoke, SameReaderCells, read_source}
 use Rattle.piper.specs.Like.{Passes, appends_to}
-use Rattle.piper.specs.Looks.{ReaderFound, ReaderLooked}
+use Rattle.piper_ring.specs.Looks.{ReaderLooked}
+use Rattle.piper.specs.Looks.{ReaderFound}
 use Rattle.piper.specs.Polls.{After, Count, IfReadyErr, IfReadyOk, Lends, TakesNone}
 use Rattle.piper.specs.Waits.{ReaderIsRemembered, ReaderIsWaiting, ReaderPends, WriterIsRemembered, ReaderLeavesNone, ReaderRegistered}
 use Rattle.piper.specs.declared.error.Inner.{Inner}
@@ -153,7 +154,7 @@ pub record DrainsAtOnce {E : Type 0} (r : Poll (Result ℕ (Inner E))) (a b : Re
   pub undrawn : Undrawn (0 < found_len a.side.end b.side.end) r a.rng b.rng
   pub unseen : EndIsUnseen r a.side.end b.side.end
   pub memory : OnMemory r ⊥
-  pub place : SameReaderPlace a.side.slots b.side.slots
+  pub place : SamePlace a.side.slots b.side.slots
 
 -- who was woken after all that the reader had consumed, was so after all that it consumed since
 abbrev pub WakesWriter : Reader → Reader → Type 0
@@ -200,8 +201,9 @@ WasWoken reader left =
 
 -- the reader, but for what marks reported to it
 pub record SameReaderButTold (a b : Reader) : Type 0 where
-  pub end : ReaderHeeded a.side.end b.side.end
+  pub end : SameButTold a.side.end b.side.end
   pub handle : SameReader a b
+  pub log : b.side.log ≡ a.side.log
 
 -- where two handles met: what each of them knows of more than before
 pub record MeetMore (a b : Reader) (c d : Writer) : Type 0 where
@@ -231,3 +233,4 @@ pub record MeetSame (a b : Reader) (c d : Writer) : Type 0 where
   pub reader : ReaderRefreshed a.side.end b.side.end
   pub writer : WriterRefreshed c.side.end d.side.end
   pub handles : SameReader a b × SameWriter c d
+  pub logs : (b.side.log ≡ a.side.log) × (d.side.log ≡ c.side.log)

@@ -6,7 +6,7 @@ use Rattle.piper_ring.specs.Loads.{IsAway}
 use Rattle.piper_ring.specs.SlotsView.{IsPending, IsWriterPending}
 use Rattle.piper.specs.Contexts.{AsksAgain, IsCalm}
 use Rattle.piper.specs.Handles.{read_source, write_source}
-use Rattle.piper.specs.Looks.{NothingYet}
+use Rattle.piper_ring.specs.Looks.{NothingYet}
 use Rattle.piper.specs.declared.handles.Reader.{Reader}
 use Rattle.piper.specs.declared.handles.Writer.{Writer}
 use Rattle.piper_ring.specs.declared.ends.finished.FinishedReader.{FinishedReader}
@@ -86,13 +86,13 @@ WriterIsRemembered a b reader =
 
 -- after the close by which it left, the reader checked the writer's slot
 pub record ReaderWokeLast (reader : Reader) (left : FinishedReader) : Type 0 where
-  pub count : left.slots.count ≡ length reader.side.end.taken
-  pub over : left.slots.over ≡ true
+  pub count : left.slots.stored.count ≡ length reader.side.end.taken
+  pub over : left.slots.stored.closed ≡ true
 
 -- after the close by which it left, the writer checked the reader's slot
 pub record WriterWokeLast (writer : Writer) (left : FinishedWriter) : Type 0 where
-  pub bytes : left.slots.bytes ≡ writer.side.end.sent
-  pub shut : left.slots.shut ≡ true
+  pub bytes : left.slots.stored.bytes ≡ writer.side.end.sent
+  pub shut : left.slots.stored.closed ≡ true
 
 -- `drop` of this handle was called. It is sealed: no proof looks into it, and only those of the two
 -- `leave` use the lemma. So what a clause says of it came from such a call

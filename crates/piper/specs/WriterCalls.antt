@@ -1,22 +1,23 @@
 -- What the calls of a writer do: each definition is shared by all forms of a call.
-use Rattle.std.specs.Prelude.{◌≡◌, ℕ, ◌<◌, ◌≤◌, ◌++◌, true, false, Bool, List, length, take, Option, Result, Ok}
+use Rattle.std.specs.Prelude.{◌≡◌, ℕ, ◌<◌, ◌≤◌, ◌++◌, true, false, Bool, List, [], length, take, Option, Result, Ok}
 use Rattle.std.specs.Io.KnownBytes.{IsAtEnd}
 use Rattle.futures.specs.Task.{Covers, Keeps}
 use Rattle.futures.specs.Poll.{OnPending}
 use Rattle.futures.specs.declared.task.context.Context.{Context}
 use Rattle.futures.specs.declared.task.Poll.{Poll}
 use Rattle.futures.specs.declared.task.Poll.TheVariants.{Ready}
-use Rattle.piper_ring.specs.SlotsView.{IsWriterPending, SameWriterPlace}
-use Rattle.piper_ring.specs.WriteView.{Lendable, SameButHeard, MayBeUnread as EndMayHave}
+use Rattle.piper_ring.specs.SlotsView.{IsWriterPending, SamePlace}
+use Rattle.piper_ring.specs.WriteView.{Lendable, MayBeUnread as EndMayHave}
 use Rattle.piper.specs.Contexts.{AsksAgain}
 use Rattle.piper.specs.Copies.{IsReplaced, WriterCopied}
 use Rattle.piper.specs.CopyAnswers.{OnMemory, inner_of}
 use Rattle.piper.specs.Draws.{Draws, Undrawn}
-use Rattle.piper.specs.Ends.{WriterHeeded, WriterIsUpToDate, WriterPublished, WriterShut}
+use Rattle.piper.specs.Ends.{WriterIsUpToDate, WriterPublished}
 use Rattle.piper.specs.Fills.{Fills, FoundRoom, LosesOneRound, OnNoCount}
 use Rattle.piper.specs.Handles.{NotifiesReader, SameWriter, SameWriterButSlots, SameWriterButWoke, SameWriterCells, write_source}
 use Rattle.piper.specs.Like.{Passes, consumes_of}
-use Rattle.piper.specs.Looks.{WriterFound, WriterLooked}
+use Rattle.piper_ring.specs.Looks.{WriterLooked}
+use Rattle.piper.specs.Looks.{WriterFound}
 use Rattle.piper.specs.Polls.{Count, IfReadyOk}
 use Rattle.piper.specs.Waits.{WriterLeavesNone, WriterRegistered}
 use Rattle.piper.specs.declared.error.Inner.{Inner}
@@ -115,7 +116,7 @@ pub record FillsWaiting {E : Type 0} (r : Poll (Result ℕ (Inner E)))
 pub record FillsAtOnce {E : Type 0} (r : Poll (Result ℕ (Inner E))) (a b : Writer) : Type 0 where
   pub undrawn : Undrawn (FoundRoom r b.side.end) r a.rng b.rng
   pub memory : OnMemory r ⊥
-  pub place : SameWriterPlace a.side.slots b.side.slots
+  pub place : SamePlace a.side.slots b.side.slots
 
 -- who was woken after all that the writer had published, was so after all that it published since
 abbrev pub WakesReader : Writer → Writer → Type 0
@@ -150,14 +151,16 @@ pub record SameWriterButPublished (a b : Writer) : Type 0 where
 -- the writer, which has closed the pipe for good: it lends nothing any more
 pub record SameWriterButShut (a b : Writer) : Type 0 where
   pub handle : SameWriterButSlots a b
-  pub end : WriterShut a.side.end b.side.end
+  pub end : b.side.end ≡ record a.side.end { shut = true; saw = true; lent = [] }
 
 -- the writer, but for what marks reported to it
 pub record SameWriterButTold (a b : Writer) : Type 0 where
   pub handle : SameWriter a b
-  pub end : WriterHeeded a.side.end b.side.end
+  pub log : b.side.log ≡ a.side.log
+  pub end : b.side.end ≡ record a.side.end { told = b.side.end.told }
 
 -- and that the reader was dropped
 pub record SameWriterButLast (a b : Writer) : Type 0 where
   pub handle : SameWriter a b
-  pub end : SameButHeard a.side.end b.side.end
+  pub log : b.side.log ≡ a.side.log
+  pub end : b.side.end ≡ record a.side.end { told = b.side.end.told; saw = true }

@@ -3,21 +3,27 @@
 ghost use Rattle.std.specs.Prelude.{◌≡◌, ◌+◌, ◌<◌, ◌≤◌, ◌++◌, length, take, drop, IsTrue, Ok, true};
 ghost use Rattle.futures.specs.Task.{Keeps};
 ghost use Rattle.futures.specs.Poll.{OnPending};
+ghost use Rattle.piper_protocol.specs.Table.{ends};
+ghost use Rattle.piper_ring.specs.Log.{Opened, Ran};
 ghost use Rattle.piper.specs.Looks.{OnRefused};
+ghost use Rattle.piper.specs.Runs.{poll_answer};
 
+use crate::handles::waiting::{take_own, wake_other, wake_own, wake_waiting};
 use crate::handles::{Reader, Writer};
-use crate::looks::{FirstLook, NoWork};
 use futures::task::{Context, Poll};
-use piper_protocol::steps::{OfPoll, dropping, storing};
-use piper_protocol::write_steps::closing;
-use piper_ring::{FinishedReader, FinishedWriter, LastReadMark, OutOfMemory, ReadMark, WriteMark};
+use piper_protocol::answer::Answer;
+use piper_protocol::table::{AfterRead, AfterWrite, Point, Purpose, ReadPoint, WritePoint};
+use piper_ring::{
+    Finished, FinishedReader, FinishedWriter, LastReadMark, Look, OutOfMemory, ReadMark, WriteMark,
+};
 
 impl Reader {
     ghost use Rattle.piper_ring.specs.Loads.{FoundClosed};
     ghost use Rattle.piper.specs.Counts.{ReaderCompares};
     ghost use Rattle.piper.specs.Handles.{NotifiesWriter, SameReaderButWaits};
-    ghost use Rattle.piper.specs.OfReader.{ring, capacity, taken, known, front, saw, told_shut};
+    ghost use Rattle.piper.specs.OfReader.{ring, capacity, taken, known, end_of, front, log, saw, told_shut};
     ghost use Rattle.piper.specs.ReaderCalls.{AtEnd, MayBeUnread, Polled, PollsEnd, SameReaderButConsumed};
+    ghost use Rattle.piper_ring.specs.Looks.{looks_at};
     ghost use Rattle.piper.specs.Waits.{HasDropped, ReaderPends, ReaderWokeLast};
 
     /// How many bytes are unread now: at least those that the reader knows of or learned of from a
@@ -69,6 +75,8 @@ impl Reader {
     /// fails with `OutOfMemory`, even if the pipe is closed: the waker is made before closed is
     /// loaded.
     pub fn poll(&mut self, cx: &mut Context<'_>) -> Poll<Result<bool, OutOfMemory>>
+        ensures ran { Ran (looks_at (end_of self.old) Purpose.Poll) (poll_answer result)
+            (log self.old) (log self.new) }
         ensures found { Polled result self.old self.new }
         ensures end { PollsEnd result self.old self.new }
         ensures pending { OnPending result (ReaderPends self.old self.new cx.new) }
@@ -76,16 +84,13 @@ impl Reader {
         ensures context { Keeps cx.old cx.new }
         ensures rest { SameReaderButWaits self.old self.new }
     {
-        let call = match self.look_first(OfPoll) {
-            Ok(call) => call,
-            Err(call) => match self.look_waiting(call, cx) {
-                Ok(call) => call,
-                Err(NoWork::Closed) => return Poll::Ready(Ok(false)),
-                Err(NoWork::Pending) => return Poll::Pending,
-                Err(NoWork::Refused) => return Poll::Ready(Err(OutOfMemory)),
-            },
-        };
-        self.take_own(call);
+        match self.look(Purpose::Poll, cx) {
+            Ok(Look::Ready) => {}
+            Ok(Look::Closed) => return Poll::Ready(Ok(false)),
+            Ok(Look::NotReady) => return Poll::Pending,
+            Err(OutOfMemory) => return Poll::Ready(Err(OutOfMemory)),
+        }
+        take_own(&mut self.side);
         Poll::Ready(Ok(true))
     }
 
@@ -105,17 +110,17 @@ impl Reader {
     #[inline(always)]
     pub fn consume(&mut self, amt: usize)
         requires { amt ≤ front self.old }
+        ensures ran { Ran (Point.Reader (ReadPoint.StoreHead amt AfterRead.Answer)) Answer.Done
+            (log self.old) (log self.new) }
         ensures taken { taken self.new ≡ taken self.old ++ take amt (known self.old) }
         ensures known { known self.new ≡ drop amt (known self.old) }
         ensures end { AtEnd self.old → AtEnd self.new }
         ensures woken { NotifiesWriter self.new }
         ensures rest { SameReaderButConsumed self.old self.new }
     {
-        let call = self.store_head(storing(amt));
-        match self.check_writer(call) {
-            Ok(()) => {}
-            Err(call) => self.take_writer().wakes(call),
-        }
+        self.side.begin(Point::Reader(ReadPoint::StoreHead(amt, AfterRead::Answer)));
+        self.side.store_head(amt);
+        wake_other(&mut self.side);
     }
 
     /// Evidence of how many bytes were consumed, for the writer to heed.
@@ -133,12 +138,32 @@ impl Reader {
     /// there was taken, and is woken. Bytes that are unread are lost. The drop does not wake a task
     /// that waited with this handle.
     pub fn drop(self) -> FinishedReader
+        ensures ran { Opened (Point.Reader ReadPoint.StoreClosed)
+            (ends (Point.Reader ReadPoint.Dropped) Answer.Done) (log self) result.log }
         ensures ring { result.told.consumed.names ≡ (ring self).names }
         ensures count { result.told.consumed.count ≡ length (taken self) }
         ensures woken { ReaderWokeLast self result }
         ensures left { HasDropped self }
     {
-        self.leave(dropping())
+        let Reader {
+            mut side,
+            source: _,
+            rng: _,
+        } = self;
+        side.begin(Point::Reader(ReadPoint::StoreClosed));
+        // Closed is stored and the slot emptied in one, since between these two steps there is no
+        // handle. When the waker is called the memory may be freed.
+        let Finished {
+            mut side,
+            taken,
+            left,
+        } = side.finish();
+        drop(left);
+        if let Some(waker) = taken {
+            waker.wake();
+            side.log.woke();
+        }
+        side
     }
 }
 
@@ -146,7 +171,7 @@ impl Writer {
     ghost use Rattle.piper_ring.specs.Loads.{FoundClosed};
     ghost use Rattle.piper.specs.Counts.{WriterCompares};
     ghost use Rattle.piper.specs.Handles.{NotifiesReader, SameWriterButWaits};
-    ghost use Rattle.piper.specs.OfWriter.{ring, capacity, sent, room, lent, shut, saw};
+    ghost use Rattle.piper.specs.OfWriter.{ring, capacity, sent, room, lent, log, shut, saw};
     ghost use Rattle.piper.specs.Waits.{HasDropped, WriterLeavesNone, WriterPends, WriterWokeLast};
     ghost use Rattle.piper.specs.WriterCalls.{MayBeUnread, Polled, SameWriterButPublished, SameWriterButShut};
 
@@ -195,23 +220,21 @@ impl Writer {
     /// consumed or the pipe is closed. It checks for more room only where none is known. Where it
     /// has to wait and no waker can be made it fails with `OutOfMemory`.
     pub fn poll(&mut self, cx: &mut Context<'_>) -> Poll<Result<bool, OutOfMemory>>
+        ensures ran { Ran (Point.Writer (WritePoint.LookClosed Purpose.Poll)) (poll_answer result)
+            (log self.old) (log self.new) }
         ensures found { Polled result self.old self.new }
         ensures pending { OnPending result (WriterPends self.old self.new cx.new) }
         ensures memory { OnRefused result (cx.new.lacks_waker ≡ true) }
         ensures context { Keeps cx.old cx.new }
         ensures rest { SameWriterButWaits self.old self.new }
     {
-        let call = match self.look_first(OfPoll) {
-            FirstLook::Closed => return Poll::Ready(Ok(false)),
-            FirstLook::Room(call) => call,
-            FirstLook::NoRoom(call) => match self.look_waiting(call, cx) {
-                Ok(call) => call,
-                Err(NoWork::Closed) => return Poll::Ready(Ok(false)),
-                Err(NoWork::Pending) => return Poll::Pending,
-                Err(NoWork::Refused) => return Poll::Ready(Err(OutOfMemory)),
-            },
-        };
-        self.take_own(call);
+        match self.look(Purpose::Poll, cx) {
+            Ok(Look::Ready) => {}
+            Ok(Look::Closed) => return Poll::Ready(Ok(false)),
+            Ok(Look::NotReady) => return Poll::Pending,
+            Err(OutOfMemory) => return Poll::Ready(Err(OutOfMemory)),
+        }
+        take_own(&mut self.side);
         Poll::Ready(Ok(true))
     }
 
@@ -220,22 +243,24 @@ impl Writer {
     #[inline(always)]
     pub fn produced(&mut self, n: usize)
         requires { n ≤ length (lent self.old) }
+        ensures ran { Ran (Point.Writer (WritePoint.StoreTail n AfterWrite.Answer)) Answer.Done
+            (log self.old) (log self.new) }
         ensures sent { sent self.new ≡ sent self.old ++ take n (lent self.old) }
         ensures lent { lent self.new ≡ drop n (lent self.old) }
         ensures room { room self.new + n ≡ room self.old }
         ensures woken { NotifiesReader self.new }
         ensures rest { SameWriterButPublished self.old self.new }
     {
-        let call = self.store_tail(storing(n));
-        match self.check_reader(call) {
-            Ok(()) => {}
-            Err(call) => self.take_reader().wakes(call),
-        }
+        self.side.begin(Point::Writer(WritePoint::StoreTail(n, AfterWrite::Answer)));
+        self.side.store_tail(n);
+        wake_other(&mut self.side);
     }
 
     /// Closes the pipe for good, and wakes both sides. Nothing is lent any more, and what was lent
     /// is taken back. It is ready at once and doesn't fail: the result has the form of the trait's.
     pub fn poll_close(&mut self, cx: &mut Context<'_>) -> Poll<Result<(), OutOfMemory>>
+        ensures ran { Ran (Point.Writer (WritePoint.StoreClosed AfterWrite.WakeWriter)) Answer.Done
+            (log self.old) (log self.new) }
         ensures answer { result ≡ Poll.Ready (Ok (record {})) }
         ensures woken { NotifiesReader self.new }
         ensures leaves { WriterLeavesNone self.new }
@@ -243,9 +268,10 @@ impl Writer {
         ensures rest { SameWriterButShut self.old self.new }
     {
         let _unused = cx;
-        let call = self.shut(closing());
-        let call = self.take_reader().wakes(call);
-        self.take_and_wake_own(call);
+        self.side.begin(Point::Writer(WritePoint::StoreClosed(AfterWrite::WakeWriter)));
+        self.side.store_closed();
+        wake_waiting(&mut self.side);
+        wake_own(&mut self.side);
         Poll::Ready(Ok(()))
     }
 
@@ -266,12 +292,31 @@ impl Writer {
     /// Whoever was registered there was taken, and is woken. The drop does not wake a task that
     /// waited with this handle.
     pub fn drop(self) -> FinishedWriter
+        ensures ran { Opened (Point.Writer (WritePoint.StoreClosed AfterWrite.Drop))
+            (ends (Point.Writer WritePoint.Dropped) Answer.Done) (log self) result.log }
         ensures ring { result.told.names ≡ (ring self).names }
         ensures bytes { result.told.bytes ≡ sent self }
         ensures shut { result.told.shut ≡ true }
         ensures woken { WriterWokeLast self result }
         ensures left { HasDropped self }
     {
-        self.leave(dropping())
+        let Writer {
+            mut side,
+            source: _,
+            rng: _,
+        } = self;
+        side.begin(Point::Writer(WritePoint::StoreClosed(AfterWrite::Drop)));
+        // As the reader's.
+        let Finished {
+            mut side,
+            taken,
+            left,
+        } = side.finish();
+        drop(left);
+        if let Some(waker) = taken {
+            waker.wake();
+            side.log.woke();
+        }
+        side
     }
 }

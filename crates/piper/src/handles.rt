@@ -1,9 +1,8 @@
 //! The two handles of a pipe. Each is a side of the ring, and what it waits and draws with.
-mod draws;
+pub(crate) mod draws;
 mod ends;
 mod opening;
-pub(crate) mod read_steps;
-pub(crate) mod write_steps;
+pub(crate) mod waiting;
 
 use futures::task::{Source, Waker};
 pub use opening::pipe;
@@ -15,10 +14,10 @@ use rand_pcg::Pcg32;
 /// It is made by `pipe`, can't be cloned, and has to be spent by its call `drop`. Clauses see what
 /// it knows by functions of it: `taken`, `known`, `capacity` and others.
 pub struct Reader {
-    side: ReadSide<Waker>,
+    pub(crate) side: ReadSide<Waker>,
     /// What its task waits at. A waker of it is called when it lies in its place no more.
-    source: Source,
-    rng: Pcg32,
+    pub(crate) source: Source,
+    pub(crate) rng: Pcg32,
 }
 
 /// The writing side of a pipe.
@@ -26,8 +25,8 @@ pub struct Reader {
 /// It is made by `pipe`, can't be cloned, and has to be spent by its call `drop`. Clauses see what
 /// it knows by functions of it: `sent`, `room`, `capacity` and others.
 pub struct Writer {
-    side: WriteSide<Waker>,
+    pub(crate) side: WriteSide<Waker>,
     /// What its task waits at. A waker of it is called when it lies in its place no more.
-    source: Source,
-    rng: Pcg32,
+    pub(crate) source: Source,
+    pub(crate) rng: Pcg32,
 }

@@ -10,7 +10,6 @@ pub mod io;
 pub mod like;
 mod looks;
 mod owned;
-mod taken;
 
 pub use error::{Inner, PipeError};
 pub use handles::{Reader, Writer, pipe};

@@ -128,10 +128,10 @@ impl Input for WriteEnd {
         // are.
         if n == bytes.len() {
             C::copy_in(buf, bytes);
-            self.produce(bytes.len());
+            self.store_tail(bytes.len());
         } else if n != 0 {
             copy_cut(buf, &bytes[..n]);
-            self.produce(n);
+            self.store_tail(n);
         }
         n
     }
@@ -146,12 +146,12 @@ impl Output for ReadEnd {
         // As in `put`.
         if place.len() <= n {
             C::copy_out(place, &piece[..place.len()]);
-            self.consume(place.len());
+            self.store_head(place.len());
             return place.len();
         }
         if n != 0 {
             copy_cut(&mut place[..n], piece);
-            self.consume(n);
+            self.store_head(n);
         }
         n
     }

@@ -2,7 +2,7 @@
 use Rattle.std.specs.Prelude.{◌≡◌, ℕ, ◌^◌, ◌≤◌, ◌⊎◌}
 use Rattle.piper_protocol.specs.Reported.{HasFailed}
 use Rattle.piper_protocol.specs.declared.memory.OutOfMemory.{OutOfMemory}
-use Rattle.piper_ring.specs.Opened.{FreshReadEnd, FreshReadSlots, FreshWriteEnd, FreshWriteSlots}
+use Rattle.piper_ring.specs.Opened.{FreshReadEnd, FreshSlots, FreshWriteEnd}
 use Rattle.piper_c.specs.declared.halves.ReadHalf.{ReadHalf}
 use Rattle.piper_c.specs.declared.halves.WriteHalf.{WriteHalf}
 
@@ -14,12 +14,12 @@ pub record ArePair (r : ReadHalf) (w : WriteHalf) : Type 0 where
 -- nothing was read, and nobody has waited
 pub record IsFreshReader (capacity : ℕ) (r : ReadHalf) : Type 0 where
   pub end : FreshReadEnd capacity r.side.end
-  pub slots : FreshReadSlots r.side.end.ring.names r.side.slots
+  pub slots : FreshSlots r.side.end.ring.names r.side.slots
 
 -- nothing was published, and nobody has waited
 pub record IsFreshWriter (capacity : ℕ) (w : WriteHalf) : Type 0 where
   pub end : FreshWriteEnd capacity w.side.end
-  pub slots : FreshWriteSlots w.side.end.ring.names w.side.slots
+  pub slots : FreshSlots w.side.end.ring.names w.side.slots
 
 -- no pipe holds so many bytes: none, or more than half of the addresses
 abbrev pub IsNoCapacity : ℕ → Type 0

@@ -1,5 +1,8 @@
 -- What a poll finds.
-use Rattle.std.specs.Prelude.{ℕ}
+use Rattle.std.specs.Prelude.{ℕ, true, false}
+use Rattle.piper_protocol.specs.declared.answer.Answer.{Answer}
+use Rattle.piper_protocol.specs.declared.answer.Answer.TheVariants.{Poll, Done}
+use Rattle.piper_protocol.specs.declared.answer.Polled.TheVariants as polled
 use Rattle.piper_c.specs.declared.outcome.Outcome.{Outcome}
 use Rattle.piper_c.specs.declared.outcome.Outcome.TheVariants.{Pending, Ready, End, Again, Refused}
 
@@ -10,3 +13,11 @@ code Ready = 1
 code End = 2
 code Again = 3
 code Refused = 4
+
+-- what the call table answers; where the place of the words is away, it is as if none could be made
+abbrev pub poll_answer : Outcome → Answer
+poll_answer Pending = Poll polled.Pending
+poll_answer Ready = Poll (polled.Ready true)
+poll_answer End = Poll (polled.Ready false)
+poll_answer Again = Poll polled.Memory
+poll_answer Refused = Done

@@ -3,7 +3,7 @@ use Rattle.std.specs.Prelude.{◌≡◌, ℕ, ◌<◌, ◌≤◌, ◌+◌, ◌-�
 use Rattle.piper_ring.specs.Shared.{flag}
 use Rattle.piper_ring.specs.Loads.{FoundClosed, IsAway}
 use Rattle.piper_ring.specs.ReadView.{HasLoaded, ReadView, SameReadEnd, SameButSaw, in_one_piece, read_place}
-use Rattle.piper_ring.specs.SlotsView.{ReadSlotsView, IsPending, IsReaderAtRest, SameReaderLooks, SameReaderPlace}
+use Rattle.piper_ring.specs.SlotsView.{SlotsView, IsPending, IsReaderAtRest, SameLooks, SamePlace}
 use Rattle.piper_c.specs.declared.halves.ReadHalf.{ReadHalf}
 use Rattle.piper_c.specs.declared.outcome.Outcome.{Outcome}
 use Rattle.piper_c.specs.declared.outcome.Outcome.TheVariants.{Pending, Ready, End, Again, Refused}
@@ -46,7 +46,7 @@ pub record ReaderLooked (a b : ReadHalf) : Type 0 where
   pub known : 0 < length a.side.end.known → b.side.end ≡ a.side.end
   pub loaded : a.side.end.known ≡ [] → HasLoaded b.side.end
   pub saw : flag a.side.end.saw ≤ flag b.side.end.saw
-  pub looks : SameReaderLooks a.side.slots b.side.slots
+  pub looks : SameLooks a.side.slots b.side.slots
   pub places : b.side.cells ≡ a.side.cells
 
 -- a poll gives back the words that it took out of its slot, and those that it didn't leave; it
@@ -60,24 +60,18 @@ pub record ReaderGotBack (mine : Waiter) (p : Polled) (a b : ReadHalf) : Type 0 
   pub again : p.outcome ≡ Again → b.side.slots ≡ record a.side.slots { maybe_registered = false }
   pub away : p.outcome ≡ Again → IsAway a.side.slots.names
 
--- the reader, but for the bytes that it took and knows of
-pub record ReaderConsumed (a b : ReadView) : Type 0 where
-  pub end : SameReadEnd a b
-  pub saw : b.saw ≡ a.saw
-  pub all : b.all ≡ a.all
-
 -- after all that b consumed, the writer's slot was checked: words are handed out
 -- exactly where it took a ticket of the writer's
-pub record TookWriter (taken : Option Waiter) (old : ReadSlotsView) (b : ReadHalf) : Type 0 where
+pub record TookWriter (taken : Option Waiter) (old : SlotsView) (b : ReadHalf) : Type 0 where
   pub rests : IsReaderAtRest b.side.end b.side.slots
   pub took : Took taken old.names old.taken b.side.slots.taken
-  pub own : SameReaderPlace old b.side.slots
+  pub own : SamePlace old b.side.slots
 
 -- after the close by which a left, the writer's slot was checked: words come out exactly
 -- where a ticket of the writer's was taken
-pub record LeftReading (a : ReadHalf) (taken : Option Waiter) (left : ReadSlotsView) : Type 0 where
-  pub count : left.count ≡ length a.side.end.taken
-  pub over : left.over ≡ true
+pub record LeftReading (a : ReadHalf) (taken : Option Waiter) (left : SlotsView) : Type 0 where
+  pub count : left.stored.count ≡ length a.side.end.taken
+  pub over : left.stored.closed ≡ true
   pub took : Took taken a.side.slots.names a.side.slots.taken left.taken
 
 -- the pipe was checked for its end: what the answer says was seen, and what was seen once stays
@@ -101,7 +95,7 @@ pub record ReadsInto (old new : List ℕ) (n : ℕ) (a b : ReadHalf) : Type 0 wh
       (min (n + length b.side.end.known) (a.side.end.capacity - read_place a.side.end))
   pub none : n ≡ 0 → (old ≡ []) ⊎ (b.side.end.known ≡ [])
   pub end : SameReadEnd a.side.end b.side.end
-  pub saw : b.side.end.saw ≡ a.side.end.saw
+  pub saw : flag a.side.end.saw ≤ flag b.side.end.saw
   pub places : b.side.cells ≡ a.side.cells
 
 -- the exports
@@ -118,16 +112,17 @@ pub record ReaderTold (mine : PiperWords) (p : PiperPolled) (a b : ReadHalf) : T
 
 -- after all that b consumed, the writer's slot was checked: words come out exactly where
 -- it took a ticket of the writer's
-pub record WakesWriter (wake : PiperWords) (old : ReadSlotsView) (b : ReadHalf) : Type 0 where
+pub record WakesWriter (wake : PiperWords) (old : SlotsView) (b : ReadHalf) : Type 0 where
   pub rests : IsReaderAtRest b.side.end b.side.slots
   pub took : HandedOut wake old.names old.taken b.side.slots.taken
-  pub own : SameReaderPlace old b.side.slots
+  pub own : SamePlace old b.side.slots
 
 -- n bytes were taken, from the front of those that the reader knows of
 pub record ReaderTook (n : ℕ) (wake : PiperWords) (a b : ReadHalf) : Type 0 where
-  pub taken : b.side.end.taken ≡ a.side.end.taken ++ take n a.side.end.known
-  pub known : b.side.end.known ≡ drop n a.side.end.known
-  pub end : ReaderConsumed a.side.end b.side.end
+  pub end : b.side.end ≡ record a.side.end {
+    taken = a.side.end.taken ++ take n a.side.end.known;
+    known = drop n a.side.end.known;
+  }
   pub woke : WakesWriter wake a.side.slots b
   pub places : b.side.cells ≡ a.side.cells
 

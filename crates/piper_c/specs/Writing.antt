@@ -1,9 +1,9 @@
 -- What the calls of the writing side find, and what they leave of it.
-use Rattle.std.specs.Prelude.{◌≡◌, ℕ, ◌<◌, ◌≤◌, ◌+◌, ◌++◌, ◌⊎◌, take, drop, Bool, true, false, List, [], length, Option, Some, None}
+use Rattle.std.specs.Prelude.{◌≡◌, ℕ, ◌<◌, ◌≤◌, ◌+◌, ◌-◌, ◌++◌, ◌⊎◌, take, drop, Bool, true, false, List, [], length, Option, Some, None}
 use Rattle.piper_ring.specs.Shared.{flag}
 use Rattle.piper_ring.specs.Loads.{FoundClosed, IsAway}
 use Rattle.piper_ring.specs.WriteView.{HasLoadedHead, Lendable, WriteView, SameWriteEnd, SameButSaw}
-use Rattle.piper_ring.specs.SlotsView.{WriteSlotsView, IsWriterPending, IsAtRest, SameWriterLooks, SameWriterPlace}
+use Rattle.piper_ring.specs.SlotsView.{SlotsView, IsWriterPending, IsAtRest, SameLooks, SamePlace}
 use Rattle.piper_c.specs.declared.halves.WriteHalf.{WriteHalf}
 use Rattle.piper_c.specs.declared.outcome.Outcome.{Outcome}
 use Rattle.piper_c.specs.declared.outcome.Outcome.TheVariants.{Pending, Ready, End, Again, Refused}
@@ -26,7 +26,7 @@ WriterFound Refused w = ⊥
 
 -- what a look found that leaves no words
 abbrev pub WriterSaw : Outcome → WriteHalf → Type 0
-WriterSaw Ready w = (0 < w.side.end.room) × (w.side.end.saw ≡ false)
+WriterSaw Ready w = (0 < w.side.end.room) × (w.side.end.shut ≡ false) × (w.side.end.saw ≡ false)
 WriterSaw End w = w.side.end.saw ≡ true
 WriterSaw Pending w = (w.side.end.room ≡ 0) × (w.side.end.saw ≡ false)
 WriterSaw Again w = ⊥
@@ -43,7 +43,7 @@ pub record WriterLooked (a b : WriteHalf) : Type 0 where
   pub known : 0 < a.side.end.room → b.side.end.room ≡ a.side.end.room
   pub loaded : a.side.end.room ≡ 0 → b.side.end.saw ≡ false → HasLoadedHead b.side.end
   pub saw : flag a.side.end.saw ≤ flag b.side.end.saw
-  pub looks : SameWriterLooks a.side.slots b.side.slots
+  pub looks : SameLooks a.side.slots b.side.slots
   pub places : b.side.cells ≡ a.side.cells
 
 -- a poll gives back the words that it took out of its slot, and those that it didn't leave; it
@@ -59,30 +59,24 @@ pub record WriterGotBack (mine : Waiter) (p : Polled) (a b : WriteHalf) : Type 0
   pub again : p.outcome ≡ Again → b.side.slots ≡ record a.side.slots { maybe_registered = false }
   pub away : p.outcome ≡ Again → IsAway a.side.slots.names
 
--- the writer, but for the bytes that it published, and the room and the slice that they were in
-pub record WriterPublished (a b : WriteView) : Type 0 where
-  pub end : SameWriteEnd a b
-  pub shut : b.shut ≡ a.shut
-  pub saw : b.saw ≡ a.saw
-
 -- after all that b published, the reader's slot was checked: words are handed out
 -- exactly where it took a ticket of the reader's
-pub record TookReader (taken : Option Waiter) (old : WriteSlotsView) (b : WriteHalf) : Type 0 where
+pub record TookReader (taken : Option Waiter) (old : SlotsView) (b : WriteHalf) : Type 0 where
   pub rests : IsAtRest b.side.end b.side.slots
   pub took : Took taken old.names old.taken b.side.slots.taken
-  pub own : SameWriterPlace old b.side.slots
+  pub own : SamePlace old b.side.slots
 
 -- the same in a close, which takes the writer's own words back, too, and leaves none
-pub record TookReaderLast (taken : Option Waiter) (old : WriteSlotsView) (b : WriteHalf) : Type 0 where
+pub record TookReaderLast (taken : Option Waiter) (old : SlotsView) (b : WriteHalf) : Type 0 where
   pub rests : IsAtRest b.side.end b.side.slots
   pub took : Took taken old.names old.taken b.side.slots.taken
   pub own : b.side.slots.tickets ≡ old.tickets
 
 -- after the close by which a left, the reader's slot was checked: words come out exactly
 -- where a ticket of the reader's was taken
-pub record LeftWriting (a : WriteHalf) (taken : Option Waiter) (left : WriteSlotsView) : Type 0 where
-  pub bytes : left.bytes ≡ a.side.end.sent
-  pub shut : left.shut ≡ true
+pub record LeftWriting (a : WriteHalf) (taken : Option Waiter) (left : SlotsView) : Type 0 where
+  pub bytes : left.stored.bytes ≡ a.side.end.sent
+  pub shut : left.stored.closed ≡ true
   pub took : Took taken a.side.slots.names a.side.slots.taken left.taken
 
 -- the pipe was checked for its end: what the answer says was seen, and what was seen once stays
@@ -132,10 +126,10 @@ pub record WriterTold (mine : PiperWords) (p : PiperPolled) (a b : WriteHalf) : 
 
 -- after all that b published, the reader's slot was checked: words come out exactly where
 -- it took a ticket of the reader's
-pub record WakesReader (wake : PiperWords) (old : WriteSlotsView) (b : WriteHalf) : Type 0 where
+pub record WakesReader (wake : PiperWords) (old : SlotsView) (b : WriteHalf) : Type 0 where
   pub rests : IsAtRest b.side.end b.side.slots
   pub took : HandedOut wake old.names old.taken b.side.slots.taken
-  pub own : SameWriterPlace old b.side.slots
+  pub own : SamePlace old b.side.slots
 
 pub record WriterWrites (from : List ℕ) (moved : PiperMoved) (a b : WriteHalf) : Type 0 where
   pub wrote : WritesFrom from moved.count a b
@@ -145,10 +139,7 @@ pub record WriterWrites (from : List ℕ) (moved : PiperMoved) (a b : WriteHalf)
 -- the pipe is closed for good; after that the reader's slot was checked, and the writer's own words
 -- come out of its slot, and are not left there, nor are any others
 pub record WriterCloses (left : PiperLeft) (a b : WriteHalf) : Type 0 where
-  pub shut : b.side.end.shut ≡ true
-  pub lent : b.side.end.lent ≡ []
-  pub end : SameWriteEnd a.side.end b.side.end
-  pub sent : b.side.end.sent ≡ a.side.end.sent
+  pub end : b.side.end ≡ record a.side.end { shut = true; saw = true; lent = [] }
   pub rests : IsAtRest b.side.end b.side.slots
   pub took : HandedOut left.wake a.side.slots.names a.side.slots.taken b.side.slots.taken
   pub mine : HandedBack left.mine a.side.slots.names a.side.slots.owns a.side.slots.tickets
@@ -158,11 +149,13 @@ pub record WriterCloses (left : PiperLeft) (a b : WriteHalf) : Type 0 where
 -- the first n bytes of room that C gave back were published, as it left them; after that the
 -- reader's slot was checked, also where n is 0
 pub record WriterPublishes (bytes : List ℕ) (n : ℕ) (wake : PiperWords) (a b : WriteHalf) : Type 0 where
-  pub sent : b.side.end.sent ≡ a.side.end.sent ++ take n bytes
-  pub room : b.side.end.room + n ≡ a.side.end.room
-  pub lent : b.side.end.lent ≡ drop n bytes
+  pub room : n ≤ a.side.end.room
+  pub end : b.side.end ≡ record a.side.end {
+    sent = a.side.end.sent ++ take n bytes;
+    lent = drop n bytes;
+    room = a.side.end.room - n;
+  }
   pub woke : WakesReader wake a.side.slots b
-  pub end : WriterPublished a.side.end b.side.end
   pub places : b.side.cells ≡ a.side.cells
 
 -- the same, of what a room holds

@@ -67,7 +67,7 @@ pub extern "C" fn piper_reader_look(
     let outcome = half.look();
     let len = match outcome {
         Outcome::Ready => {
-            let known = half.side.end.peek_buf();
+            let known = half.side.end().peek_buf();
             *at = address(known);
             known.len()
         }
@@ -129,7 +129,7 @@ pub extern "C" fn piper_reader_len(alloc: Global, reader: &mut PiperReader) -> u
         (b ≡ a) × MayBeUnread a.side.end result) }
 {
     let half = reader.take(alloc);
-    let len = half.side.end.len();
+    let len = half.side.end().len();
     reader.put(half);
     len
 }
@@ -142,7 +142,7 @@ pub extern "C" fn piper_reader_capacity(alloc: Global, reader: &mut PiperReader)
         (b ≡ a) × (result ≡ a.side.end.capacity)) }
 {
     let half = reader.take(alloc);
-    let capacity = half.side.end.capacity();
+    let capacity = half.side.end().capacity();
     reader.put(half);
     capacity
 }
@@ -195,7 +195,7 @@ pub extern "C" fn piper_reader_peek(
         (b ≡ a) × (result ≡ in_one_piece a.side.end) × ShowsAt a at.new) }
 {
     let half = reader.take(alloc);
-    *at = address(half.side.end.peek_buf());
+    *at = address(half.side.end().peek_buf());
     let len = half.peek_len();
     reader.put(half);
     len

@@ -1,8 +1,6 @@
 //! The two words that a side leaves while it waits.
 ghost use Rattle.std.specs.Prelude.{◌≡◌, ◌<◌, ◌↔◌, IsSome, true, false};
 
-use piper_protocol::steps::TakeOther;
-use piper_protocol::write_steps::TakeOwn;
 use piper_ring::LeftWakers;
 
 /// Two words that a waiting side leaves, or none where `vtable` is 0.
@@ -60,39 +58,6 @@ impl Waiter {
         match waiter {
             Some(Waiter { words }) => words,
             None => PiperWords { data: 0, vtable: 0 },
-        }
-    }
-}
-
-/// The words that a call took out of the other side's slot, if there were some. Whoever called the
-/// library wakes with them, and so ends the call.
-pub(crate) fn to_wake(call: TakeOther<()>, taken: Option<Waiter>) -> Option<Waiter>
-    ensures { result ≡ taken }
-{
-    match taken {
-        Some(waiter) => {
-            call.took_waker().woke();
-            Some(waiter)
-        }
-        None => {
-            call.took_none();
-            None
-        }
-    }
-}
-
-/// The words that a close took back out of its own slot, if there were some.
-pub(crate) fn to_wake_own(call: TakeOwn, taken: Option<Waiter>) -> Option<Waiter>
-    ensures { result ≡ taken }
-{
-    match taken {
-        Some(waiter) => {
-            call.took_waker().woke();
-            Some(waiter)
-        }
-        None => {
-            call.took_none();
-            None
         }
     }
 }

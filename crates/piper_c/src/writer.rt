@@ -95,7 +95,7 @@ pub extern "C" fn piper_writer_len(alloc: Global, writer: &mut PiperWriter) -> u
     ensures whole { IsWholeWriter writer.new.half writer.new.lent }
 {
     let half = writer.take(alloc);
-    let len = half.side.end.len();
+    let len = half.side.end().len();
     writer.put(half);
     len
 }
@@ -109,7 +109,7 @@ pub extern "C" fn piper_writer_capacity(alloc: Global, writer: &mut PiperWriter)
     ensures whole { IsWholeWriter writer.new.half writer.new.lent }
 {
     let half = writer.take(alloc);
-    let capacity = half.side.end.capacity();
+    let capacity = half.side.end().capacity();
     writer.put(half);
     capacity
 }

@@ -1,164 +1,123 @@
-//! The calls of the side that writes. Each makes its steps in the order of the call table.
-ghost use Rattle.std.specs.Prelude.{◌≡◌, [], ◌<◌, ◌≤◌, ◌++◌, ◌+◌, length, take, drop, IsSome, Some, None, true, false};
+//! The calls of the side that writes. Each is a run of the call table, or some of them.
+ghost use Rattle.std.specs.Prelude.{◌≡◌, [], ◌<◌, ◌≤◌, ◌++◌, ◌-◌, length, take, drop, None, true, false};
+ghost use Rattle.piper_protocol.specs.Table.{ends, goes_on};
+ghost use Rattle.piper_ring.specs.Log.{Comes, Opened, Ran, now};
+ghost use Rattle.piper_c.specs.Outcome.{poll_answer};
 
-use crate::halves::{Left, WriteHalf};
+use crate::halves::{Left, WriteHalf, register, take_own, wake_other, wake_own, wake_waiting};
 use crate::outcome::{Outcome, Polled};
-use crate::words::{Waiter, for_gone, to_wake, to_wake_own};
-use piper_protocol::steps::{HasWork, OfPoll, dropping, storing};
-use piper_protocol::write_steps::{LookHeadAgain, closing, looking};
-use piper_ring::{Finished, FinishedWriter};
+use crate::words::{Waiter, for_gone};
+use piper_protocol::answer::Answer;
+use piper_protocol::table::{Action, AfterWrite, Form, Found, Point, Purpose, WritePoint};
+use piper_ring::{Finished, FinishedWriter, Look};
 
 impl WriteHalf {
     ghost use Rattle.piper_ring.specs.Loads.{FoundWaiter};
+    ghost use Rattle.piper_ring.specs.WriteView.{HasLoadedHead};
     ghost use Rattle.piper_c.specs.Leaving.{HasLeft};
-    ghost use Rattle.piper_ring.specs.Loads.{WasTakenBack};
     ghost use Rattle.piper_c.specs.Waiting.{TookBack};
-    ghost use Rattle.piper_ring.specs.WriteView.{SameWriteEnd};
-    ghost use Rattle.piper_c.specs.Writing.{LeftWriting, WriterAsked, WriterFound, WriterSaw, WritesFrom, WriterLooked, WriterPublished, WriterGotBack, TookReader, TookReaderLast};
+    ghost use Rattle.piper_c.specs.Writing.{LeftWriting, WriterAsked, WriterFound, WriterSaw, WritesFrom, WriterLooked, WriterGotBack, TookReader, TookReaderLast};
 
     /// Waits for room or for the end. `mine` is left where there is neither.
     pub(crate) fn poll(&mut self, mine: Waiter) -> Polled
+        ensures ran { Ran (Point.Writer (WritePoint.LookClosed Purpose.Poll))
+            (poll_answer result.outcome) self.old.side.log self.new.side.log }
         ensures found { WriterFound result.outcome self.new }
         ensures looked { WriterLooked self.old self.new }
         ensures words { WriterGotBack mine result self.old self.new }
     {
-        let call = looking(OfPoll);
-        if self.side.end.look_closed() {
-            call.is_closed();
-            return Polled {
+        match self.side.look_first(Purpose::Poll) {
+            Look::Ready => Polled {
+                outcome: Outcome::Ready,
+                before: take_own(&mut self.side),
+                mine: Some(mine),
+            },
+            Look::Closed => Polled {
                 outcome: Outcome::End,
                 before: None,
                 mine: Some(mine),
-            };
+            },
+            Look::NotReady => self.poll_waiting(mine),
         }
-        if !self.side.end.knows_none() {
-            let before = self.take_own(call.knows_room());
-            return Polled {
-                outcome: Outcome::Ready,
-                before,
-                mine: Some(mine),
-            };
-        }
-        let call = call.knows_none();
-        self.side.reload();
-        if !self.side.end.knows_none() {
-            let before = self.take_own(call.found());
-            return Polled {
-                outcome: Outcome::Ready,
-                before,
-                mine: Some(mine),
-            };
-        }
-        let call = call.found_none();
-        // To the table it is as if no waker could be made.
-        let Ok(before) = self.side.reclaim_waker() else {
-            call.refused();
-            return Polled {
-                outcome: Outcome::Again,
-                before: None,
-                mine: Some(mine),
-            };
-        };
-        self.side.publish_waker(mine);
-        self.look_again(call.registered(), before)
     }
 
-    /// Checks once more, once its words are in the slot.
-    fn look_again(&mut self, call: LookHeadAgain<OfPoll>, before: Option<Waiter>) -> Polled
+    /// The rest of a poll that found neither room nor the end: it leaves `mine`, and looks once more.
+    fn poll_waiting(&mut self, mine: Waiter) -> Polled
+        requires at { now self.old.side.log
+            ≡ goes_on (Point.Writer (WritePoint.LookRegister Purpose.Poll)) }
         requires none { self.old.side.end.room ≡ 0 }
-        requires open { self.old.side.end.saw ≡ false }
-        requires left { self.old.side.slots.owns ≡ false }
+        requires open { (self.old.side.end.saw ≡ false) × (self.old.side.end.shut ≡ false) }
+        requires fresh { HasLoadedHead self.old.side.end }
+        ensures ran { Comes (ends (Point.Writer WritePoint.Idle) (poll_answer result.outcome))
+            self.old.side.log self.new.side.log }
         ensures found { WriterFound result.outcome self.new }
         ensures looked { WriterLooked self.old self.new }
-        ensures before { result.before ≡ before }
-        ensures back { IsSome result.mine → (self.new.side.slots.owns ≡ true)
-            × WasTakenBack self.old.side.slots.names false
-            self.new.side.slots.tickets result.mine }
-        ensures out { result.mine ≡ None → self.new.side.slots.owns ≡ false }
-        ensures pending { result.outcome ≡ Outcome.Pending → result.mine ≡ None }
-        ensures ready { result.outcome ≡ Outcome.Ready →
-            self.new.side.slots.maybe_registered ≡ false }
-        ensures left { result.outcome ≡ Outcome.Again → false ≡ true }
-        ensures kept { self.new.side.slots ≡ record self.old.side.slots {
-          owns = self.new.side.slots.owns;
-          maybe_registered = self.new.side.slots.maybe_registered;
-        } }
+        ensures words { WriterGotBack mine result self.old self.new }
     {
-        self.side.reload();
-        if !self.side.end.knows_none() {
-            let mine = self.take_own(call.found());
-            return Polled {
+        let before = match register(&mut self.side, mine) {
+            Ok(before) => before,
+            Err(mine) => {
+                return Polled {
+                    outcome: Outcome::Again,
+                    before: None,
+                    mine: Some(mine),
+                };
+            }
+        };
+        match self.side.look_again(Purpose::Poll) {
+            Look::Ready => Polled {
                 outcome: Outcome::Ready,
                 before,
-                mine,
-            };
-        }
-        let call = call.found_none();
-        let is_closed = self.side.look_closed();
-        call.loaded();
-        Polled {
-            outcome: if is_closed {
-                Outcome::End
-            } else {
-                Outcome::Pending
+                mine: take_own(&mut self.side),
             },
-            before,
-            mine: None,
+            Look::Closed => Polled {
+                outcome: Outcome::End,
+                before,
+                mine: None,
+            },
+            Look::NotReady => Polled {
+                outcome: Outcome::Pending,
+                before,
+                mine: None,
+            },
         }
     }
 
-    /// Takes its own words out of its slot, if they are still there.
-    fn take_own(&mut self, call: HasWork<OfPoll>) -> Option<Waiter>
-        ensures back { IsSome result →
-            (self.old.side.slots.owns ≡ false) × (self.new.side.slots.owns ≡ true) }
-        ensures out { IsSome result →
-            WasTakenBack self.old.side.slots.names
-            self.old.side.slots.owns self.old.side.slots.tickets result }
-        ensures none { result ≡ None → self.new.side.slots.owns ≡ self.old.side.slots.owns }
-        ensures leaves { self.new.side.slots.maybe_registered ≡ false }
-        ensures kept { self.new.side.slots ≡ record self.old.side.slots
-            { owns = self.new.side.slots.owns; maybe_registered = false } }
-        ensures rest { (self.new.side.end ≡ self.old.side.end)
-            × (self.new.side.cells ≡ self.old.side.cells) }
-    {
-        call.took_own();
-        if !self.side.slots.maybe_registered() {
-            return None;
-        }
-        self.side.cancel()
-    }
-
-    /// Checks for room or for the end, and leaves no words.
+    /// Checks for room or for the end, and leaves no words. To the table it is a fill from a source
+    /// that gives nothing.
     pub(crate) fn look(&mut self) -> Outcome
+        ensures ran { Ran (Point.Writer (WritePoint.LookClosed (Purpose.Copy Form.Try)))
+            (Answer.Count 0) self.old.side.log self.new.side.log }
         ensures saw { WriterSaw result self.new }
         ensures looked { WriterLooked self.old self.new }
         ensures slots { self.new.side.slots ≡ self.old.side.slots }
     {
-        if self.side.end.look_closed() {
-            return Outcome::End;
-        }
-        self.side.end.refresh();
-        if self.side.end.knows_none() {
-            Outcome::Pending
-        } else {
-            Outcome::Ready
+        match self.side.look_now(Purpose::Copy(Form::Try)) {
+            Look::Ready => {
+                self.side.note(Action::CallSource, Found::Moved(0));
+                Outcome::Ready
+            }
+            Look::Closed => Outcome::End,
+            Look::NotReady => Outcome::Pending,
         }
     }
 
-    /// Copies bytes from the front of `from` into room that lies in one piece, and publishes them.
-    /// Returns how many, and who has to be woken.
+    /// Copies bytes from the front of `from` into room that lies in one piece, and publishes them: it
+    /// is a `look` and a `publish`. Returns how many, and who has to be woken.
     pub(crate) fn write(&mut self, from: &[u8]) -> (usize, Option<Waiter>)
         ensures wrote { WritesFrom from.now result.0 self.old self.new }
         ensures none { result.0 ≡ 0 →
             (result.1 ≡ None) × (self.new.side.slots ≡ self.old.side.slots) }
         ensures some { 0 < result.0 → TookReader result.1 self.old.side.slots self.new }
     {
-        if self.side.end.look_closed() {
-            self.side.end.unlend();
-            return (0, None);
+        match self.look() {
+            Outcome::Ready => {}
+            _ => {
+                self.side.unlend();
+                return (0, None);
+            }
         }
-        self.side.end.refresh();
-        let room = self.side.end.write_buf(from.len());
+        let room = self.side.write_buf(from.len());
         let n = room.len();
         room.copy_from_slice(&from[..n]);
         if n == 0 {
@@ -172,56 +131,54 @@ impl WriteHalf {
     /// also where `n` is 0.
     pub(crate) fn publish(&mut self, n: usize) -> Option<Waiter>
         requires { n ≤ length self.old.side.end.lent }
-        ensures sent { self.new.side.end.sent
-            ≡ self.old.side.end.sent ++ take n self.old.side.end.lent }
-        ensures lent { self.new.side.end.lent ≡ drop n self.old.side.end.lent }
-        ensures room { self.new.side.end.room + n ≡ self.old.side.end.room }
-        ensures end { WriterPublished self.old.side.end self.new.side.end }
+        ensures ran { Ran (Point.Writer (WritePoint.StoreTail n AfterWrite.Answer)) Answer.Done
+            self.old.side.log self.new.side.log }
+        ensures room { n ≤ self.old.side.end.room }
+        ensures end { self.new.side.end ≡ record self.old.side.end {
+          sent = self.old.side.end.sent ++ take n self.old.side.end.lent;
+          lent = drop n self.old.side.end.lent;
+          room = self.old.side.end.room - n;
+        } }
         ensures wake { TookReader result self.old.side.slots self.new }
         ensures places { self.new.side.cells ≡ self.old.side.cells }
     {
-        let call = storing(n);
-        self.side.end.produce(call.count());
-        let call = call.stored();
-        if self.side.nobody_waits() {
-            call.took_none();
-            return None;
-        }
-        to_wake(call, self.side.take())
+        self.side.begin(Point::Writer(WritePoint::StoreTail(n, AfterWrite::Answer)));
+        self.side.store_tail(n);
+        wake_other(&mut self.side)
     }
 
     /// Checks whether the pipe is closed now, and keeps what it sees.
     pub(crate) fn look_closed(&mut self) -> bool
-        ensures { WriterAsked result self.old self.new }
+        ensures ran { Ran (Point.Writer WritePoint.QueryClosed) (Answer.Flag result)
+            self.old.side.log self.new.side.log }
+        ensures asked { WriterAsked result self.old self.new }
     {
-        self.side.end.look_closed()
+        self.side.begin(Point::Writer(WritePoint::QueryClosed));
+        self.side.check_closed()
     }
 
     /// Closes the pipe for good. Returns who has to be woken of each side, the reader's first.
     pub(crate) fn close(&mut self) -> (Option<Waiter>, Option<Waiter>)
-        ensures shut { (self.new.side.end.shut ≡ true) × (self.new.side.end.lent ≡ []) }
-        ensures end { SameWriteEnd self.old.side.end self.new.side.end }
-        ensures sent { self.new.side.end.sent ≡ self.old.side.end.sent }
+        ensures ran { Ran (Point.Writer (WritePoint.StoreClosed AfterWrite.WakeWriter)) Answer.Done
+            self.old.side.log self.new.side.log }
+        ensures end { self.new.side.end
+            ≡ record self.old.side.end { shut = true; saw = true; lent = [] } }
         ensures wake { TookReaderLast result.0 self.old.side.slots self.new }
         ensures mine { TookBack result.1 self.old.side.slots.names self.old.side.slots.owns
             self.old.side.slots.tickets }
         ensures places { self.new.side.cells ≡ self.old.side.cells }
     {
-        let call = closing();
-        self.side.end.shut();
-        let call = call.stored();
-        match self.side.take() {
-            Some(taken) => {
-                let call = call.took_waker().woke();
-                (Some(taken), to_wake_own(call, self.side.cancel()))
-            }
-            None => (None, to_wake_own(call.took_none(), self.side.cancel())),
-        }
+        self.side.begin(Point::Writer(WritePoint::StoreClosed(AfterWrite::WakeWriter)));
+        self.side.store_closed();
+        let wake = wake_waiting(&mut self.side);
+        (wake, wake_own(&mut self.side))
     }
 
     /// Closes the pipe and drops this side. Returns who has to be woken, the words of its own that
     /// nobody took, and what is left of its slots: the reader's was checked after the close.
     pub(crate) fn leave(self) -> Left<FinishedWriter>
+        ensures ran { Opened (Point.Writer (WritePoint.StoreClosed AfterWrite.Drop))
+            (ends (Point.Writer WritePoint.Dropped) Answer.Done) self.side.log result.side.log }
         ensures left { LeftWriting self result.wake result.side.slots }
         ensures leaves { HasLeft self result.wake result.mine result.side.slots }
         ensures mine { TookBack result.mine
@@ -230,11 +187,18 @@ impl WriteHalf {
     {
         let WriteHalf { mut side } = self;
         let mine = side.cancel();
-        let call = dropping();
-        let Finished { side, taken, left } = side.finish();
+        side.begin(Point::Writer(WritePoint::StoreClosed(AfterWrite::Drop)));
+        let Finished {
+            mut side,
+            taken,
+            left,
+        } = side.finish();
         for_gone(left);
+        if taken.is_some() {
+            side.log.woke();
+        }
         Left {
-            wake: to_wake(call.stored(), taken),
+            wake: taken,
             mine,
             side,
         }

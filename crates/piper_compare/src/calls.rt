@@ -50,7 +50,7 @@ pub fn read_as_task(
         }
         Call::PollDrain(_, _, acts) => {
             let mut dest = Destination::new(acts.as_slice());
-            let polled = task.enter(|cx| reader.drain_inner(Some(cx), &mut dest));
+            let polled = task.enter(|cx| reader.poll_drain_with(cx, &mut dest));
             Answer::Copy(copied_inner(polled))
         }
         _ => return Err(Halt::OnlyMachine),
@@ -108,7 +108,7 @@ pub fn write_as_task(
         }
         Call::PollFill(_, _, acts) => {
             let mut source = Source::new(acts.as_slice());
-            copied_inner(task.enter(|cx| writer.fill_inner(Some(cx), &mut source)))
+            copied_inner(task.enter(|cx| writer.poll_fill_with(cx, &mut source)))
         }
         _ => return Err(Halt::OnlyMachine),
     }))

@@ -85,15 +85,22 @@ fn poll_fill_and_poll_drain(
     same_bytes(rt, &place, b"ab\0\0");
 }
 
-/// The same over any source and destination. With no task it moves what can be moved now.
-fn fill_inner_and_drain_inner(rt: &impl Abort, reader: &mut Reader, writer: &mut Writer) {
-    let mut source = ReadBytes::new(b"abc");
+/// The same over any source and destination, as a task and without one.
+fn fill_with_and_drain_with(
+    rt: &impl Abort,
+    cx: &mut Context<'_>,
+    reader: &mut Reader,
+    writer: &mut Writer,
+) {
+    let mut source = ReadBytes::new(b"ab");
     let mut place = [0; 3];
     let mut dest = WriteBytes::new(&mut place);
-    same(rt, source.asks(), 3);
+    same(rt, source.asks(), 2);
     same(rt, dest.asks(), 3);
-    ready(rt, writer.fill_inner(None, &mut source), 3);
-    ready(rt, reader.drain_inner(None, &mut dest), 3);
+    ready(rt, writer.poll_fill_with(cx, &mut source), 2);
+    ready(rt, reader.poll_drain_with(cx, &mut dest), 2);
+    ready(rt, writer.try_fill_with(&mut ReadBytes::new(b"c")), 1);
+    ready(rt, reader.try_drain_with(&mut dest), 1);
     same_bytes(rt, &place, b"abc");
 }
 
@@ -113,8 +120,8 @@ fn what_both_handles_do(rt: HostRuntime) -> Result<(), Fail> {
     task.enter(|cx| poll(&rt, cx, reader, writer));
     try_fill_and_try_drain(&rt, reader, writer);
     len_and_capacity(&rt, reader, writer);
-    fill_inner_and_drain_inner(&rt, reader, writer);
     task.enter(|cx| {
+        fill_with_and_drain_with(&rt, cx, reader, writer);
         write_buf_and_peek_buf(&rt, cx, reader, writer);
         poll_fill_bytes_and_poll_drain_bytes(&rt, cx, reader, writer);
         poll_fill_and_poll_drain(&rt, cx, reader, writer);

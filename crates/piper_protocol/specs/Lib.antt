@@ -5,4 +5,3 @@ pub mod WriterIndices
 pub mod Reported
 pub mod Answer
 pub mod Table
-pub mod Steps

@@ -5,8 +5,5 @@
 pub mod answer;
 pub mod indices;
 pub mod memory;
-pub mod read_steps;
 pub mod reported;
-pub mod steps;
 pub mod table;
-pub mod write_steps;

@@ -139,6 +139,13 @@ pub enum WritePoint {
     WakeWriter,
 }
 
+/// Where a side is: the reader or the writer.
+#[derive(Clone, Copy)]
+pub enum Point {
+    Reader(ReadPoint),
+    Writer(WritePoint),
+}
+
 /// What a step found.
 #[derive(Clone, Copy)]
 pub enum Found {

@@ -24,7 +24,8 @@ use Rattle.piper_ring.specs.contracts.ring.places.Base as Base
 use Rattle.piper_ring.specs.contracts.ring.marks.WriteMark as WriteMark
 use Rattle.piper_ring.specs.contracts.ring.marks.ReadMark as ReadMark
 use Rattle.piper_ring.specs.contracts.ring.marks.Saw as Saw
-use Rattle.piper_ring.specs.contracts.ring.slots.Waits as Waits
+use Rattle.piper_ring.specs.contracts.log.Log as Log
+use Rattle.piper_ring.specs.contracts.ring.slots.WaiterState as Waits
 use Rattle.piper_ring.specs.contracts.ring.slots.Wakes as Wakes
 
 abbrev pub seat_val : Ptr → Val
@@ -163,6 +164,12 @@ WaitsData = Struct (shape Waits.the_type)
 
 pub waits_made : {M : Type 1} {𝓤 : Ura M} (𝓛 : Logic 𝓤) → ent 𝓤 (emp 𝓤) (sem 𝓛 (WaitsData.own_val (record {}, tt) (ghost_val ∷ [])))
 waits_made 𝓛 = makes_shadow 𝓛 (WaitsData.own_val (record {}, tt) (ghost_val ∷ [])) (λ vss. (tt, ((λ uss. (tt, tt)), tt))) ((vstruct vnil ∷ [], tt), (refl, ((tt, (refl, tt)), tt)))
+
+abbrev pub LogData : RattleType
+LogData = Struct (shape Log.the_type)
+
+pub log_made : {M : Type 1} {𝓤 : Ura M} (𝓛 : Logic 𝓤) → ent 𝓤 (emp 𝓤) (sem 𝓛 (LogData.own_val (record {}, tt) (ghost_val ∷ [])))
+log_made 𝓛 = makes_shadow 𝓛 (LogData.own_val (record {}, tt) (ghost_val ∷ [])) (λ vss. (tt, ((λ uss. (tt, tt)), tt))) ((vstruct vnil ∷ [], tt), (refl, ((tt, (refl, tt)), tt)))
 
 abbrev pub WakesData : RattleType
 WakesData = Struct (shape Wakes.the_type)

@@ -362,8 +362,8 @@ module _ {M : Type 1} {𝓤 : Ura M} (𝓛 : Logic 𝓤) (w p : Ptr) (z : Names)
       wakes_on_flag f then can = qed 𝓛 (‵ C ∷ ‵ K ∷ ‵ B' ∷ ‵ (shows x) ∷ []) ∵ move ! (2 ∷ []) $ nothing ! $ move ! (1 ∷ 0 ∷ []) $ fjoin ! $ move ! (1 ∷ 2 ∷ 0 ∷ 3 ∷ []) $
           by ! (wakes_flag far (waiter z r) (waker z r) place stored_code shows K (slot_lent q k r) none b x f then can)
 
-      pub look_flag : b.0 ≡ false → ⟦ C ⟧ ∗ ⟦ K ⟧ ∗ ⟦ B' ⟧ ∗ ⟦ shows x ⟧ ⊢ access far (λ n. n) (Woke (λ n b' _. Looks Stored b x n b'))
-      look_flag rests = wakes_on_flag (λ n. n) (λ n b' _. Looks Stored b x n b') (looks b x rests)
+      pub load_flag : b.0 ≡ false → ⟦ C ⟧ ∗ ⟦ K ⟧ ∗ ⟦ B' ⟧ ∗ ⟦ shows x ⟧ ⊢ access far (λ n. n) (Woke (λ n b' _. Looks Stored b x n b'))
+      load_flag rests = wakes_on_flag (λ n. n) (λ n b' _. Looks Stored b x n b') (looks b x rests)
 
       pub take_waker : b.0 ≡ false → ⟦ C ⟧ ∗ ⟦ K ⟧ ∗ ⟦ B' ⟧ ∗ ⟦ shows x ⟧ ⊢ access far (λ _. 0) (Woke (TakesHeld b x))
       take_waker rests = wakes_on_flag (λ _. 0) (TakesHeld b x) (takes b x rests)

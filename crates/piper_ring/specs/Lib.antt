@@ -5,12 +5,15 @@ pub mod Block
 pub mod Slots
 pub mod Shared
 pub mod Loads
+pub mod Log
 pub mod Lends
 pub mod ReadView
 pub mod RoomOrder
 pub mod Stretches
 pub mod WriteView
+pub mod Meeting
 pub mod LendsBuffer
+pub mod Looks
 pub mod Opened
 pub mod SlotViews
 pub mod SlotsView

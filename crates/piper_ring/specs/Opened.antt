@@ -3,7 +3,8 @@ use Rattle.std.specs.Prelude.{◌≡◌, ℕ, true, false, []}
 use Rattle.piper_ring.specs.ReadView.{ReadView}
 use Rattle.piper_ring.specs.WriteView.{WriteView}
 use Rattle.piper_ring.specs.Shared.{Names}
-use Rattle.piper_ring.specs.SlotsView.{ReadSlotsView, WriteSlotsView}
+use Rattle.piper_ring.specs.Slots.{nothing_stored}
+use Rattle.piper_ring.specs.SlotsView.{SlotsView}
 
 -- nothing was consumed, nothing is known, no mark was heeded and nothing was seen
 pub record FreshReadEnd (cap : ℕ) (r : ReadView) : Type 0 where
@@ -25,12 +26,7 @@ pub record FreshWriteEnd (cap : ℕ) (w : WriteView) : Type 0 where
   pub saw : w.saw ≡ false
 
 -- nobody has waited, and no check followed a store
-pub record FreshReadSlots (z : Names) (s : ReadSlotsView) : Type 0 where
+pub record FreshSlots (z : Names) (s : SlotsView) : Type 0 where
   pub names : s.names ≡ z
   pub waits : (s.owns ≡ true) × (s.tickets ≡ 0)
-  pub wakes : (s.taken ≡ 0) × (s.count ≡ 0) × (s.over ≡ false)
-
-pub record FreshWriteSlots (z : Names) (s : WriteSlotsView) : Type 0 where
-  pub names : s.names ≡ z
-  pub waits : (s.owns ≡ true) × (s.tickets ≡ 0)
-  pub wakes : (s.taken ≡ 0) × (s.bytes ≡ []) × (s.shut ≡ false)
+  pub wakes : (s.taken ≡ 0) × (s.stored ≡ nothing_stored)

@@ -1,12 +1,13 @@
 -- What a contract sees of a `ReadEnd`, and how the end keeps it.
-use Rattle.std.specs.Prelude.{◌≡◌, ℕ, ◌+◌, ◌-◌, ◌^◌, ◌<◌, ◌≤◌, ◌++◌, Bool, true, false, List, length, take, min, refl}
+use Rattle.std.specs.Prelude.{◌≡◌, ℕ, ◌+◌, ◌-◌, ◌^◌, ◌<◌, ◌≤◌, ◌++◌, Bool, true, false, List, length, take, min, max, refl}
 use Rattle.std.specs.Coded.{Coded, code_by, coded×, coded_list, coded_ℕ, coded_bool}
 use Rattle.rtrb.specs.Fifo.{position_of, slot_of as offset_of}
 use mathlib.Core.List.{IsPrefix}
-use Rattle.piper_ring.specs.Shared.{Ring, ring_of, ring_code}
+use Rattle.piper_ring.specs.Shared.{Ring, ring_of, ring_code, flag}
 use Rattle.piper_ring.specs.Streams.{Reaches, either}
 use Rattle.piper_ring.specs.Loads.{FoundPublished}
 use Rattle.piper_ring.specs.declared.ends.reader.ReadParts.{ReadParts}
+use Rattle.piper_ring.specs.declared.ring.marks.WriteMark.{WriteMark}
 
 pub record ReadView : Type 0 where
   -- which ring it is an end of
@@ -108,6 +109,14 @@ pub record SameButTold (a b : ReadView) : Type 0 where
   pub known : b.known ≡ a.known
   pub saw : b.saw ≡ a.saw
   pub all : KnowsEnd a → b.all ≡ a.all
+
+-- since a, the end b learned from a mark what that reports
+pub record Heeds (mark : WriteMark) (a b : ReadView) : Type 0 where
+  pub told : b.told ≡ max a.told (length mark.bytes)
+  pub shut : flag b.told_shut ≡ max (flag a.told_shut) (flag mark.shut)
+  pub agree : Agree (b.taken ++ b.known) mark.bytes
+  pub last : mark.shut ≡ true → (b.all ≡ mark.bytes) × HasTheRest b
+  pub kept : SameButTold a b
 
 -- b is a, but for what it saw of the pipe's end since
 pub record SameButSaw (a b : ReadView) : Type 0 where

@@ -5,24 +5,24 @@ use Rattle.piper_ring.specs.Shared.{Names}
 use Rattle.piper_ring.specs.Loads.{FoundLeft}
 use Rattle.piper_ring.specs.Slots.{Stored, nothing_stored, Waits as WaitsOf, Wakes as WakesOf}
 use Rattle.piper_ring.specs.Words.{flag}
-use Rattle.piper_ring.specs.declared.ring.slots.Waits.{Waits}
+use Rattle.piper_ring.specs.declared.ring.slots.WaiterState.{WaiterState}
 use Rattle.piper_ring.specs.declared.ring.slots.Wakes.{Wakes}
 
-abbrev pub of_waits : Waits → WaitsOf Stored
+abbrev pub of_waits : WaiterState → WaitsOf Stored
 of_waits s = (s.owns, (s.tickets, s.heard))
 
 abbrev pub of_wakes : Wakes → WakesOf Stored
 of_wakes s = (s.holds, (s.taken, s.stored))
 
 -- it is still what one side knows of that slot
-abbrev pub SameWaiter : Waits → Waits → Type 0
+abbrev pub SameWaiter : WaiterState → WaiterState → Type 0
 SameWaiter s t = (t.names ≡ s.names) × (t.for_reader ≡ s.for_reader)
 
 abbrev pub SameWaker : Wakes → Wakes → Type 0
 SameWaker s t = (t.names ≡ s.names) × (t.for_reader ≡ s.for_reader)
 
 -- nobody has registered yet: the place is with the side that waits
-abbrev pub IsUnused : Names → Bool → Waits → Type 0
+abbrev pub IsUnused : Names → Bool → WaiterState → Type 0
 IsUnused z r s =
     (s.names ≡ z) × (s.for_reader ≡ r) × (s.owns ≡ true) × (s.tickets ≡ 0)
     × (s.heard ≡ nothing_stored)

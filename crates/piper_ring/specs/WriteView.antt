@@ -96,28 +96,9 @@ pub record HasMoreRoom (a b : WriteView) : Type 0 where
   pub shut : b.shut ≡ a.shut
   pub saw : b.saw ≡ a.saw
 
--- b is a, but for what was told to it since
-pub record SameButTold (a b : WriteView) : Type 0 where
-  pub ring : b.ring ≡ a.ring
-  pub capacity : b.capacity ≡ a.capacity
-  pub sent : b.sent ≡ a.sent
-  pub room : b.room ≡ a.room
-  pub lent : b.lent ≡ a.lent
-  pub shut : b.shut ≡ a.shut
-  pub saw : b.saw ≡ a.saw
-
 -- b is a, but for what it saw of the pipe's end since
 pub record SameButSaw (a b : WriteView) : Type 0 where
   pub end : SameWriteEnd a b
-  pub sent : b.sent ≡ a.sent
-  pub room : b.room ≡ a.room
-  pub lent : b.lent ≡ a.lent
-  pub shut : b.shut ≡ a.shut
-
--- b is a, but for what was told to it since: that the reader left, among others
-pub record SameButHeard (a b : WriteView) : Type 0 where
-  pub ring : b.ring ≡ a.ring
-  pub capacity : b.capacity ≡ a.capacity
   pub sent : b.sent ≡ a.sent
   pub room : b.room ≡ a.room
   pub lent : b.lent ≡ a.lent

@@ -27,7 +27,7 @@ pub(crate) fn send(writer: &mut WriteEnd, bytes: &[u8]) -> usize
     let buf = writer.write_buf(bytes.len());
     let n = buf.len();
     buf.copy_from_slice(&bytes[..n]);
-    writer.produce(n);
+    writer.store_tail(n);
     n
 }
 
@@ -42,7 +42,7 @@ pub(crate) fn send_due(writer: &mut WriteEnd, sent: usize, most: usize) -> usize
     for (i, place) in buf.iter_mut().enumerate() {
         *place = byte_at(sent.wrapping_add(i));
     }
-    writer.produce(n);
+    writer.store_tail(n);
     n
 }
 
@@ -59,6 +59,6 @@ pub(crate) fn receive_due(reader: &mut ReadEnd, received: usize, most: usize) ->
             return None;
         }
     }
-    reader.consume(n);
+    reader.store_head(n);
     Some(n)
 }

@@ -12,5 +12,3 @@ mod one_thread;
 mod place;
 #[cfg(test)]
 mod two_threads;
-#[cfg(test)]
-mod waiting;

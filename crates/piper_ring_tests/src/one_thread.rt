@@ -40,7 +40,7 @@ fn lends_grow_with_the_places_that_are_set(rt: HostRuntime) {
         let buf = writer.write_buf(200_000);
         same(&rt, &"lent", buf.len(), lent);
         let n = buf.len();
-        writer.produce(n);
+        writer.store_tail(n);
     }
 }
 

@@ -36,7 +36,7 @@ fn consume_all(rt: &impl Wait, mut reader: ReadEnd, most: usize) -> usize
     let mut round = 0usize;
     for _ in rt.forever() {
         round = round.wrapping_add(1);
-        let is_closed = reader.look_closed();
+        let is_closed = reader.load_closed();
         match receive_due(&mut reader, received, 1 + round % most) {
             None => return received,
             Some(0) if is_closed => return received,

@@ -120,9 +120,9 @@ where
     for last in 1..9usize {
         let error = error_at(fails, last);
         fill_ends_at(rt, Through::Fill, 3, last, error);
-        fill_ends_at(rt, Through::FillInner, 3, last, error);
+        fill_ends_at(rt, Through::FillWith, 3, last, error);
         fill_ends_at(rt, Through::Fill, 16, last, error);
-        fill_ends_at(rt, Through::FillInner, 16, last, error);
+        fill_ends_at(rt, Through::FillWith, 16, last, error);
     }
 }
 
@@ -175,7 +175,7 @@ where
     for last in 1..10usize {
         let error = error_at(fails, last);
         drain_ends_at(rt, Through::Drain, last, error);
-        drain_ends_at(rt, Through::DrainInner, last, error);
+        drain_ends_at(rt, Through::DrainWith, last, error);
     }
 }
 
@@ -197,7 +197,7 @@ where
 {
     let mut end = End::new(1, 2, Some(kind));
     let mut pair = Pair::new(rt, 4);
-    let fills = matches!(through, Through::Fill | Through::FillInner);
+    let fills = matches!(through, Through::Fill | Through::FillWith);
     if !fills {
         pair.play(
             rt,

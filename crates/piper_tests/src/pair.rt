@@ -77,12 +77,12 @@ pub(crate) enum Moved<T> {
 pub(crate) enum Through {
     /// `poll_fill`, from a reader of std.
     Fill,
-    /// `fill_inner`, from a source of the test's own.
-    FillInner,
+    /// `poll_fill_with`, from a source of the test's own.
+    FillWith,
     /// `poll_drain`, into a writer of std.
     Drain,
-    /// `drain_inner`, into a destination of the test's own.
-    DrainInner,
+    /// `poll_drain_with`, into a destination of the test's own.
+    DrainWith,
 }
 
 /// A pipe with a task for each of its sides.
@@ -257,9 +257,9 @@ impl Pair {
     ) -> Moved<usize> {
         match through {
             Through::Fill => self.fill_from(rt, end),
-            Through::FillInner => self.fill_inner(rt, end),
+            Through::FillWith => self.fill_with(rt, end),
             Through::Drain => self.drain_to(rt, end),
-            Through::DrainInner => self.drain_inner(rt, end),
+            Through::DrainWith => self.drain_with(rt, end),
         }
     }
 
@@ -275,14 +275,14 @@ impl Pair {
         copied(self.reading.enter(|cx| reader.poll_drain(cx, dest)))
     }
 
-    fn fill_inner(&mut self, rt: &impl Abort, source: &mut End) -> Moved<usize> {
+    fn fill_with(&mut self, rt: &impl Abort, source: &mut End) -> Moved<usize> {
         let writer = writer_of(rt, &mut self.writer);
-        copied_inner(self.writing.enter(|cx| writer.fill_inner(Some(cx), source)))
+        copied_inner(self.writing.enter(|cx| writer.poll_fill_with(cx, source)))
     }
 
-    fn drain_inner(&mut self, rt: &impl Abort, dest: &mut End) -> Moved<usize> {
+    fn drain_with(&mut self, rt: &impl Abort, dest: &mut End) -> Moved<usize> {
         let reader = reader_of(rt, &mut self.reader);
-        copied_inner(self.reading.enter(|cx| reader.drain_inner(Some(cx), dest)))
+        copied_inner(self.reading.enter(|cx| reader.poll_drain_with(cx, dest)))
     }
 
     /// Fills from a slice: all that fits goes in, and this is left.

@@ -5,7 +5,7 @@ use Rattle.std.specs.Io.KnownBytes.{Keeps}
 use Rattle.piper.specs.ReadView.{ReadView, SameReadEnd}
 use Rattle.piper.specs.WriteView.{WriteView}
 use Rattle.piper.specs.Ends.{ReaderRefreshed, WriterRefreshed}
-use Rattle.piper.specs.Looks.{ReaderLooked, WriterLooked}
+use Rattle.piper_ring.specs.Looks.{ReaderLooked, WriterLooked}
 use Rattle.piper_transfer.specs.Taken.{StaysTaken}
 use Rattle.piper_transfer.specs.Transfer.{Fed, Gets, IsOpen, Poured, PouredAll}
 

@@ -3,25 +3,28 @@ ghost use Rattle.std.specs.Prelude.{◌≡◌, ◌<◌, ◌≤◌, ◌⊎◌, []
 ghost use Rattle.futures.specs.Task.{Keeps};
 ghost use Rattle.futures.specs.Poll.{OnPending};
 ghost use Rattle.piper_ring.specs.ReadView.{KnowsEnd, in_one_piece};
-ghost use Rattle.piper_protocol.specs.Steps.{moved_by};
-ghost use Rattle.piper.specs.Contexts.{IfGiven};
-ghost use Rattle.piper.specs.CopyAnswers.{OnMemory, CountsFailure, IsAtOnce, inner_of};
+ghost use Rattle.piper_protocol.specs.Table.{ends, goes_on};
+ghost use Rattle.piper_ring.specs.Log.{Comes, Ran, made, next, now};
+ghost use Rattle.piper.specs.CopyAnswers.{OnMemory, CountsFailure, IsAtOnce, inner_of, inner_of_bytes};
 ghost use Rattle.piper.specs.Drains.{DrainRounds, EndIsTrue, EndIsUnseen, found_len};
 ghost use Rattle.piper.specs.Ends.{IsEnded};
 ghost use Rattle.piper.specs.Like.{Counts, passed};
-ghost use Rattle.piper.specs.Looks.{OnRefused};
+ghost use Rattle.piper_ring.specs.Looks.{looks_at};
+ghost use Rattle.piper.specs.Runs.{copy_answer};
 
 use crate::error::{Inner, PipeError};
 use crate::handles::Reader;
+use crate::handles::draws::WAITING;
+use crate::handles::waiting::wake_other;
 use crate::like::{StdWrite, StdWriter, WriteBytes, WriteLike};
-use crate::looks::NoWork;
 use futures::task::{Context, Poll};
-use piper_protocol::steps::{OfCopy, OfTry, Rounds};
-use piper_protocol::table::MOST_A_ROUND;
-use piper_ring::OutOfMemory;
+use piper_protocol::answer::Answer;
+use piper_protocol::table::{Action, Form, Found, MOST_A_ROUND, Point, Purpose, ReadPoint};
+use piper_ring::{Look, OutOfMemory};
 
 impl Reader {
-    ghost use Rattle.piper.specs.Handles.{SameReaderButWoke, SameReaderCells};
+    ghost use Rattle.piper.specs.Handles.{SameReader, SameReaderButWoke, SameReaderCells};
+    ghost use Rattle.piper.specs.OfReader.{end_of, log};
     ghost use Rattle.piper.specs.ReaderCalls.{Drained, DrainsAtOnce, DrainsEnd, DrainsLike, DrainsSlice, DrainsStd, DrainsWaiting, DrainPends, DrawsToYield, KeepsEnd, SameReaderButMoved, SameReaderButTried, WakesWriter};
 
     /// Moves bytes into a writer, and returns how many that took. It doesn't flush the writer.
@@ -38,18 +41,17 @@ impl Reader {
         cx: &mut Context<'_>,
         dest: &mut W,
     ) -> Poll<Result<usize, PipeError>>
+        ensures ran { Ran (looks_at (end_of self.old) (Purpose.Copy (Form.Polling false)))
+            (copy_answer (Form.Polling false) (inner_of result)) (log self.old) (log self.new) }
         ensures drained { DrainsStd W.contents W.full W.fails (inner_of result)
             self.old self.new dest.old dest.new }
         ensures end { DrainsEnd result self.old self.new }
-        ensures draws { DrawsToYield result self.old self.new }
-        ensures pending { OnPending result (DrainPends self.old self.new cx.new) }
-        ensures memory { OnMemory (inner_of result) (cx.new.lacks_waker ≡ true) }
+        ensures waiting { DrainsWaiting (inner_of result) self.old self.new cx.old cx.new }
         ensures woken { WakesWriter self.old self.new }
-        ensures context { Keeps cx.old cx.new }
         ensures rest { SameReaderButMoved self.old self.new }
     {
         let mut dest = StdWrite::new(dest);
-        match self.drain_inner(Some(cx), &mut dest) {
+        match self.poll_drain_with(cx, &mut dest) {
             Poll::Pending => Poll::Pending,
             Poll::Ready(Ok(count)) => Poll::Ready(Ok(count)),
             Poll::Ready(Err(Inner::Memory)) => Poll::Ready(Err(PipeError::Memory)),
@@ -67,17 +69,17 @@ impl Reader {
         cx: &mut Context<'_>,
         dest: &mut [u8],
     ) -> Poll<Result<usize, OutOfMemory>>
+        ensures ran { Ran (looks_at (end_of self.old) (Purpose.Copy (Form.Polling false)))
+            (copy_answer (Form.Polling false) (inner_of_bytes result))
+            (log self.old) (log self.new) }
         ensures drained { DrainsSlice result self.old self.new dest.old dest.new }
         ensures end { DrainsEnd result self.old self.new }
-        ensures draws { DrawsToYield result self.old self.new }
-        ensures pending { OnPending result (DrainPends self.old self.new cx.new) }
-        ensures memory { OnRefused result (cx.new.lacks_waker ≡ true) }
+        ensures waiting { DrainsWaiting (inner_of_bytes result) self.old self.new cx.old cx.new }
         ensures woken { WakesWriter self.old self.new }
-        ensures context { Keeps cx.old cx.new }
         ensures rest { SameReaderButMoved self.old self.new }
     {
         let mut bytes = WriteBytes::new(dest);
-        match self.drain_inner(Some(cx), &mut bytes) {
+        match self.poll_drain_with(cx, &mut bytes) {
             Poll::Pending => Poll::Pending,
             Poll::Ready(Ok(count)) => Poll::Ready(Ok(count)),
             Poll::Ready(Err(Inner::Memory)) => Poll::Ready(Err(OutOfMemory)),
@@ -89,13 +91,15 @@ impl Reader {
     /// how many. It looks for more only where it knows of none, and doesn't wait: 0 doesn't mean
     /// the end, since no byte may have come, or `dest` has no room.
     pub fn try_drain(&mut self, dest: &mut [u8]) -> usize
+        ensures ran { Ran (looks_at (end_of self.old) (Purpose.Copy Form.Try)) (Answer.Count result)
+            (log self.old) (log self.new) }
         ensures drained { Drained result self.old self.new dest.old dest.new }
         ensures end { KeepsEnd self.old self.new }
         ensures woken { WakesWriter self.old self.new }
         ensures rest { SameReaderButTried self.old self.new }
     {
         let mut bytes = WriteBytes::new(dest);
-        match self.drain_inner(None, &mut bytes) {
+        match self.try_drain_with(&mut bytes) {
             Poll::Ready(Ok(count)) => count,
             Poll::Ready(Err(Inner::Like(never))) => match never {},
             Poll::Ready(Err(Inner::Memory)) => unreachable!(),
@@ -103,94 +107,63 @@ impl Reader {
         }
     }
 
-    /// Moves known bytes into any destination. With a context it does so as `poll_drain` does into
-    /// a writer; without one it registers no task and doesn't draw: it is pending where the look
-    /// knows of no byte and didn't see the pipe closed.
+    /// Moves known bytes into any destination, as `poll_drain` does into a writer.
     ///
     /// A failure is the destination's own error: what it took in the rounds before stays taken, and
     /// the write that failed took nothing.
     #[inline(always)]
-    pub fn drain_inner<W: WriteLike>(
-        &mut self,
-        cx: Option<&mut Context<'_>>,
-        dest: &mut W,
-    ) -> Poll<Result<usize, Inner<W::Error>>>
-        ensures drained { DrainsLike W.takes W.is_full W.fails result
-            self.old self.new dest.old dest.new }
-        ensures failures { CountsFailure result (W.failures dest.old) (W.failures dest.new) }
-        ensures end { DrainsEnd result self.old self.new }
-        ensures waiting { IfGiven cx.entry cx.exit (DrainsWaiting result self.old self.new) }
-        ensures at_once { cx.entry ≡ None → DrainsAtOnce result self.old self.new }
-        ensures woken { WakesWriter self.old self.new }
-        ensures rest { SameReaderButMoved self.old self.new }
-    {
-        match cx {
-            Some(cx) => self.drain_waiting(cx, dest),
-            None => self.drain_at_once(dest),
-        }
-    }
-
-    // The drain with a context: the look, the draw, and the rounds.
-    #[inline(always)]
-    fn drain_waiting<W: WriteLike>(
+    pub fn poll_drain_with<W: WriteLike>(
         &mut self,
         cx: &mut Context<'_>,
         dest: &mut W,
     ) -> Poll<Result<usize, Inner<W::Error>>>
+        ensures ran { Ran (looks_at (end_of self.old) (Purpose.Copy (Form.Polling false)))
+            (copy_answer (Form.Polling false) result) (log self.old) (log self.new) }
         ensures drained { DrainsLike W.takes W.is_full W.fails result
             self.old self.new dest.old dest.new }
         ensures failures { CountsFailure result (W.failures dest.old) (W.failures dest.new) }
-        ensures ended { EndIsTrue result self.old.side.end self.new.side.end }
-        ensures all { KnowsEnd self.old.side.end → self.new.side.end.all ≡ self.old.side.end.all }
-        ensures stays { IsEnded self.old.side.end → IsEnded self.new.side.end }
-        ensures unseen { EndIsUnseen result self.old.side.end self.new.side.end }
+        ensures end { DrainsEnd result self.old self.new }
         ensures waiting { DrainsWaiting result self.old self.new cx.old cx.new }
         ensures woken { WakesWriter self.old self.new }
-        ensures slots { SameReaderCells self.old self.new }
+        ensures rest { SameReaderButMoved self.old self.new }
     {
-        let call = match self.look_first(OfCopy) {
-            Ok(call) => call,
-            Err(call) => match self.look_waiting(call, cx) {
-                Ok(call) => call,
-                Err(NoWork::Closed) => return Poll::Ready(Ok(0)),
-                Err(NoWork::Pending) => return Poll::Pending,
-                Err(NoWork::Refused) => return Poll::Ready(Err(Inner::Memory)),
-            },
-        };
-        if self.take_own_and_draw() {
-            let call = call.took_own_and_yields();
+        match self.look(Purpose::Copy(WAITING), cx) {
+            Ok(Look::Ready) => {}
+            Ok(Look::Closed) => return Poll::Ready(Ok(0)),
+            Ok(Look::NotReady) => return Poll::Pending,
+            Err(OutOfMemory) => return Poll::Ready(Err(Inner::Memory)),
+        }
+        if self.draw_and_take_own() {
             let _pending: Poll<()> = cx.yield_now();
-            call.yielded();
+            self.side.note(Action::Yield, Found::Granted(true));
             return Poll::Pending;
         }
-        self.drain_rounds(call.took_own(), dest)
+        self.drain_rounds(WAITING, dest)
     }
 
-    // The drain without a context: the look, and the rounds.
+    /// Moves known bytes into any destination, as `try_drain` does into a slice: it registers no
+    /// task and doesn't draw. It is pending where it knows of no byte after its look and didn't see
+    /// the pipe closed. Its failure is the destination's own, as that of `poll_drain_with`.
     #[inline(always)]
-    fn drain_at_once<W: WriteLike>(&mut self, dest: &mut W) -> Poll<Result<usize, Inner<W::Error>>>
+    pub fn try_drain_with<W: WriteLike>(
+        &mut self,
+        dest: &mut W,
+    ) -> Poll<Result<usize, Inner<W::Error>>>
+        ensures ran { Ran (looks_at (end_of self.old) (Purpose.Copy Form.Try))
+            (copy_answer Form.Try result) (log self.old) (log self.new) }
         ensures drained { DrainsLike W.takes W.is_full W.fails result
             self.old self.new dest.old dest.new }
         ensures failures { CountsFailure result (W.failures dest.old) (W.failures dest.new) }
-        ensures ended { EndIsTrue result self.old.side.end self.new.side.end }
-        ensures all { KnowsEnd self.old.side.end → self.new.side.end.all ≡ self.old.side.end.all }
-        ensures stays { IsEnded self.old.side.end → IsEnded self.new.side.end }
-        ensures waits { OnPending result (found_len self.old.side.end self.new.side.end ≡ 0) }
-        ensures unseen { EndIsUnseen result self.old.side.end self.new.side.end }
-        ensures granted { OnMemory result ⊥ }
+        ensures end { DrainsEnd result self.old self.new }
+        ensures at_once { DrainsAtOnce result self.old self.new }
         ensures woken { WakesWriter self.old self.new }
-        ensures rest { SameReaderButWoke self.old self.new }
+        ensures rest { SameReaderButTried self.old self.new }
     {
-        let call = match self.look_first(OfTry) {
-            Ok(call) => call,
-            Err(call) => match self.look_again(call.goes_on()) {
-                Ok(call) => call,
-                Err(NoWork::Closed) => return Poll::Ready(Ok(0)),
-                Err(NoWork::Pending) => return Poll::Pending,
-                Err(NoWork::Refused) => unreachable!(),
-            },
-        };
-        self.drain_rounds(call.begins(), dest)
+        match self.side.look_now(Purpose::Copy(Form::Try)) {
+            Look::Ready => self.drain_rounds(Form::Try, dest),
+            Look::Closed => Poll::Ready(Ok(0)),
+            Look::NotReady => Poll::Pending,
+        }
     }
 
     // Hands known bytes to the destination in rounds, each in one piece, until none is known or it
@@ -198,10 +171,13 @@ impl Reader {
     #[inline(always)]
     fn drain_rounds<W: WriteLike>(
         &mut self,
-        call: Rounds,
+        form: Form,
         dest: &mut W,
     ) -> Poll<Result<usize, Inner<W::Error>>>
-        requires { moved_by call ≡ 0 }
+        requires { now self.old.side.log
+            ≡ goes_on (Point.Reader (ReadPoint.CallDestination form 0)) }
+        ensures ran { Comes (ends (Point.Reader ReadPoint.Idle) (copy_answer form result))
+            self.old.side.log self.new.side.log }
         ensures drained { DrainRounds W.takes W.is_full W.fails result
             self.old.side.end self.new.side.end dest.old dest.new }
         ensures failures { CountsFailure result (W.failures dest.old) (W.failures dest.new) }
@@ -212,37 +188,52 @@ impl Reader {
     {
         // No more can be moved than the capacity, so the sum doesn't overflow.
         let _ = self.end().capacity();
-        let mut call = call;
+        let mut moved = 0;
         'rounds: loop {
             if dest.asks() == 0 {
-                return Poll::Ready(Ok(call.moved_none()));
+                self.side.note(Action::CallDestination, Found::Moved(0));
+                return Poll::Ready(Ok(moved));
             }
             let n = match self.drain_round(dest) {
                 Ok(n) => n,
-                Err(error) => {
-                    call.failed();
-                    return Poll::Ready(Err(Inner::Like(error)));
-                }
+                Err(error) => return Poll::Ready(Err(Inner::Like(error))),
             };
             if n == 0 {
-                return Poll::Ready(Ok(call.moved_none()));
+                return Poll::Ready(Ok(moved));
             }
-            let round = self.store_head(call.took(n));
-            call = self.wake_writer(round);
+            moved += n;
+            self.side.store_head(n);
+            wake_other(&mut self.side);
         }
     }
 
     // One call of the destination, on known bytes in one piece.
     #[inline(always)]
-    fn drain_round<W: WriteLike>(&self, dest: &mut W) -> Result<usize, W::Error>
-        ensures bound { IfOk result (λ n. n ≤ in_one_piece self.now.side.end) }
+    fn drain_round<W: WriteLike>(&mut self, dest: &mut W) -> Result<usize, W::Error>
+        requires { next self.old.side.log ≡ Action.CallDestination }
+        ensures taken { IfOk result (λ n.
+            self.new.side.log ≡ made (Found.Moved n) self.old.side.log) }
+        ensures failed { IfErr result (λ _.
+            self.new.side.log ≡ made Found.Failed self.old.side.log) }
+        ensures bound { IfOk result (λ n. n ≤ in_one_piece self.old.side.end) }
         ensures most { IfOk result (λ n. n ≤ MOST_A_ROUND) }
-        ensures bytes { W.takes dest.old (passed result self.now.side.end.known) dest.new }
-        ensures full { result ≡ Ok 0 → (self.now.side.end.known ≡ []) ⊎ W.is_full dest.new }
+        ensures bytes { W.takes dest.old (passed result self.old.side.end.known) dest.new }
+        ensures full { result ≡ Ok 0 → (self.old.side.end.known ≡ []) ⊎ W.is_full dest.new }
         ensures error { IfErr result (λ e. W.fails dest.old e dest.new) }
         ensures failures { Counts result (W.failures dest.old) (W.failures dest.new) }
+        ensures end { self.new.side.end ≡ self.old.side.end }
+        ensures rest { SameReader self.old self.new }
     {
         let piece = self.peek_buf();
-        dest.write(&piece[..piece.len().min(MOST_A_ROUND)])
+        match dest.write(&piece[..piece.len().min(MOST_A_ROUND)]) {
+            Ok(n) => {
+                self.side.note(Action::CallDestination, Found::Moved(n));
+                Ok(n)
+            }
+            Err(error) => {
+                self.side.note(Action::CallDestination, Found::Failed);
+                Err(error)
+            }
+        }
     }
 }

@@ -2,26 +2,29 @@
 ghost use Rattle.std.specs.Prelude.{◌≡◌, ◌<◌, ◌≤◌, ◌⊎◌, length, IfOk, IfErr, None, Ok, true, false};
 ghost use Rattle.futures.specs.Task.{Keeps};
 ghost use Rattle.futures.specs.Poll.{OnPending};
-ghost use Rattle.piper_protocol.specs.Steps.{moved_by};
-ghost use Rattle.piper.specs.Contexts.{IfGiven};
+ghost use Rattle.piper_protocol.specs.Table.{ends, goes_on};
+ghost use Rattle.piper_ring.specs.Log.{Comes, Ran, made, next, now};
 ghost use Rattle.piper.specs.CopyAnswers.{OnMemory, CountsFailure, IsAtOnce, inner_of, inner_of_bytes};
 ghost use Rattle.piper.specs.Fills.{FillRounds, FoundRoom, OnNoCount, WriterRelent, most_of_round};
 ghost use Rattle.piper.specs.Like.{Counts, passed};
-ghost use Rattle.piper.specs.Looks.{OnRefused};
+ghost use Rattle.piper.specs.Runs.{copy_answer};
 
 use crate::error::{Inner, PipeError};
 use crate::handles::Writer;
+use crate::handles::draws::WAITING;
+use crate::handles::waiting::wake_other;
 use crate::like::{ReadBytes, ReadLike, StdRead, StdReader};
-use crate::looks::{FirstLook, NoWork};
 use futures::task::{Context, Poll};
-use piper_protocol::steps::{OfTry, Rounds};
-use piper_protocol::table::MOST_A_ROUND;
-use piper_ring::OutOfMemory;
+use piper_protocol::answer::Answer;
+use piper_protocol::table::{
+    Action, AfterWrite, Form, Found, MOST_A_ROUND, Point, Purpose, WritePoint,
+};
+use piper_ring::{Look, OutOfMemory};
 
 impl Writer {
     ghost use Rattle.piper.specs.Handles.{SameWriter, SameWriterButWoke, SameWriterCells};
     ghost use Rattle.piper.specs.WriterCalls.{DrawsToYield, Filled, FillPends, FillsAtOnce, FillsEnd, FillsLike, FillsSlice, FillsStd, FillsWaiting, SameWriterButMoved, SameWriterButTried, WakesReader};
-    ghost use Rattle.piper.specs.OfWriter.{saw};
+    ghost use Rattle.piper.specs.OfWriter.{log, saw};
 
     /// Publishes bytes that a reader gives, and returns how many it gave.
     ///
@@ -38,18 +41,17 @@ impl Writer {
         cx: &mut Context<'_>,
         source: &mut R,
     ) -> Poll<Result<usize, PipeError>>
+        ensures ran { Ran (Point.Writer (WritePoint.LookClosed (Purpose.Copy (Form.Polling false))))
+            (copy_answer (Form.Polling false) (inner_of result)) (log self.old) (log self.new) }
         ensures filled { FillsStd R.remaining R.fails (inner_of result)
             self.old self.new source.old source.new }
         ensures end { FillsEnd result self.old self.new }
-        ensures draws { DrawsToYield (inner_of result) self.old self.new }
-        ensures pending { OnPending result (FillPends self.old self.new cx.new) }
-        ensures memory { OnMemory (inner_of result) (cx.new.lacks_waker ≡ true) }
+        ensures waiting { FillsWaiting (inner_of result) self.old self.new cx.old cx.new }
         ensures woken { WakesReader self.old self.new }
-        ensures context { Keeps cx.old cx.new }
         ensures rest { SameWriterButMoved self.old self.new }
     {
         let mut source = StdRead::new(source);
-        match self.fill_inner(Some(cx), &mut source) {
+        match self.poll_fill_with(cx, &mut source) {
             Poll::Pending => Poll::Pending,
             Poll::Ready(Ok(count)) => Poll::Ready(Ok(count)),
             Poll::Ready(Err(Inner::Memory)) => Poll::Ready(Err(PipeError::Memory)),
@@ -70,17 +72,17 @@ impl Writer {
         cx: &mut Context<'_>,
         bytes: &[u8],
     ) -> Poll<Result<usize, OutOfMemory>>
+        ensures ran { Ran (Point.Writer (WritePoint.LookClosed (Purpose.Copy (Form.Polling false))))
+            (copy_answer (Form.Polling false) (inner_of_bytes result))
+            (log self.old) (log self.new) }
         ensures filled { FillsSlice result self.old self.new bytes.now }
         ensures end { FillsEnd result self.old self.new }
-        ensures draws { DrawsToYield (inner_of_bytes result) self.old self.new }
-        ensures pending { OnPending result (FillPends self.old self.new cx.new) }
-        ensures memory { OnRefused result (cx.new.lacks_waker ≡ true) }
+        ensures waiting { FillsWaiting (inner_of_bytes result) self.old self.new cx.old cx.new }
         ensures woken { WakesReader self.old self.new }
-        ensures context { Keeps cx.old cx.new }
         ensures rest { SameWriterButMoved self.old self.new }
     {
         let mut source = ReadBytes::new(bytes);
-        match self.fill_inner(Some(cx), &mut source) {
+        match self.poll_fill_with(cx, &mut source) {
             Poll::Pending => Poll::Pending,
             Poll::Ready(Ok(count)) => Poll::Ready(Ok(count)),
             Poll::Ready(Err(Inner::Memory)) => Poll::Ready(Err(OutOfMemory)),
@@ -95,13 +97,15 @@ impl Writer {
     /// A closed pipe takes none. Where the pipe is seen closed only once some bytes were taken, the
     /// last of them, at most one round, are counted and not published.
     pub fn try_fill(&mut self, bytes: &[u8]) -> usize
+        ensures ran { Ran (Point.Writer (WritePoint.LookClosed (Purpose.Copy Form.Try)))
+            (Answer.Count result) (log self.old) (log self.new) }
         ensures filled { Filled result self.old self.new bytes.now }
         ensures closed { saw self.old ≡ true → result ≡ 0 }
         ensures woken { WakesReader self.old self.new }
         ensures rest { SameWriterButTried self.old self.new }
     {
         let mut source = ReadBytes::new(bytes);
-        match self.fill_inner(None, &mut source) {
+        match self.try_fill_with(&mut source) {
             Poll::Ready(Ok(count)) => count,
             Poll::Ready(Err(Inner::Like(never))) => match never {},
             Poll::Ready(Err(Inner::Memory)) => unreachable!(),
@@ -109,39 +113,52 @@ impl Writer {
         }
     }
 
-    /// Publishes bytes that any source gives. With a context it does so as `poll_fill` does those
-    /// of a reader; without one it registers no task and doesn't draw: it is pending where the look
-    /// knows of no room and didn't see the pipe closed.
+    /// Publishes bytes that any source gives, as `poll_fill` does those of a reader.
     ///
     /// A failure is the source's own error: what it gave in the rounds before stays published, and
     /// nothing else moved.
     #[inline(always)]
-    pub fn fill_inner<R: ReadLike>(
+    pub fn poll_fill_with<R: ReadLike>(
         &mut self,
-        cx: Option<&mut Context<'_>>,
+        cx: &mut Context<'_>,
         source: &mut R,
     ) -> Poll<Result<usize, Inner<R::Error>>>
+        ensures ran { Ran (Point.Writer (WritePoint.LookClosed (Purpose.Copy (Form.Polling false))))
+            (copy_answer (Form.Polling false) result) (log self.old) (log self.new) }
         ensures filled { FillsLike R.gives R.is_dry R.fails result
             self.old self.new source.old source.new }
         ensures failures { CountsFailure result (R.failures source.old) (R.failures source.new) }
         ensures end { FillsEnd result self.old self.new }
-        ensures waiting { IfGiven cx.entry cx.exit (FillsWaiting result self.old self.new) }
-        ensures at_once { cx.entry ≡ None → FillsAtOnce result self.old self.new }
+        ensures waiting { FillsWaiting result self.old self.new cx.old cx.new }
         ensures woken { WakesReader self.old self.new }
         ensures rest { SameWriterButMoved self.old self.new }
     {
-        match cx {
-            Some(cx) => {
-                let outcome = self.fill_waiting(cx, source);
-                self.unlend();
-                outcome
-            }
-            None => {
-                let outcome = self.fill_at_once(source);
-                self.unlend();
-                outcome
-            }
-        }
+        let outcome = self.fill_waiting(cx, source);
+        self.side.unlend();
+        outcome
+    }
+
+    /// Publishes bytes that any source gives, as `try_fill` does those of a slice: it registers no
+    /// task and doesn't draw. It is pending where it knows of no room after its look and didn't see
+    /// the pipe closed. Its failure is the source's own, as that of `poll_fill_with`.
+    #[inline(always)]
+    pub fn try_fill_with<R: ReadLike>(
+        &mut self,
+        source: &mut R,
+    ) -> Poll<Result<usize, Inner<R::Error>>>
+        ensures ran { Ran (Point.Writer (WritePoint.LookClosed (Purpose.Copy Form.Try)))
+            (copy_answer Form.Try result) (log self.old) (log self.new) }
+        ensures filled { FillsLike R.gives R.is_dry R.fails result
+            self.old self.new source.old source.new }
+        ensures failures { CountsFailure result (R.failures source.old) (R.failures source.new) }
+        ensures end { FillsEnd result self.old self.new }
+        ensures at_once { FillsAtOnce result self.old self.new }
+        ensures woken { WakesReader self.old self.new }
+        ensures rest { SameWriterButMoved self.old self.new }
+    {
+        let outcome = self.fill_at_once(source);
+        self.side.unlend();
+        outcome
     }
 
     // The fill with a context: the look, the draw, and the rounds.
@@ -151,6 +168,8 @@ impl Writer {
         cx: &mut Context<'_>,
         source: &mut R,
     ) -> Poll<Result<usize, Inner<R::Error>>>
+        ensures ran { Ran (Point.Writer (WritePoint.LookClosed (Purpose.Copy (Form.Polling false))))
+            (copy_answer (Form.Polling false) result) (log self.old) (log self.new) }
         ensures filled { FillsLike R.gives R.is_dry R.fails result
             self.old self.new source.old source.new }
         ensures failures { CountsFailure result (R.failures source.old) (R.failures source.new) }
@@ -159,24 +178,25 @@ impl Writer {
         ensures woken { WakesReader self.old self.new }
         ensures slots { SameWriterCells self.old self.new }
     {
-        let call = match self.look_for_copy(cx) {
-            Ok(call) => call,
-            Err(NoWork::Closed) => return Poll::Ready(Ok(0)),
-            Err(NoWork::Pending) => return Poll::Pending,
-            Err(NoWork::Refused) => return Poll::Ready(Err(Inner::Memory)),
-        };
-        if self.take_own_and_draw() {
-            let call = call.took_own_and_yields();
+        match self.look(Purpose::Copy(WAITING), cx) {
+            Ok(Look::Ready) => {}
+            Ok(Look::Closed) => return Poll::Ready(Ok(0)),
+            Ok(Look::NotReady) => return Poll::Pending,
+            Err(OutOfMemory) => return Poll::Ready(Err(Inner::Memory)),
+        }
+        if self.draw_and_take_own() {
             let _pending: Poll<()> = cx.yield_now();
-            call.yielded();
+            self.side.note(Action::Yield, Found::Granted(true));
             return Poll::Pending;
         }
-        self.fill_rounds(call.took_own(), source)
+        self.fill_rounds(WAITING, source)
     }
 
     // The fill without a context: the look, and the rounds.
     #[inline(always)]
     fn fill_at_once<R: ReadLike>(&mut self, source: &mut R) -> Poll<Result<usize, Inner<R::Error>>>
+        ensures ran { Ran (Point.Writer (WritePoint.LookClosed (Purpose.Copy Form.Try)))
+            (copy_answer Form.Try result) (log self.old) (log self.new) }
         ensures filled { FillsLike R.gives R.is_dry R.fails result
             self.old self.new source.old source.new }
         ensures failures { CountsFailure result (R.failures source.old) (R.failures source.new) }
@@ -186,17 +206,11 @@ impl Writer {
         ensures woken { WakesReader self.old self.new }
         ensures rest { SameWriterButWoke self.old self.new }
     {
-        let call = match self.look_first(OfTry) {
-            FirstLook::Closed => return Poll::Ready(Ok(0)),
-            FirstLook::Room(call) => call,
-            FirstLook::NoRoom(call) => match self.look_again(call.goes_on()) {
-                Ok(call) => call,
-                Err(NoWork::Closed) => return Poll::Ready(Ok(0)),
-                Err(NoWork::Pending) => return Poll::Pending,
-                Err(NoWork::Refused) => unreachable!(),
-            },
-        };
-        self.fill_rounds(call.begins(), source)
+        match self.side.look_now(Purpose::Copy(Form::Try)) {
+            Look::Ready => self.fill_rounds(Form::Try, source),
+            Look::Closed => Poll::Ready(Ok(0)),
+            Look::NotReady => Poll::Pending,
+        }
     }
 
     // Publishes what the source gives in rounds, each in one piece, until there is no room, it
@@ -204,12 +218,14 @@ impl Writer {
     #[inline(always)]
     fn fill_rounds<R: ReadLike>(
         &mut self,
-        call: Rounds,
+        form: Form,
         source: &mut R,
     ) -> Poll<Result<usize, Inner<R::Error>>>
-        requires begins { moved_by call ≡ 0 }
+        requires at { now self.old.side.log ≡ goes_on (Point.Writer (WritePoint.CallSource form 0)) }
         requires is_open { (self.old.side.end.shut ≡ false) × (self.old.side.end.saw ≡ false) }
         requires some { 0 < self.old.side.end.room }
+        ensures ran { Comes (ends (Point.Writer WritePoint.Idle) (copy_answer form result))
+            self.old.side.log self.new.side.log }
         ensures filled { FillRounds R.gives R.is_dry R.fails result
             self.old.side.end self.new.side.end source.old source.new }
         ensures failures { CountsFailure result (R.failures source.old) (R.failures source.new) }
@@ -221,36 +237,39 @@ impl Writer {
     {
         // No more can be moved than the capacity, so the sum doesn't overflow.
         let _ = self.end().capacity();
-        let mut call = call;
+        let mut moved = 0;
         'rounds: loop {
             let asks = source.asks();
             if asks == 0 {
-                return Poll::Ready(Ok(call.moved_none()));
+                self.side.note(Action::CallSource, Found::Moved(0));
+                return Poll::Ready(Ok(moved));
             }
             let n = match self.fill_round(asks, source) {
                 Ok(n) => n,
-                Err(error) => {
-                    call.failed();
-                    return Poll::Ready(Err(Inner::Like(error)));
-                }
+                Err(error) => return Poll::Ready(Err(Inner::Like(error))),
             };
             if n == 0 {
-                return Poll::Ready(Ok(call.moved_none()));
+                return Poll::Ready(Ok(moved));
             }
-            let round = call.gave(n);
-            if self.load_closed() {
-                return Poll::Ready(Ok(round.is_closed()));
+            moved += n;
+            if self.side.load_closed() {
+                return Poll::Ready(Ok(moved));
             }
-            let round = self.store_tail(round.is_open());
-            call = self.wake_reader(round);
+            self.side.store_tail(n);
+            wake_other(&mut self.side);
         }
     }
 
     // One call of the source, on room that is lent to it in one piece, no more than it asks for.
     #[inline(always)]
     fn fill_round<R: ReadLike>(&mut self, asks: usize, source: &mut R) -> Result<usize, R::Error>
+        requires turn { next self.old.side.log ≡ Action.CallSource }
         requires is_open { self.old.side.end.shut ≡ false }
         requires some { 0 < asks }
+        ensures given { IfOk result (λ n.
+            self.new.side.log ≡ made (Found.Moved n) self.old.side.log) }
+        ensures failed { IfErr result (λ _.
+            self.new.side.log ≡ made Found.Failed self.old.side.log) }
         ensures bound { IfOk result (λ n. n ≤ length self.new.side.end.lent) }
         ensures most { IfOk result (λ n. n ≤ most_of_round self.new.side.end) }
         ensures bytes { R.gives source.old (passed result self.new.side.end.lent) source.new }
@@ -260,6 +279,15 @@ impl Writer {
         ensures end { WriterRelent self.old.side.end self.new.side.end }
         ensures rest { SameWriter self.old self.new }
     {
-        source.read(self.write_buf(asks.min(MOST_A_ROUND)))
+        match source.read(self.write_buf(asks.min(MOST_A_ROUND))) {
+            Ok(n) => {
+                self.side.note(Action::CallSource, Found::Moved(n));
+                Ok(n)
+            }
+            Err(error) => {
+                self.side.note(Action::CallSource, Found::Failed);
+                Err(error)
+            }
+        }
     }
 }

@@ -18,7 +18,7 @@ impl Reader {
     pub fn end(&self) -> &ReadEnd
         ensures { result.now ≡ end_of self.now }
     {
-        &self.side.end
+        self.side.end()
     }
 
     /// From now on it knows what the mark reports: a look finds at least the bytes that were
@@ -34,7 +34,7 @@ impl Reader {
         ensures all { KeepsAll self.old self.new }
         ensures rest { SameReaderButTold self.old self.new }
     {
-        self.side.end.heed(mark);
+        self.side.heed(mark);
     }
 
     /// Is called where one thread holds both handles of a pipe. After it the reader knows of all
@@ -55,8 +55,7 @@ impl Reader {
         ensures writer_woken { MeetWriter other.old other.new self.old }
         ensures rest { MeetSame self.old self.new other.old other.new }
     {
-        self.side.meet_slots(&mut other.side);
-        self.side.end.meet(&mut other.side.end);
+        self.side.meet(&mut other.side);
     }
 
     /// Heeds the last mark of the writer that was dropped; its bytes become known at the next look.
@@ -73,7 +72,7 @@ impl Reader {
         ensures kept { left.new ≡ left.old }
     {
         self.side.meet_slot(&mut left.slots);
-        self.side.end.heed(&left.told);
+        self.side.heed(&left.told);
     }
 }
 
@@ -86,7 +85,7 @@ impl Writer {
     pub fn end(&self) -> &WriteEnd
         ensures { result.now ≡ end_of self.now }
     {
-        &self.side.end
+        self.side.end()
     }
 
     /// From now on it knows what the mark reports: a look finds at least the room that was given
@@ -96,7 +95,7 @@ impl Writer {
         ensures told { told self.new ≡ max (told self.old) mark.now.count }
         ensures rest { SameWriterButTold self.old self.new }
     {
-        self.side.end.heed(mark);
+        self.side.heed(mark);
     }
 
     /// From now on it knows that the reader was dropped: the pipe counts as seen closed, so polls
@@ -107,7 +106,7 @@ impl Writer {
         ensures told { told self.new ≡ max (told self.old) mark.now.consumed.count }
         ensures rest { SameWriterButLast self.old self.new }
     {
-        self.side.end.heed_last(mark);
+        self.side.heed_last(mark);
     }
 
     /// Heeds the last mark of the reader that was dropped (`heed_last`). And the writer was not
@@ -122,7 +121,7 @@ impl Writer {
         ensures kept { left.new ≡ left.old }
     {
         self.side.meet_slot(&mut left.slots);
-        self.side.end.heed_last(&left.told);
+        self.side.heed_last(&left.told);
     }
 
     /// Lends at most `max` bytes of the known room, in one piece, to be written: at least one where

@@ -2,7 +2,9 @@
 ghost use Rattle.std.specs.Prelude.{◌≡◌, true};
 
 use crate::ends::cells::LeftWakers;
-use crate::ends::slots::{ReadRegistrations, WriteRegistrations};
+use crate::ends::slots::reader::ReadRegistrations;
+use crate::ends::slots::writer::WriteRegistrations;
+use crate::log::Log;
 use crate::ring::marks::{LastReadMark, WriteMark};
 
 /// What comes of a side that leaves.
@@ -22,8 +24,10 @@ pub struct FinishedReader {
     /// All that was ever consumed, and that the reader left.
     pub told: LastReadMark,
     pub slots: ReadRegistrations,
+    /// What the side did.
+    pub log: Log,
     ghost of_one_ring: { slots.names ≡ told.consumed.names },
-    ghost after_its_close: { slots.over ≡ true },
+    ghost after_its_close: { slots.stored.closed ≡ true },
 }
 
 /// What is left of the writer's side: evidence that it closed the pipe, and that after that it took
@@ -33,6 +37,8 @@ pub struct FinishedWriter {
     /// All that was ever published, and that the pipe is closed.
     pub told: WriteMark,
     pub slots: WriteRegistrations,
+    /// What the side did.
+    pub log: Log,
     ghost of_one_ring: { slots.names ≡ told.names },
-    ghost after_its_close: { (told.shut ≡ true) × (slots.shut ≡ true) },
+    ghost after_its_close: { (told.shut ≡ true) × (slots.stored.closed ≡ true) },
 }

@@ -4,15 +4,17 @@ ghost use Rattle.piper_protocol.specs.Reported.{HasFailed};
 ghost use Rattle.piper_cells.specs.Space.{Fits};
 ghost use Rattle.piper_ring.specs.Block.{size_of_block, space_of, space_words};
 ghost use Rattle.piper_ring.specs.contracts.ends.cells.WakerCells.{the_row as cells_row};
-ghost use Rattle.piper_ring.specs.Opened.{FreshReadEnd, FreshReadSlots, FreshWriteEnd, FreshWriteSlots};
+ghost use Rattle.piper_ring.specs.Opened.{FreshReadEnd, FreshSlots, FreshWriteEnd};
 
 use crate::ends::cells::WakerCells;
 use crate::ends::reader::{ReadEnd, ReadParts};
 use crate::ends::room::Room;
-use crate::ends::slots::reader::ReadSide;
-use crate::ends::slots::writer::WriteSide;
-use crate::ends::slots::{ReadRegistrations, ReadSlotParts, WriteRegistrations, WriteSlotParts};
+use crate::ends::slots::reader::{ReadRegistrations, ReadSide};
+use crate::ends::slots::side::Side;
+use crate::ends::slots::writer::{ReadStored, WriteRegistrations, WriteSide};
+use crate::ends::slots::{Registrations, SlotParts};
 use crate::ends::writer::{WriteEnd, WriteParts};
+use crate::log::Log;
 use crate::ring::memory::{Memory, Parts, block_size};
 use crate::ring::seats::open;
 use piper_cells::lent_space::{Lease, Lender};
@@ -59,8 +61,8 @@ pub fn open_with_slots<T>(
     ensures pair { IfOk result (λ (r, w). (w.end.ring ≡ r.end.ring) × (w.cells ≡ r.cells)) }
     ensures reader { IfOk result (λ (r, _). FreshReadEnd capacity r.end) }
     ensures writer { IfOk result (λ (_, w). FreshWriteEnd capacity w.end) }
-    ensures read_slots { IfOk result (λ (r, _). FreshReadSlots r.end.ring.names r.slots) }
-    ensures write_slots { IfOk result (λ (_, w). FreshWriteSlots w.end.ring.names w.slots) }
+    ensures read_slots { IfOk result (λ (r, _). FreshSlots r.end.ring.names r.slots) }
+    ensures write_slots { IfOk result (λ (_, w). FreshSlots w.end.ring.names w.slots) }
     ensures refused { IfErr result HasFailed }
 {
     let (parts, space) = claim(&alloc, capacity)?.part(capacity);
@@ -78,15 +80,17 @@ pub fn open_with_slots<T>(
         reader_token,
         writer_token,
     );
-    let reader = ReadSide {
+    let reader = Side {
         end: reader,
         slots: read_slots,
         cells: read_cells,
+        log: Log::new(),
     };
-    let writer = WriteSide {
+    let writer = Side {
         end: writer,
         slots: write_slots,
         cells: write_cells,
+        log: Log::new(),
     };
     Ok((reader, writer))
 }
@@ -111,8 +115,8 @@ fn open_ends(
     ensures pair { result.1.ring ≡ result.0.ring }
     ensures reader { FreshReadEnd capacity result.0 }
     ensures writer { FreshWriteEnd capacity result.1 }
-    ensures read_slots { FreshReadSlots result.0.ring.names result.2 }
-    ensures write_slots { FreshWriteSlots result.0.ring.names result.3 }
+    ensures read_slots { FreshSlots result.0.ring.names result.2 }
+    ensures write_slots { FreshSlots result.0.ring.names result.3 }
     ensures places { (result.0.ring.names.reader_place ≡ reader_token.name)
         × (result.0.ring.names.writer_place ≡ writer_token.name)
         × (result.0.ring.names.life ≡ lender.life) }
@@ -124,19 +128,21 @@ fn open_ends(
     let read_saw = told_reader.again();
     let heard = told_reader.again();
     let write_saw = read_seat.unseen();
-    let read_slots = ReadSlotParts {
+    let read_slots = SlotParts {
         waits: reader_waits,
         right: Some(reader_token),
         maybe_registered: false,
         heard: told_reader.again(),
         wakes: reader_wakes,
     };
-    let write_slots = WriteSlotParts {
+    let write_slots = SlotParts {
         waits: writer_waits,
         right: Some(writer_token),
         maybe_registered: false,
-        heard: told_writer.again(),
-        saw: read_seat.unseen(),
+        heard: ReadStored {
+            count: told_writer.again(),
+            closed: read_seat.unseen(),
+        },
         wakes: writer_wakes,
     };
     let reader = ReadParts {
@@ -161,8 +167,8 @@ fn open_ends(
     (
         ReadEnd { parts: reader },
         WriteEnd { parts: writer },
-        ReadRegistrations { parts: read_slots },
-        WriteRegistrations { parts: write_slots },
+        Registrations { parts: read_slots },
+        Registrations { parts: write_slots },
     )
 }
 

@@ -47,8 +47,8 @@ impl Model for ReadEnd {
 }
 
 impl ReadEnd {
-    ghost use Rattle.piper_ring.specs.ReadView.{HasLoaded, SameReadEnd, KnowsMore, SameButTold, SameButSaw, MayBeUnread, KnowsEnd, HasTheRest, Agree, in_one_piece};
-    ghost use Rattle.piper_ring.specs.WriteView.{HasMoreRoom};
+    ghost use Rattle.piper_ring.specs.ReadView.{HasLoaded, Heeds, KnowsMore, SameButSaw, MayBeUnread, KnowsEnd, HasTheRest, in_one_piece};
+    ghost use Rattle.piper_ring.specs.Meeting.{EndsMeet};
     ghost use Rattle.piper_ring.specs.Loads.{FoundClosed};
     ghost use Rattle.piper_ring.specs.Shared.{flag, ring_of};
 
@@ -80,7 +80,7 @@ impl ReadEnd {
     pub fn len(&self) -> usize
         ensures { MayBeUnread self.now result }
     {
-        let (tail, _) = self.parts.seat.look_tail(&self.parts.heard);
+        let (tail, _) = self.parts.seat.load_tail(&self.parts.heard);
         self.parts.indices.unread_to(tail as usize)
     }
 
@@ -130,28 +130,22 @@ impl ReadEnd {
         self.parts.seat.mark()
     }
 
-    /// From now on it knows what the mark reports: a reload finds at least the bytes that were
+    /// From now on it knows what the mark reports: a load of the tail finds at least the bytes that were
     /// published before it, and a ring that the writer closed before it is seen closed. Its bytes
     /// and those that this end took and knows of are beginnings of one stream, and those of a mark
     /// that reports of the end are all.
     pub fn heed(&mut self, mark: &WriteMark)
         requires { mark.now.names ≡ self.old.ring.names }
-        ensures told { self.new.told ≡ max self.old.told (length mark.now.bytes) }
-        ensures shut { flag self.new.told_shut
-            ≡ max (flag self.old.told_shut) (flag mark.now.shut) }
-        ensures agree { Agree (self.new.taken ++ self.new.known) mark.now.bytes }
-        ensures end { mark.now.shut ≡ true
-            → (self.new.all ≡ mark.now.bytes) × HasTheRest self.new }
-        ensures kept { SameButTold self.old self.new }
+        ensures { Heeds mark.now self.old self.new }
     {
         self.parts.told.heed(mark);
         self.parts.heard.heed(mark);
     }
 
-    /// Checks for bytes that were published: for all there are, once it is known where the pipe
+    /// Loads the tail, and so knows of bytes that were published: of all there are, once it is known where the pipe
     /// ends. It is for an end that knows of none: one that does has something to do, and need not
     /// touch the other's word.
-    pub fn reload(&mut self)
+    pub fn load_tail(&mut self)
         requires { length self.old.known ≡ 0 }
         ensures heard { length self.old.all ≤ length (self.new.taken ++ self.new.known) }
         ensures fresh { self.old.told ≤ length (self.new.taken ++ self.new.known) }
@@ -160,7 +154,7 @@ impl ReadEnd {
         ensures kept { KnowsMore self.old self.new }
     {
         let parts = &mut self.parts;
-        let (tail, published) = parts.seat.look_tail(&parts.heard);
+        let (tail, published) = parts.seat.load_tail(&parts.heard);
         parts.seat.accept(&mut parts.known, &published);
         parts.heard.heed(&published);
         parts.indices.sees(tail as usize);
@@ -176,7 +170,7 @@ impl ReadEnd {
         self.parts.heard.heed(mark);
     }
 
-    /// `reload`, where it knows of no byte.
+    /// `load_tail`, where it knows of no byte.
     pub fn refresh(&mut self)
         ensures fresh { self.old.known ≡ [] →
             self.old.told ≤ length (self.new.taken ++ self.new.known) }
@@ -187,7 +181,7 @@ impl ReadEnd {
         ensures kept { KnowsMore self.old self.new }
     {
         if self.knows_none() {
-            self.reload();
+            self.load_tail();
         }
     }
 
@@ -196,14 +190,7 @@ impl ReadEnd {
     /// reader took for the end is all that was published.
     pub fn meet(&mut self, other: &mut WriteEnd)
         requires { other.old.ring ≡ self.old.ring }
-        ensures fifo { self.new.taken ++ self.new.known ≡ other.new.sent }
-        ensures room { other.new.room + length self.new.known ≡ self.new.capacity }
-        ensures shut { flag self.new.saw ≤ flag other.new.shut }
-        ensures told { flag self.new.told_shut ≤ flag other.new.shut }
-        ensures end { KnowsEnd self.new → self.new.all ≡ other.new.sent }
-        ensures other_shut { other.new.saw ≡ other.new.shut }
-        ensures reader { KnowsMore self.old self.new }
-        ensures writer { HasMoreRoom other.old other.new }
+        ensures { EndsMeet self.old self.new other.old other.new }
     {
         let reader = &mut self.parts;
         let writer = &mut other.parts;
@@ -217,9 +204,9 @@ impl ReadEnd {
         writer.indices.sees(reader.indices.head());
     }
 
-    /// Checks whether the pipe is closed, and keeps what it saw. Where it is, it is known from then
+    /// Loads closed, and keeps what it saw. Where it is, it is known from then
     /// on where the pipe ends.
-    pub fn look_closed(&mut self) -> bool
+    pub fn load_closed(&mut self) -> bool
         ensures saw { result ≡ self.new.saw }
         ensures end { IsTrue result → HasTheRest self.new }
         ensures stays { flag self.old.saw ≤ flag self.new.saw }
@@ -228,11 +215,11 @@ impl ReadEnd {
         ensures kept { SameButSaw self.old self.new }
     {
         let told = self.parts.told.again();
-        self.look_closed_knowing(&told)
+        self.load_closed_knowing(&told)
     }
 
-    /// `look_closed`, with evidence of what the writer did besides: it finds that, too.
-    pub(crate) fn look_closed_knowing(&mut self, more: &WriteMark) -> bool
+    /// `load_closed`, with evidence of what the writer did besides: it finds that, too.
+    pub(crate) fn load_closed_knowing(&mut self, more: &WriteMark) -> bool
         requires { more.now.names ≡ self.old.ring.names }
         ensures more { flag more.now.shut ≤ flag self.new.saw }
         ensures saw { result ≡ self.new.saw }
@@ -250,14 +237,14 @@ impl ReadEnd {
         is_closed
     }
 
-    /// Takes the first `n` known bytes off, which are contiguous, and gives their places back to
-    /// the writer. It wakes nobody.
-    pub fn consume(&mut self, n: usize)
+    /// Takes the first `n` known bytes off, which are contiguous, and stores the head past them:
+    /// their places are the writer's again. It wakes nobody.
+    pub fn store_head(&mut self, n: usize)
         requires { n ≤ in_one_piece self.old }
-        ensures taken { self.new.taken ≡ self.old.taken ++ take n self.old.known }
-        ensures known { self.new.known ≡ drop n self.old.known }
-        ensures kept { SameReadEnd self.old self.new × (self.new.saw ≡ self.old.saw) }
-        ensures all { self.new.all ≡ self.old.all }
+        ensures { self.new ≡ record self.old {
+          taken = self.old.taken ++ take n self.old.known;
+          known = drop n self.old.known;
+        } }
     {
         let parts = &mut self.parts;
         let back = parts.known.split(n);

@@ -1,14 +1,20 @@
 //! What each end has of the two slots, at which a side waits for the other. A side that waits puts
 //! its waker, of any type, into its place, and whoever takes its ticket gets it out. Both share the
 //! place, and the right to it is one side's at each moment, or the slot's.
-ghost use Rattle.std.specs.Prelude.{◌≡◌, true, IsFalse};
+ghost use Rattle.std.specs.Prelude.{◌≡◌, ℕ, Bool, true, not, IsFalse};
+ghost use Rattle.piper_ring.specs.Cells.{AreCellsOf};
+ghost use Rattle.piper_ring.specs.Shared.{Names, waker_place};
+ghost use Rattle.piper_ring.specs.Slots.{PublishesWaker, Stored};
 
+pub(crate) mod looks;
 pub(crate) mod reader;
+pub(crate) mod side;
 pub(crate) mod writer;
 
-use crate::ring::marks::{ReadMark, Saw, WriteMark};
-use crate::ring::slots::{Waits, Wakes};
-use piper_cells::token_cell::Token;
+use crate::ends::cells::WakerCells;
+use crate::ring::slots::{SlotWords, WaiterState, Wakes};
+use piper_cells::lent_space::Placed;
+use piper_cells::token_cell::{Token, TokenCell};
 use std::marker::Model;
 
 /// The other end has the place of this end's waker: the waker was not registered any more, and the
@@ -16,93 +22,82 @@ use std::marker::Model;
 #[derive(Drop)]
 pub struct Away;
 
-/// The parts of what the reader's end has of both slots.
+/// An end at both slots: it waits in its own, and wakes whoever waits in the other's.
+pub trait SlotEnd {
+    ghost use Rattle.piper_ring.specs.SlotViews.{IsTokenOf, SameWaiter, of_waits};
+
+    /// Evidence of what the other end had stored.
+    type Heard: Drop;
+
+    /// Whether it is the end that reads.
+    const READS: bool;
+
+    ghost READS: { Bool };
+
+    ghost names_of: { Self → Names };
+
+    ghost capacity_of: { Self → ℕ };
+
+    ghost stored_of: { Self → Stored };
+
+    ghost tells: { Self.Heard → Names → Stored → Type 0 };
+
+    /// The words of both slots, with evidence of what this end has stored.
+    fn slot_words(&self) -> SlotWords<'_>
+        ensures ring { result.names ≡ names_of self.now }
+        ensures capacity { capacity_of self.now ≡ (names_of self.now).capacity }
+        ensures stored { (result.for_reader ≡ not READS)
+            × (result.stored ≡ stored_of self.now) };
+
+    /// The place of the reader's waker, or of the writer's.
+    fn place<'a, T>(
+        &'a self,
+        cells: &'a Placed<WakerCells<T>>,
+        is_readers: bool,
+    ) -> &'a TokenCell<Option<T>>
+        requires { AreCellsOf (names_of self.now) cells.now }
+        ensures { result.now ≡ waker_place (names_of self.now) is_readers };
+
+    /// Its waker, which lies in its place, is registered in its slot, under the next ticket. With it
+    /// comes evidence of what the other had stored when it last checked the slot.
+    fn register(&self, slot: &mut WaiterState, right: Token) -> Self::Heard
+        requires { (slot.old.names ≡ names_of self.now) × (slot.old.for_reader ≡ READS)
+            × (slot.old.owns ≡ true)
+            × IsTokenOf (waker_place (names_of self.now) READS) true true right }
+        ensures side { SameWaiter slot.old slot.new }
+        ensures heard { tells result (names_of self.now) slot.new.heard }
+        ensures registered { PublishesWaker Stored (of_waits slot.old) slot.new.heard
+            0 (of_waits slot.new) };
+}
+
+/// The parts of what an end has of both slots.
 #[derive(Drop)]
-pub(crate) struct ReadSlotParts {
-    pub(crate) waits: Waits,
-    /// The right to the place of its waker, where it is not in the slot or with the writer: then
+pub(crate) struct SlotParts<H> {
+    pub(crate) waits: WaiterState,
+    /// The right to the place of its waker, where it is not in the slot or with the other end: then
     /// nothing lies there.
     pub(crate) right: Option<Token>,
     /// Whether its waker may be registered in the slot: since it registered, no look found it gone.
     pub(crate) maybe_registered: bool,
-    /// What the writer had stored when it last checked the slot before this end registered.
-    pub(crate) heard: WriteMark,
+    /// What the other end had stored when it last checked the slot before this one registered.
+    pub(crate) heard: H,
     pub(crate) wakes: Wakes,
 }
 
-/// What the reader's end has of both slots: it waits in its own, and wakes whoever waits in the
-/// writer's.
+/// What an end has of both slots: it waits in its own, and wakes whoever waits in the other's.
 #[derive(Drop)]
-pub struct ReadRegistrations {
-    pub(crate) parts: ReadSlotParts,
+pub struct Registrations<E: SlotEnd> {
+    pub(crate) parts: SlotParts<E::Heard>,
 }
 
-impl Model for ReadRegistrations {
-    ghost use Rattle.piper_ring.specs.SlotsView.{ReadSlotsView, read_slots_view, read_slots_code, IsReadSlots};
+impl<E: SlotEnd> Model for Registrations<E> {
+    ghost use Rattle.piper_ring.specs.SlotsView.{SlotsView, slots_view, slots_code, IsSlots};
 
-    ghost Value = { ReadSlotsView };
+    ghost Value = { SlotsView };
 
-    ghost coded = { read_slots_code };
+    ghost coded = { slots_code };
 
-    ghost view = { λ s. read_slots_view s.parts };
+    ghost view = { λ s. slots_view s.parts };
 
-    ghost invariant = { λ s. IsReadSlots s.parts };
-}
-
-/// The parts of what the writer's end has of both slots.
-#[derive(Drop)]
-pub(crate) struct WriteSlotParts {
-    pub(crate) waits: Waits,
-    /// The right to the place of its waker, where it is not in the slot or with the reader: then
-    /// nothing lies there.
-    pub(crate) right: Option<Token>,
-    /// Whether its waker may be registered in the slot: since it registered, no look found it gone.
-    pub(crate) maybe_registered: bool,
-    /// What the reader had stored when it last checked the slot before this end registered.
-    pub(crate) heard: ReadMark,
-    pub(crate) saw: Saw,
-    pub(crate) wakes: Wakes,
-}
-
-/// What the writer's end has of both slots: it waits in its own, and wakes whoever waits in the
-/// reader's.
-#[derive(Drop)]
-pub struct WriteRegistrations {
-    pub(crate) parts: WriteSlotParts,
-}
-
-impl Model for WriteRegistrations {
-    ghost use Rattle.piper_ring.specs.SlotsView.{WriteSlotsView, write_slots_view, write_slots_code, IsWriteSlots};
-
-    ghost Value = { WriteSlotsView };
-
-    ghost coded = { write_slots_code };
-
-    ghost view = { λ s. write_slots_view s.parts };
-
-    ghost invariant = { λ s. IsWriteSlots s.parts };
-}
-
-impl ReadRegistrations {
-    /// Whether the reader's waker may be registered in its slot, as far as is known without a look
-    /// there: `is_registered` looks.
-    #[inline(always)]
-    pub fn maybe_registered(&self) -> bool
-        ensures known { result ≡ self.now.maybe_registered }
-        ensures owned { self.now.owns ≡ true → IsFalse result }
-    {
-        self.parts.maybe_registered
-    }
-}
-
-impl WriteRegistrations {
-    /// Whether the writer's waker may be registered in its slot, as far as is known without a look
-    /// there: `is_registered` looks.
-    #[inline(always)]
-    pub fn maybe_registered(&self) -> bool
-        ensures known { result ≡ self.now.maybe_registered }
-        ensures owned { self.now.owns ≡ true → IsFalse result }
-    {
-        self.parts.maybe_registered
-    }
+    ghost invariant = { λ s. IsSlots E.READS E.tells s.parts };
 }

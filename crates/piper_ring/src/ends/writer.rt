@@ -44,7 +44,7 @@ impl Model for WriteEnd {
 
 impl WriteEnd {
     ghost use Rattle.piper_ring.specs.Loads.{FoundClosed};
-    ghost use Rattle.piper_ring.specs.WriteView.{HasLoadedHead, SameWriteEnd, HasMoreRoom, SameButTold, SameButSaw, SameButHeard, MayBeUnread, Lendable};
+    ghost use Rattle.piper_ring.specs.WriteView.{HasLoadedHead, HasMoreRoom, SameButSaw, MayBeUnread, Lendable};
     ghost use Rattle.piper_ring.specs.LendsBuffer.{lends_buffer};
     ghost use Rattle.std.specs.Borrow.{sem};
     ghost use Rattle.piper_ring.specs.Shared.{flag, ring_of};
@@ -76,7 +76,7 @@ impl WriteEnd {
     pub fn len(&self) -> usize
         ensures { MayBeUnread self.now result }
     {
-        let (head, _) = self.parts.seat.look_head(&self.parts.told);
+        let (head, _) = self.parts.seat.load_head(&self.parts.told);
         self.parts.indices.unread_from(head as usize)
     }
 
@@ -114,12 +114,11 @@ impl WriteEnd {
         self.parts.seat.mark()
     }
 
-    /// From now on it knows what the mark reports: a reload finds at least the room that was given
+    /// From now on it knows what the mark reports: a load of the head finds at least the room that was given
     /// back before it.
     pub fn heed(&mut self, mark: &ReadMark)
         requires { mark.now.names ≡ self.old.ring.names }
-        ensures told { self.new.told ≡ max self.old.told mark.now.count }
-        ensures kept { SameButTold self.old self.new }
+        ensures { self.new ≡ record self.old { told = max self.old.told mark.now.count } }
     {
         self.parts.told.heed(mark);
     }
@@ -128,28 +127,27 @@ impl WriteEnd {
     /// knows of all that was consumed.
     pub fn heed_last(&mut self, mark: &LastReadMark)
         requires { mark.now.consumed.names ≡ self.old.ring.names }
-        ensures saw { self.new.saw ≡ true }
-        ensures told { self.new.told ≡ max self.old.told mark.now.consumed.count }
-        ensures kept { SameButHeard self.old self.new }
+        ensures { self.new ≡ record self.old
+            { told = max self.old.told mark.now.consumed.count; saw = true } }
     {
         self.parts.told.heed(&mark.consumed);
         self.parts.saw = mark.closed.again();
     }
 
-    /// Checks for room that was given back. It is for an end that knows of none, as the reader's
-    /// `reload`.
-    pub fn reload(&mut self)
+    /// Loads the head, and so knows of room that was given back. It is for an end that knows of none,
+    /// as the reader's `load_tail`.
+    pub fn load_head(&mut self)
         requires { self.old.room ≡ 0 }
         ensures fresh { self.old.told + self.old.capacity ≤ length self.new.sent + self.new.room }
         ensures found { HasLoadedHead self.new }
         ensures kept { HasMoreRoom self.old self.new }
     {
         let told = self.parts.told.again();
-        self.reload_knowing(&told);
+        self.load_head_knowing(&told);
     }
 
-    /// `reload`, with evidence of what was consumed besides: it finds that room, too.
-    pub(crate) fn reload_knowing(&mut self, more: &ReadMark)
+    /// `load_head`, with evidence of what was consumed besides: it finds that room, too.
+    pub(crate) fn load_head_knowing(&mut self, more: &ReadMark)
         requires none { self.old.room ≡ 0 }
         requires ring { more.now.names ≡ self.old.ring.names }
         ensures more { more.now.count + self.old.capacity ≤ length self.new.sent + self.new.room }
@@ -160,14 +158,14 @@ impl WriteEnd {
         let parts = &mut self.parts;
         let mut told = parts.told.again();
         told.heed(more);
-        let (head, consumed) = parts.seat.look_head(&told);
+        let (head, consumed) = parts.seat.load_head(&told);
         parts.seat.accept(&mut parts.room.later, &consumed);
         parts.indices.sees(head as usize);
     }
 
-    /// Checks whether the pipe is closed, and keeps what it saw. What this end closed it finds
+    /// Loads closed, and keeps what it saw. What this end closed it finds
     /// closed.
-    pub fn look_closed(&mut self) -> bool
+    pub fn load_closed(&mut self) -> bool
         ensures saw { result ≡ self.new.saw }
         ensures shut { self.new.shut ≡ true → self.new.saw ≡ true }
         ensures stays { flag self.old.saw ≤ flag self.new.saw }
@@ -178,14 +176,15 @@ impl WriteEnd {
         parts.seat.load_closed(&mut parts.saw) != 0
     }
 
-    /// `look_closed`, by an end that has not seen the pipe closed, with evidence of what the reader
+    /// `load_closed`, by an end that has not seen the pipe closed, with evidence of what the reader
     /// did: it finds that.
-    pub(crate) fn look_closed_knowing(&mut self, more: &Saw) -> bool
+    pub(crate) fn load_closed_knowing(&mut self, more: &Saw) -> bool
         requires ring { more.now.names ≡ self.old.ring.names }
         requires open { self.old.saw ≡ false }
         ensures more { flag more.now.seen ≤ flag self.new.saw }
         ensures saw { result ≡ self.new.saw }
         ensures shut { self.new.shut ≡ false }
+        ensures found { FoundClosed self.old.ring.names result }
         ensures kept { SameButSaw self.old self.new }
     {
         let parts = &mut self.parts;
@@ -195,15 +194,16 @@ impl WriteEnd {
         is_closed
     }
 
-    /// Publishes the first `n` bytes of what is left of the slice last lent, as they are. It wakes
-    /// nobody.
-    pub fn produce(&mut self, n: usize)
+    /// Publishes the first `n` bytes of what is left of the slice last lent, as they are: stores the
+    /// tail past them. It wakes nobody.
+    pub fn store_tail(&mut self, n: usize)
         requires { n ≤ length self.old.lent }
-        ensures sent { self.new.sent ≡ self.old.sent ++ take n self.old.lent }
-        ensures lent { self.new.lent ≡ drop n self.old.lent }
-        ensures room { self.new.room + n ≡ self.old.room }
-        ensures kept { SameWriteEnd self.old self.new }
-        ensures closed { (self.new.shut ≡ self.old.shut) × (self.new.saw ≡ self.old.saw) }
+        ensures room { n ≤ self.old.room }
+        ensures end { self.new ≡ record self.old {
+          sent = self.old.sent ++ take n self.old.lent;
+          lent = drop n self.old.lent;
+          room = self.old.room - n;
+        } }
     {
         let parts = &mut self.parts;
         let gift = parts.room.lent.split(n);
@@ -211,7 +211,7 @@ impl WriteEnd {
         parts.seat.store_tail(gift, parts.indices.tail() as u64);
     }
 
-    /// `reload`, where it knows of no room.
+    /// `load_head`, where it knows of no room.
     pub fn refresh(&mut self)
         ensures fresh { self.old.room ≡ 0 →
             self.old.told + self.old.capacity ≤ length self.new.sent + self.new.room }
@@ -220,7 +220,7 @@ impl WriteEnd {
         ensures kept { HasMoreRoom self.old self.new }
     {
         if self.knows_none() {
-            self.reload();
+            self.load_head();
         }
     }
 
@@ -269,23 +269,15 @@ impl WriteEnd {
     /// Takes back what is lent.
     #[inline(always)]
     pub fn unlend(&mut self)
-        ensures lent { self.new.lent ≡ [] }
-        ensures sent { self.new.sent ≡ self.old.sent }
-        ensures room { self.new.room ≡ self.old.room }
-        ensures closed { (self.new.shut ≡ self.old.shut) × (self.new.saw ≡ self.old.saw) }
-        ensures kept { SameWriteEnd self.old self.new }
+        ensures { self.new ≡ record self.old { lent = [] } }
     {
         self.parts.room.unlend();
         self.parts.indices.unlend();
     }
 
-    /// Closes the pipe for good. Nothing is lent then. It wakes nobody.
-    pub fn shut(&mut self)
-        ensures shut { (self.new.shut ≡ true) × (self.new.saw ≡ true) }
-        ensures lent { self.new.lent ≡ [] }
-        ensures sent { self.new.sent ≡ self.old.sent }
-        ensures room { self.new.room ≡ self.old.room }
-        ensures kept { SameWriteEnd self.old self.new }
+    /// Closes the pipe for good: stores closed. Nothing is lent then. It wakes nobody.
+    pub fn store_closed(&mut self)
+        ensures { self.new ≡ record self.old { shut = true; saw = true; lent = [] } }
     {
         let parts = &mut self.parts;
         parts.room.unlend();

@@ -113,7 +113,7 @@ impl Drop for LastReadMark {
 }
 
 /// Where `seen` is `true`, the ring was seen closed.
-pub(crate) struct Saw {
+pub struct Saw {
     pub(crate) mark: PhantomData<*mut u8>,
     pub(crate) ghost names: { Names } by { names_code },
     pub(crate) ghost seen: { Bool },

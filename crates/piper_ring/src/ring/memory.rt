@@ -4,6 +4,7 @@ ghost use Rattle.std.specs.Prelude.{◌≡◌, ℕ, ◌*◌, ◌<◌, ◌^◌, I
 ghost use Rattle.piper_protocol.specs.Reported.{HasFailed};
 ghost use Rattle.piper_ring.specs.Block.{IsClaim, size_of_block, space_of, space_words, unused};
 ghost use Rattle.piper_ring.specs.Parts.{framed, parted};
+ghost use Rattle.piper_ring.specs.Shared.{flag_word};
 
 use piper_cells::lent_space::Space;
 use piper_protocol::memory::OutOfMemory;
@@ -35,6 +36,14 @@ pub(crate) const READER_FLAG: usize = 18;
 pub(crate) const READER_BACK: usize = 19;
 
 pub(crate) const TAIL_WORD: usize = 26;
+
+/// Which word is the flag of a side's slot. The next one hands the place back.
+#[inline(always)]
+pub(crate) fn flag_of(is_reader: bool) -> usize
+    ensures { result ≡ flag_word is_reader }
+{
+    if is_reader { READER_FLAG } else { WRITER_FLAG }
+}
 
 /// How many bytes the words of a ring take. Its bytes lie after them, in the same block. It is a
 /// multiple of 32: then the bytes are aligned as blocks of the heap are, between which they are

@@ -15,7 +15,7 @@ use crate::ring::memory::{
 };
 use crate::ring::places::{Base, Blank, Places};
 use crate::ring::remains::Remains;
-use crate::ring::slots::{Waits, Wakes};
+use crate::ring::slots::{WaiterState, Wakes};
 use piper_cells::lent_space::{Lease, Lender};
 use piper_cells::token_cell::Token;
 use std::marker::{Brand, Model, PhantomData, Send, Sync};
@@ -72,7 +72,15 @@ pub(crate) fn open(
     lender: Lender,
     reader_token: &Token,
     writer_token: &Token,
-) -> (ReadSeat, WriteSeat, Blank, Waits, Wakes, Waits, Wakes)
+) -> (
+    ReadSeat,
+    WriteSeat,
+    Blank,
+    WaiterState,
+    Wakes,
+    WaiterState,
+    Wakes,
+)
     requires { (lender.start ≡ space_of parts.start) × (lender.words ≡ space_words) }
     ensures ring { (result.0.words ≡ parts.start)
         × (result.0.names.capacity ≡ parts.capacity) × (result.0.names.life ≡ lender.life) }
@@ -107,9 +115,9 @@ pub(crate) fn open(
     let reader = ReadSeat { words: start };
     let writer = WriteSeat { words: start };
     let room = Blank { mark: PhantomData };
-    let reader_waits = Waits { mark: PhantomData };
+    let reader_waits = WaiterState { mark: PhantomData };
     let writer_wakes = Wakes { mark: PhantomData };
-    let writer_waits = Waits { mark: PhantomData };
+    let writer_waits = WaiterState { mark: PhantomData };
     let reader_wakes = Wakes { mark: PhantomData };
     (
         reader,
@@ -153,7 +161,7 @@ impl ReadSeat {
 
     /// Where the tail is: no less than the reader has seen or was told of, and right at the end
     /// where it was told of that. With it comes evidence of the bytes that were published.
-    pub(crate) fn look_tail(&self, told: &WriteMark) -> (u64, WriteMark)
+    pub(crate) fn load_tail(&self, told: &WriteMark) -> (u64, WriteMark)
         requires { told.now.names ≡ self.now.names }
         ensures ring { result.1.names ≡ self.now.names }
         ensures tail { result.0 ≡ position_of self.now.names.capacity (length result.1.bytes) }
@@ -294,7 +302,7 @@ impl WriteSeat {
 
     /// Where the head is: no less than the writer was told of, and no room that it knows of is
     /// taken away. With it comes evidence of how many bytes were consumed.
-    pub(crate) fn look_head(&self, told: &ReadMark) -> (u64, ReadMark)
+    pub(crate) fn load_head(&self, told: &ReadMark) -> (u64, ReadMark)
         requires { told.now.names ≡ self.now.names }
         ensures ring { result.1.names ≡ self.now.names }
         ensures head { result.0 ≡ position_of self.now.names.capacity result.1.count }

@@ -17,7 +17,7 @@ use std::sync::atomic::raw;
 /// A side, at the slot in which it waits: the reader at its own where `for_reader` is `true`, else
 /// the writer at its own. `owns` is whether it has the place of the waker, `tickets` how often it
 /// registered, and `heard` what the other side had stored when it checked last before that.
-pub(crate) struct Waits {
+pub struct WaiterState {
     pub(crate) mark: PhantomData<*mut u8>,
     pub(crate) ghost names: { Names } by { names_code },
     pub(crate) ghost for_reader: { Bool },
@@ -26,17 +26,17 @@ pub(crate) struct Waits {
     pub(crate) ghost heard: { Stored } by { stored_code },
 }
 
-impl Model for Waits {
+impl Model for WaiterState {
     ghost also_owns = { λ s. waits_in s.names s.for_reader s.owns s.tickets s.heard };
 
     ghost also_shares = { λ _ _ _. ftrue };
 }
 
-unsafe impl Send for Waits {}
+unsafe impl Send for WaiterState {}
 
-unsafe impl Sync for Waits {}
+unsafe impl Sync for WaiterState {}
 
-impl Drop for Waits {
+impl Drop for WaiterState {
     fn drop(self) {
         let Self { mark: _ } = self;
     }
@@ -72,7 +72,7 @@ impl Drop for Wakes {
 
 /// The words of both slots, which an end lends: so the ring is open. `stored` is what that end has
 /// stored, the writer for the reader where `for_reader` is `true`, else the reader for the writer.
-pub(crate) struct SlotWords<'a> {
+pub struct SlotWords<'a> {
     words: *mut u64,
     mark: PhantomData<&'a u8>,
     ghost at: { Ptr },
@@ -94,7 +94,7 @@ impl<'a> SlotWords<'a> {
     ghost use Rattle.piper_ring.specs.SlotViews.{IsTokenOf, SameWaiter, SameWaker, of_waits, of_wakes};
 
     /// 1 where this side's waker is registered in its slot, else 0.
-    pub(crate) fn is_registered(self, slot: &mut Waits, flag: usize) -> u64
+    pub(crate) fn is_registered(self, slot: &mut WaiterState, flag: usize) -> u64
         requires { (slot.old.names ≡ self.names) × (flag ≡ flag_word slot.old.for_reader) }
         ensures kept { slot.new ≡ slot.old }
         ensures bit { result ≤ 1 }
@@ -107,7 +107,7 @@ impl<'a> SlotWords<'a> {
 
     /// 1 where this side's waker was registered in its slot and is this side's again, with the
     /// right to its place, else 0.
-    pub(crate) fn cancel(self, slot: &mut Waits, flag: usize) -> (u64, Token)
+    pub(crate) fn cancel(self, slot: &mut WaiterState, flag: usize) -> (u64, Token)
         requires { (slot.old.names ≡ self.names) × (slot.old.owns ≡ false)
             × (flag ≡ flag_word slot.old.for_reader) }
         ensures side { SameWaiter slot.old slot.new }
@@ -125,7 +125,7 @@ impl<'a> SlotWords<'a> {
 
     /// 1 where the other side had handed the place of this side's waker back, with nothing in it,
     /// else 0.
-    pub(crate) fn reclaim(self, slot: &mut Waits, back: usize) -> (u64, Token)
+    pub(crate) fn reclaim(self, slot: &mut WaiterState, back: usize) -> (u64, Token)
         requires { (slot.old.names ≡ self.names) × (slot.old.owns ≡ false)
             × (back ≡ flag_word slot.old.for_reader + 1) }
         ensures side { SameWaiter slot.old slot.new }
@@ -143,7 +143,7 @@ impl<'a> SlotWords<'a> {
 
     /// 1 where a waker is registered in the other side's slot, else 0: then this check came after
     /// all that this side had stored.
-    pub(crate) fn look_flag(self, slot: &mut Wakes, flag: usize) -> u64
+    pub(crate) fn load_flag(self, slot: &mut Wakes, flag: usize) -> u64
         requires { (slot.old.names ≡ self.names) × (slot.old.for_reader ≡ self.for_reader)
             × (slot.old.holds ≡ false) × (flag ≡ flag_word slot.old.for_reader) }
         ensures side { SameWaker slot.old slot.new }
@@ -191,7 +191,7 @@ impl<'a> SlotWords<'a> {
 
     /// Both sides of a slot held by one thread: a side that has registered, and since which the
     /// other checked after something new, was taken. It is no step of the program.
-    pub(crate) fn meet_slot(self, waits: &mut Waits, wakes: &mut Wakes)
+    pub(crate) fn meet_slot(self, waits: &mut WaiterState, wakes: &mut Wakes)
         requires { (waits.old.names ≡ self.names) × (wakes.old.names ≡ self.names)
             × (wakes.old.for_reader ≡ waits.old.for_reader) }
         ensures remembered { IsRemembered Stored (of_waits waits.old) (of_wakes wakes.old) }
@@ -221,7 +221,7 @@ impl WriteSeat {
 
     /// The writer's waker, which lies in its place, is registered in its slot, under the next
     /// ticket. With it comes evidence of what the reader had stored when it last checked the slot.
-    pub(crate) fn publish_waker(&self, slot: &mut Waits, right: Token) -> (ReadMark, Saw)
+    pub(crate) fn publish_waker(&self, slot: &mut WaiterState, right: Token) -> (ReadMark, Saw)
         requires { (slot.old.names ≡ self.now.names) × (slot.old.for_reader ≡ false)
             × (slot.old.owns ≡ true) × IsTokenOf self.now.names.writer_place true true right }
         ensures side { SameWaiter slot.old slot.new }
@@ -261,7 +261,7 @@ impl ReadSeat {
 
     /// The reader's waker, which lies in its place, is registered in its slot, under the next
     /// ticket. With it comes evidence of what the writer had stored when it last checked the slot.
-    pub(crate) fn publish_waker(&self, slot: &mut Waits, right: Token) -> WriteMark
+    pub(crate) fn publish_waker(&self, slot: &mut WaiterState, right: Token) -> WriteMark
         requires { (slot.old.names ≡ self.now.names) × (slot.old.for_reader ≡ true)
             × (slot.old.owns ≡ true) × IsTokenOf self.now.names.reader_place true true right }
         ensures side { SameWaiter slot.old slot.new }

@@ -1,17 +1,21 @@
 -- The bytes of the rounds so far were given to the destination.
 use Rattle.std.proofs.Common.{◌≡◌, length}
-use Rattle.piper_protocol.specs.Steps.{moved_by}
+use Rattle.piper_protocol.specs.Table.{goes_on}
+use Rattle.piper_protocol.specs.declared.table.Point.TheVariants.{Reader}
+use Rattle.piper_protocol.specs.declared.table.ReadPoint.TheVariants.{CallDestination}
+use Rattle.piper_ring.specs.Log.{Comes}
 use Rattle.piper.specs.Handles.{NotifiesWriter, SameReaderButWoke}
 use Rattle.piper.proofs.RoundsOut.{Drained}
 use Rattle.piper.proofs.handles.Reader.drain_rounds.Given as goal
 
 abbrev pub invariant-rounds : goal.invariant-rounds
 invariant-rounds g l = record {
-  drained : Drained g.W.WriteLike.takes l.initial.self.side.end l.self.side.end l.initial.dest l.dest (moved_by l.call);
+  ran : Comes (goes_on (Reader (CallDestination l.fn.form l.moved))) l.fn.self.side.log l.self.side.log;
+  drained : Drained g.W.WriteLike.takes l.fn.self.side.end l.self.side.end l.initial.dest l.dest l.moved;
   failures : g.W.WriteLike.failures l.dest ≡ g.W.WriteLike.failures l.initial.dest;
-  all : l.self.side.end.all ≡ l.initial.self.side.end.all;
-  rest : SameReaderButWoke l.initial.self l.self;
-  woke : NotifiesWriter l.initial.self → NotifiesWriter l.self;
+  all : l.self.side.end.all ≡ l.fn.self.side.end.all;
+  rest : SameReaderButWoke l.fn.self l.self;
+  woke : NotifiesWriter l.fn.self → NotifiesWriter l.self;
 }
 
 abbrev pub decreases-rounds : goal.decreases-rounds

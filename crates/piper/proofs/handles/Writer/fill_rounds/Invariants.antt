@@ -1,18 +1,22 @@
 -- The bytes of the rounds so far were published.
 use Rattle.std.proofs.Common.{◌≡◌, ◌+◌, false}
-use Rattle.piper_protocol.specs.Steps.{moved_by}
+use Rattle.piper_protocol.specs.Table.{goes_on}
+use Rattle.piper_protocol.specs.declared.table.Point.TheVariants.{Writer}
+use Rattle.piper_protocol.specs.declared.table.WritePoint.TheVariants.{CallSource}
+use Rattle.piper_ring.specs.Log.{Comes}
 use Rattle.piper.specs.Handles.{NotifiesReader, SameWriterButWoke}
 use Rattle.piper.proofs.RoundsIn.{Filled}
 use Rattle.piper.proofs.handles.Writer.fill_rounds.Given as goal
 
 abbrev pub invariant-rounds : goal.invariant-rounds
 invariant-rounds g l = record {
-  filled : Filled g.R.ReadLike.gives l.initial.self.side.end l.self.side.end l.initial.source l.source (moved_by l.call);
-  total : moved_by l.call + l.self.side.end.room ≡ l.initial.self.side.end.room;
+  ran : Comes (goes_on (Writer (CallSource l.fn.form l.moved))) l.fn.self.side.log l.self.side.log;
+  filled : Filled g.R.ReadLike.gives l.fn.self.side.end l.self.side.end l.initial.source l.source l.moved;
+  total : l.moved + l.self.side.end.room ≡ l.fn.self.side.end.room;
   open_yet : l.self.side.end.saw ≡ false;
   failures : g.R.ReadLike.failures l.source ≡ g.R.ReadLike.failures l.initial.source;
-  rest : SameWriterButWoke l.initial.self l.self;
-  woke : NotifiesReader l.initial.self → NotifiesReader l.self;
+  rest : SameWriterButWoke l.fn.self l.self;
+  woke : NotifiesReader l.fn.self → NotifiesReader l.self;
 }
 
 abbrev pub decreases-rounds : goal.decreases-rounds

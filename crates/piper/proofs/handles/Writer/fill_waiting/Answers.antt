@@ -5,33 +5,18 @@ use Rattle.piper.specs.declared.error.Inner.TheVariants.{Memory}
 use Rattle.piper.proofs.LookingIn.{fills_none}
 use Rattle.piper.proofs.handles.Writer.fill_waiting.Goals as goal
 
-pub returns-in-Err-Closed-clause-filled : goal.returns-in-Err-Closed-clause-filled
-returns-in-Err-Closed-clause-filled g c =
-    fills_none _ _ _ (Ready (Ok 0)) _ _ _ c.look_for_copy.ensures.looked (g.met.R.ReadLike.gives_nothing _, refl) (inr (search rules))
+pub returns-in-Ok-Closed-clause-filled : goal.returns-in-Ok-Closed-clause-filled
+returns-in-Ok-Closed-clause-filled g c =
+    fills_none _ _ _ (Ready (Ok 0)) _ _ _ c.look.ensures.looked (g.met.R.ReadLike.gives_nothing _, refl) (inr (rw c.in-Ok-Closed.field-0-is at c.in-Ok-Closed.ensures.answer))
 
-pub returns-in-Err-Pending-clause-filled : goal.returns-in-Err-Pending-clause-filled
-returns-in-Err-Pending-clause-filled g c =
-    fills_none _ _ _ Pending _ _ _ c.look_for_copy.ensures.looked (refl, refl) tt
+pub returns-in-Ok-NotReady-clause-filled : goal.returns-in-Ok-NotReady-clause-filled
+returns-in-Ok-NotReady-clause-filled g c =
+    fills_none _ _ _ Pending _ _ _ c.look.ensures.looked (refl, refl) tt
 
-pub returns-in-Err-Refused-clause-filled : goal.returns-in-Err-Refused-clause-filled
-returns-in-Err-Refused-clause-filled g c =
-    fills_none _ _ _ (Ready (Err Memory)) _ _ _ c.look_for_copy.ensures.looked (refl, refl) tt
+pub returns-in-Err-clause-filled : goal.returns-in-Err-clause-filled
+returns-in-Err-clause-filled g c =
+    fills_none _ _ _ (Ready (Err Memory)) _ _ _ c.look.ensures.looked (refl, refl) tt
 
-pub returns-then-take_own_and_draw-clause-filled : goal.returns-then-take_own_and_draw-clause-filled
-returns-then-take_own_and_draw-clause-filled g c =
-    rw c.take_own_and_draw.ensures.end (fills_none _ _ _ Pending _ _ _ c.look_for_copy.ensures.looked (refl, refl) tt)
-
-pub returns-in-Err-Closed-clause-failures : goal.returns-in-Err-Closed-clause-failures
-returns-in-Err-Closed-clause-failures g c = refl
-
-pub returns-in-Err-Pending-clause-failures : goal.returns-in-Err-Pending-clause-failures
-returns-in-Err-Pending-clause-failures g c = refl
-
-pub returns-in-Err-Refused-clause-failures : goal.returns-in-Err-Refused-clause-failures
-returns-in-Err-Refused-clause-failures g c = refl
-
-pub returns-then-take_own_and_draw-clause-failures : goal.returns-then-take_own_and_draw-clause-failures
-returns-then-take_own_and_draw-clause-failures g c = refl
-
-pub returns-clause-failures : goal.returns-clause-failures
-returns-clause-failures g c = c.fill_rounds.ensures.failures
+pub returns-then-draw_and_take_own-clause-filled : goal.returns-then-draw_and_take_own-clause-filled
+returns-then-draw_and_take_own-clause-filled g c =
+    rw (c.note.ensures.rest.0, c.draw_and_take_own.ensures.end) (fills_none _ _ _ Pending _ _ _ c.look.ensures.looked (refl, refl) tt)

@@ -7,19 +7,19 @@ use Rattle.piper.proofs.handles.Writer.poll_fill.Goals as goal
 pub returns-in-Ready-Ok-clause-filled : goal.returns-in-Ready-Ok-clause-filled
 returns-in-Ready-Ok-clause-filled g c =
     filled_held (λ (s : StdRead g.row.R.Denot). s.object.now) _ _ _ _ _ g.R.StdReader.fails (λ a xs b passed. passed.1) (λ a dry. dry) (λ a e b failed. failed.1)
-    _ _ (search rules) c.new-source.result c.fill_inner.new.source _ _ c.new-source.ensures.object (search rules) _ _ c.fill_inner.ensures.filled
+    _ _ (search rules) c.new-source.result c.poll_fill_with.new.source _ _ c.new-source.ensures.object (search rules) _ _ c.poll_fill_with.ensures.filled
 
 pub returns-in-Ready-Err-Memory-clause-filled : goal.returns-in-Ready-Err-Memory-clause-filled
 returns-in-Ready-Err-Memory-clause-filled g c =
     filled_held (λ (s : StdRead g.row.R.Denot). s.object.now) _ _ _ _ _ g.R.StdReader.fails (λ a xs b passed. passed.1) (λ a dry. dry) (λ a e b failed. failed.1)
-    _ _ (search rules) c.new-source.result c.fill_inner.new.source _ _ c.new-source.ensures.object (search rules) _ _ c.fill_inner.ensures.filled
+    _ _ (search rules) c.new-source.result c.poll_fill_with.new.source _ _ c.new-source.ensures.object (search rules) _ _ c.poll_fill_with.ensures.filled
 
 pub returns-in-Ready-Err-Like-clause-filled : goal.returns-in-Ready-Err-Like-clause-filled
 returns-in-Ready-Err-Like-clause-filled g c =
     filled_held (λ (s : StdRead g.row.R.Denot). s.object.now) _ _ _ _ _ g.R.StdReader.fails (λ a xs b passed. passed.1) (λ a dry. dry) (λ a e b failed. failed.1)
-    _ _ (search rules) c.new-source.result c.fill_inner.new.source _ _ c.new-source.ensures.object (search rules) _ _ c.fill_inner.ensures.filled
+    _ _ (search rules) c.new-source.result c.poll_fill_with.new.source _ _ c.new-source.ensures.object (search rules) _ _ c.poll_fill_with.ensures.filled
 
 pub returns-in-Pending-clause-filled : goal.returns-in-Pending-clause-filled
 returns-in-Pending-clause-filled g c =
     filled_held (λ (s : StdRead g.row.R.Denot). s.object.now) _ _ _ _ _ g.R.StdReader.fails (λ a xs b passed. passed.1) (λ a dry. dry) (λ a e b failed. failed.1)
-    _ _ (search rules) c.new-source.result c.fill_inner.new.source _ _ c.new-source.ensures.object (search rules) _ _ c.fill_inner.ensures.filled
+    _ _ (search rules) c.new-source.result c.poll_fill_with.new.source _ _ c.new-source.ensures.object (search rules) _ _ c.poll_fill_with.ensures.filled

@@ -7,8 +7,8 @@ pub returns-in-Ready-Ok-clause-filled : goal.returns-in-Ready-Ok-clause-filled
 returns-in-Ready-Ok-clause-filled c =
     let filled = rw c.in-Ready-Ok.field-0-is at c.in-Ready-Ok.ensures.filled in
     let given = sym c.new-source.ensures ∙ filled.copied.0 in (
-      filled_is c.args.bytes.now filled.published filled.lost _ c.args.self.now c.fill_inner.new.self _ given filled.copied.1 filled.sent filled.all filled.last filled.room filled.fresh filled.most,
-      none_is c.args.bytes.now filled.published filled.lost _ c.args.self.now c.fill_inner.new.self _ given filled.copied.1 filled.sent filled.all filled.last filled.most,
+      filled_is c.args.bytes.now filled.published filled.lost _ c.args.self.now c.poll_fill_with.new.self _ given filled.copied.1 filled.sent filled.all filled.last filled.room filled.fresh filled.most,
+      none_is c.args.bytes.now filled.published filled.lost _ c.args.self.now c.poll_fill_with.new.self _ given filled.copied.1 filled.sent filled.all filled.last filled.most,
     )
 
 pub returns-in-Pending-clause-filled : goal.returns-in-Pending-clause-filled

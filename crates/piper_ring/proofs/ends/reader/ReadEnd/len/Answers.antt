@@ -8,12 +8,12 @@ use Rattle.piper_ring.proofs.ReaderFacts.{heard_end}
 use Rattle.piper_ring.proofs.ends.reader.ReadEnd.len.Goals as goal
 
 pub unread_to-requires : goal.unread_to-requires
-unread_to-requires c = let e = c.self.inside.parts in let i = c.self.invariant in let t : ℕ = length c.look_tail-tail.result.1.bytes in
-    position_inside e.indices.capacity c.look_tail-tail.result.0 t (c.look_tail-tail.ensures.tail ∙ ap (λ (n : ℕ). position_of n t) (sym i.fits.0)) i.fits.1
+unread_to-requires c = let e = c.self.inside.parts in let i = c.self.invariant in let t : ℕ = length c.load_tail-tail.result.1.bytes in
+    position_inside e.indices.capacity c.load_tail-tail.result.0 t (c.load_tail-tail.ensures.tail ∙ ap (λ (n : ℕ). position_of n t) (sym i.fits.0)) i.fits.1
 
 pub returns : goal.returns
 returns c = let e = c.self.inside.parts in let i = c.self.invariant in let k : ℕ = length e.known.bytes in let sum : e.seat.seen ≡ e.seat.head + k = i.counts.0 in let cap : e.indices.capacity ≡ e.seat.names.capacity = i.fits.0 in
-    let saw = c.look_tail-tail.ensures in let t : ℕ = length c.look_tail-tail.result.1.bytes in let least : e.seat.seen ≤ t = saw.seen in let most : t ≤ e.seat.head + e.seat.names.capacity = saw.within in let heard : length e.heard.bytes ≤ t = saw.told in let told = prefix_length e.told.bytes e.heard.bytes i.stream.1.0 in
+    let saw = c.load_tail-tail.ensures in let t : ℕ = length c.load_tail-tail.result.1.bytes in let least : e.seat.seen ≤ t = saw.seen in let most : t ≤ e.seat.head + e.seat.names.capacity = saw.within in let heard : length e.heard.bytes ≤ t = saw.told in let told = prefix_length e.told.bytes e.heard.bytes i.stream.1.0 in
     let far : c.unread_to.result ≡ t - e.seat.head = c.unread_to.ensures.value ∙ apart _ _ _ e.seat.head t (omega arith) (omega arith) i.cached.0 (saw.tail ∙ ap (λ (n : ℕ). position_of n t) (sym cap)) in
     let taken : length (take e.seat.head e.seat.have) ≡ e.seat.head = length-take-le e.seat.head e.seat.have i.whole.0 in
     subst (λ (r : ReadView). MayBeUnread r c.unread_to.result) c.self.view_is (record { found = subst (FoundPublished _) (omega arith) saw.found; known = omega arith; told = omega arith; fits = omega arith; end = λ known. let all : t ≡ length e.heard.bytes = ap length (saw.end (heard_end e i known)) in omega arith })

@@ -2,6 +2,7 @@
 -- is left.
 -- Both ends keep their views as the one comes to know of all bytes, and the other of all room.
 use Rattle.piper_ring.proofs.Kit.{◌≡◌, ℕ, ◌+◌, ◌-◌, ◌^◌, ◌<◌, ◌≤◌, ◌++◌, List, length, take, arith, refl, sym, subst, ap, ◌∙◌, length-append, IsPrefix, position_of, ReaderIndices, WriterIndices, Names, ring_of, Stream, reaches_trans, ReadView, WriteView}
+use Rattle.std.proofs.lemmas.Grind.{common_steps}
 use Rattle.piper_protocol.specs.Index.{distance}
 use Rattle.piper_ring.specs.Shared.{Ring}
 use Rattle.piper_ring.specs.ReadView.{read_view, KnowsMore}
@@ -87,13 +88,22 @@ invariant_of-other c = let e = c.self.inside.parts in let i = c.self.invariant i
       lends_none = λ shut. o.lends_none (sym (λ j. (s j).shut) ∙ shut);
     }
 
-pub returns-clause-reader : goal.returns-clause-reader
-returns-clause-reader c = let e = c.self.inside.parts in let i = c.self.invariant in let m = c.meet-arrived.ensures in let s = m.reader in let k = c.join.ensures in let head : ℕ = e.seat.head in let more : List ℕ = c.meet-arrived.result.0.bytes in let now : Stream = (c.heed.new.self.bytes, c.heed.new.self.shut) in
+pub returns : goal.returns
+returns c = let e = c.self.inside.parts in let i = c.self.invariant in let m = c.meet-arrived.ensures in let s = m.reader in let k = c.join.ensures in let head : ℕ = e.seat.head in let more : List ℕ = c.meet-arrived.result.0.bytes in let now : Stream = (c.heed.new.self.bytes, c.heed.new.self.shut) in
     let cap : c.sees.new.self.capacity ≡ e.indices.capacity = ap (λ (r : ReaderIndices). r.capacity) c.sees.ensures.after in let next : ReadView = read_view (ring_of c.meet-arrived.new.self.words c.meet-arrived.new.self.at c.meet-arrived.new.self.names) c.sees.new.self.capacity (take c.meet-arrived.new.self.head c.meet-arrived.new.self.have) c.join.new.self.bytes (length e.told.bytes) e.told.shut e.saw.shut c.heed.new.self.bytes in
-    subst (λ (r : ReadView). KnowsMore r next) c.self.view_is (record {
-      end = record { ring = (λ j. (ring_of (s j).words (s j).at (s j).names)); capacity = cap; told = refl; told_shut = refl };
-      taken = (λ j. take ((s j).head) ((s j).have)) ∙ ap (take head) (sym m.published) ∙ taken_stays e.seat.have e.known.bytes more head i.whole.0 i.whole.1;
-      known = (more, λ j. (k j).bytes);
-      saw = refl;
-      all = λ known. all_stays e i known now c.heed.ensures.kept;
-    })
+    record {
+      fifo = grind (arith, common_steps);
+      room = grind (arith, common_steps);
+      shut = grind (arith, common_steps);
+      told = grind (arith, common_steps);
+      last = grind (arith, common_steps);
+      other_shut = grind (arith, common_steps);
+      writer = grind (arith, common_steps);
+      reader = subst (λ (r : ReadView). KnowsMore r next) c.self.view_is (record {
+        end = record { ring = (λ j. (ring_of (s j).words (s j).at (s j).names)); capacity = cap; told = refl; told_shut = refl };
+        taken = (λ j. take ((s j).head) ((s j).have)) ∙ ap (take head) (sym m.published) ∙ taken_stays e.seat.have e.known.bytes more head i.whole.0 i.whole.1;
+        known = (more, λ j. (k j).bytes);
+        saw = refl;
+        all = λ known. all_stays e i known now c.heed.ensures.kept;
+      });
+    }

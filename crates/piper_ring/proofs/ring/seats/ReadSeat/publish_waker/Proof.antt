@@ -4,7 +4,7 @@ use Rattle.piper_ring.proofs.Rights.{reader_halves}
 use Rattle.piper_cells.specs.contracts.token_cell.Token as Token
 use Rattle.piper_ring.proofs.Slots.{Waited, publish}
 use Rattle.piper_ring.proofs.Fields.{ghost_val, SentData, sent_made}
-use Rattle.piper_ring.specs.contracts.ring.slots.Waits as Slot
+use Rattle.piper_ring.specs.contracts.ring.slots.WaiterState as Slot
 use Rattle.piper_ring.specs.contracts.ring.marks.WriteMark as Mark
 use Rattle.piper_ring.specs.contracts.ring.seats.ReadSeat as Seat
 use Rattle.piper_ring.specs.contracts.ring.seats.ReadSeat.publish_waker.{ended, clauses}

@@ -4,7 +4,7 @@ use Rattle.piper_ring.proofs.Rights.{writer_halves}
 use Rattle.piper_cells.specs.contracts.token_cell.Token as Token
 use Rattle.piper_ring.proofs.Slots.{Waited, publish}
 use Rattle.piper_ring.proofs.Fields.{ghost_val, TookData, took_made, SawData, saw_made}
-use Rattle.piper_ring.specs.contracts.ring.slots.Waits as Slot
+use Rattle.piper_ring.specs.contracts.ring.slots.WaiterState as Slot
 use Rattle.piper_ring.specs.contracts.ring.marks.ReadMark as Mark
 use Rattle.piper_ring.specs.contracts.ring.marks.Saw as Saw
 use Rattle.piper_ring.specs.contracts.ring.seats.WriteSeat as Seat

@@ -5,7 +5,7 @@ use Rattle.piper_ring.proofs.Rights.{known_halves}
 use Rattle.piper_ring.proofs.Slots.{flag_fits, Waited, Cancels, cancel}
 use Rattle.piper_ring.specs.Loads.{FoundFlag, as_flag}
 use Rattle.piper_cells.specs.contracts.token_cell.Token as Token
-use Rattle.piper_ring.specs.contracts.ring.slots.Waits as Slot
+use Rattle.piper_ring.specs.contracts.ring.slots.WaiterState as Slot
 use Rattle.piper_ring.specs.contracts.ring.slots.SlotWords as SlotWords
 use Rattle.piper_ring.specs.contracts.ring.slots.SlotWords.cancel.{ended, clauses}
 use Rattle.piper_ring.specs.contracts.ring.slots.SlotWords.cancel.Key.{name as #self}

@@ -5,7 +5,7 @@ use Rattle.piper_ring.proofs.Fields.{lent_val, lent_told}
 use Rattle.piper_ring.proofs.Rights.{known_halves}
 use Rattle.piper_ring.proofs.Slots.{flag_fits, Waited, StaysSo, is_registered}
 use Rattle.piper_ring.specs.Loads.{FoundFlag, as_flag}
-use Rattle.piper_ring.specs.contracts.ring.slots.Waits as Slot
+use Rattle.piper_ring.specs.contracts.ring.slots.WaiterState as Slot
 use Rattle.piper_ring.specs.contracts.ring.slots.SlotWords as SlotWords
 use Rattle.piper_ring.specs.contracts.ring.slots.SlotWords.is_registered.{ended, clauses}
 use Rattle.piper_ring.specs.contracts.ring.slots.SlotWords.is_registered.Key.{name as #self}

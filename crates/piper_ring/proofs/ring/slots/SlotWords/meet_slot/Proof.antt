@@ -3,7 +3,7 @@ use Rattle.piper_ring.proofs.Kit.{◌≡◌, ℕ, List, [], ◌∷◌, sym, refl
 use Rattle.piper_ring.proofs.Fields.{lent_val, lent_told}
 use Rattle.piper_ring.proofs.Rights.{known_halves}
 use Rattle.piper_ring.proofs.Slots.{meet}
-use Rattle.piper_ring.specs.contracts.ring.slots.Waits as One
+use Rattle.piper_ring.specs.contracts.ring.slots.WaiterState as One
 use Rattle.piper_ring.specs.contracts.ring.slots.Wakes as Two
 use Rattle.piper_ring.specs.contracts.ring.slots.SlotWords as SlotWords
 use Rattle.piper_ring.specs.contracts.ring.slots.SlotWords.meet_slot.{ended, clauses}

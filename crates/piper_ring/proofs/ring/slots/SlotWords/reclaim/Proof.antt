@@ -6,7 +6,7 @@ use Rattle.piper_ring.proofs.Rights.{known_halves}
 use Rattle.piper_ring.proofs.Slots.{back_fits, Waited, ReclaimsHeld, reclaim}
 use Rattle.piper_ring.specs.Loads.{FoundBack, as_handed_back}
 use Rattle.piper_cells.specs.contracts.token_cell.Token as Token
-use Rattle.piper_ring.specs.contracts.ring.slots.Waits as Slot
+use Rattle.piper_ring.specs.contracts.ring.slots.WaiterState as Slot
 use Rattle.piper_ring.specs.contracts.ring.slots.SlotWords as SlotWords
 use Rattle.piper_ring.specs.contracts.ring.slots.SlotWords.reclaim.{ended, clauses}
 use Rattle.piper_ring.specs.contracts.ring.slots.SlotWords.reclaim.Key.{name as #self}

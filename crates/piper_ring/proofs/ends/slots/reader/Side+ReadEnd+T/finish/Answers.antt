@@ -1,0 +1,6 @@
+-- What was taken is what this function says.
+use Rattle.piper_ring.specs.Loads.{as_taken}
+use Rattle.piper_ring.proofs.ends.slots.reader.Side+ReadEnd+T.finish.Goals as goal
+
+pub returns-clause-waker : goal.returns-clause-waker
+returns-clause-waker g c = as_taken _ _ _ _

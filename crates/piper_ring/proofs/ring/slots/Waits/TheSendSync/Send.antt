@@ -1,6 +1,0 @@
--- It may move to another thread.
-use denote.Param.Send.{IsSend}
-use Rattle.piper_ring.specs.contracts.ring.slots.Waits.{the_row}
-
-pub send : IsSend the_row
-send = record { owned = λ d vs. ((λ vss. (tt, ((λ uss. (tt, tt)), tt))), tt); leaving = λ k f vs. tt }

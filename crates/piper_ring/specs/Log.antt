@@ -1,0 +1,164 @@
+-- What a log says: where its side's last call is, by the call table.
+use Rattle.std.specs.Prelude.{◌≡◌, ℕ, ◌⊎◌, Bool, List, [], ◌∷◌, true, false, ⊤}
+use Rattle.piper_protocol.specs.Table.{Next, ends, goes_on, look_begun, read_action, read_step, write_action, write_step}
+use Rattle.piper_protocol.specs.declared.answer.Answer.{Answer}
+use Rattle.piper_protocol.specs.declared.answer.Answer.TheVariants.{Done}
+use Rattle.piper_protocol.specs.declared.table.Action.{Action}
+use Rattle.piper_protocol.specs.declared.table.Action.TheVariants as does
+use Rattle.piper_protocol.specs.declared.table.Found.{Found}
+use Rattle.piper_protocol.specs.declared.table.Found.TheVariants.{Nothing, Waker as waker}
+use Rattle.piper_protocol.specs.declared.table.Form.TheVariants.{Polling}
+use Rattle.piper_protocol.specs.declared.table.Point.{Point}
+use Rattle.piper_protocol.specs.declared.table.Point.TheVariants.{Reader, Writer}
+use Rattle.piper_protocol.specs.declared.table.Purpose.TheVariants.{Copy}
+use Rattle.piper_protocol.specs.declared.table.ReadPoint.TheVariants as at
+use Rattle.piper_protocol.specs.declared.table.Side.{Side}
+use Rattle.piper_protocol.specs.declared.table.Side.TheVariants as side
+use Rattle.piper_protocol.specs.declared.table.WritePoint.TheVariants as on
+use Rattle.piper_ring.specs.Loads.{FoundClosed, FoundConsumed, FoundPublished, FoundWaiter}
+use Rattle.piper_ring.specs.Shared.{Names, flag}
+use Rattle.piper_ring.specs.declared.log.Line.{Line}
+use Rattle.piper_ring.specs.declared.log.Line.TheVariants.{Began, Made, Looked, Drew}
+use Rattle.piper_ring.specs.declared.log.Log.{Log as log}
+
+-- the call table of both sides
+
+abbrev of_side : {P : Type 0} → (P → Point) → Next P → Next Point
+of_side side next = record { point = side next.point; answer = next.answer }
+
+abbrev pub step : Point → Found → Next Point
+step (Reader point) found = of_side Reader (read_step point found)
+step (Writer point) found = of_side Writer (write_step point found)
+
+abbrev pub action : Point → Action
+action (Reader point) = read_action point
+action (Writer point) = write_action point
+
+-- the load of closed that a look of the writer begins with
+abbrev pub looks : Bool → Bool → Point → Next Point
+looks none is_closed (Reader point) = goes_on (Reader point)
+looks none is_closed (Writer point) = of_side Writer (look_begun none point is_closed)
+
+-- a copy's draw settles its form
+abbrev pub drawn : Bool → Point → Point
+drawn is_drawn (Reader (at.LookTake (Copy (Polling undrawn)))) =
+    Reader (at.LookTake (Copy (Polling is_drawn)))
+drawn is_drawn (Writer (on.LookTake (Copy (Polling undrawn)))) =
+    Writer (on.LookTake (Copy (Polling is_drawn)))
+drawn is_drawn point = point
+
+-- where a side is between its calls
+abbrev pub idle : Point → Point
+idle (Reader point) = Reader at.Idle
+idle (Writer point) = Writer on.Idle
+
+-- what a log says
+
+-- where the last call is after these lines, and what it answered
+abbrev pub comes_to : List Line → Next Point
+comes_to [] = ends (Reader at.Idle) Done
+comes_to (Began first ∷ before) = goes_on first
+comes_to (Made found ∷ before) = step (comes_to before).point found
+comes_to (Looked none is_closed ∷ before) = looks none is_closed (comes_to before).point
+comes_to (Drew is_drawn ∷ before) = goes_on (drawn is_drawn (comes_to before).point)
+
+-- where the last call began, and what was before it
+abbrev pub first_of : List Line → Point
+first_of [] = Reader at.Idle
+first_of (Began first ∷ before) = first
+first_of (Made found ∷ before) = first_of before
+first_of (Looked none is_closed ∷ before) = first_of before
+first_of (Drew is_drawn ∷ before) = first_of before
+
+abbrev pub before_of : List Line → List Line
+before_of [] = []
+before_of (Began first ∷ before) = before
+before_of (Made found ∷ before) = before_of before
+before_of (Looked none is_closed ∷ before) = before_of before
+before_of (Drew is_drawn ∷ before) = before_of before
+
+-- a log, and with one line more
+abbrev pub Log : Type 0
+Log = log
+
+abbrev pub with_line : Line → Log → Log
+with_line line log = record log { lines = line ∷ log.lines }
+
+abbrev pub began : Point → Log → Log
+began first = with_line (Began first)
+
+abbrev pub made : Found → Log → Log
+made found = with_line (Made found)
+
+abbrev pub looked : Bool → Bool → Log → Log
+looked none is_closed = with_line (Looked none is_closed)
+
+abbrev pub drew : Bool → Log → Log
+drew is_drawn = with_line (Drew is_drawn)
+
+-- where the last call is, and what it answered
+abbrev pub now : Log → Next Point
+now log = comes_to log.lines
+
+-- where the step leads that comes next, if this is what it finds
+abbrev pub then : Next Point → Found → Next Point
+then next found = step next.point found
+
+-- the step that the last call makes next
+abbrev pub next : Log → Action
+next log = action (now log).point
+
+-- since a, one call was begun, at this point, and has come there
+pub record Opened (start : Point) (there : Next Point) (a b : Log) : Type 0 where
+  pub first : first_of b.lines ≡ start
+  pub before : before_of b.lines ≡ a.lines
+  pub now : now b ≡ there
+
+-- the call that was open at a has come there
+pub record Comes (there : Next Point) (a b : Log) : Type 0 where
+  pub first : first_of b.lines ≡ first_of a.lines
+  pub before : before_of b.lines ≡ before_of a.lines
+  pub now : now b ≡ there
+
+-- since a, one call was made: it began at this point, and its accesses, in their order and with what
+-- they found, are a run of the table to this answer
+abbrev pub Ran : Point → Answer → Log → Log → Type 0
+Ran start answer a b = Opened start (ends (idle start) answer) a b
+
+-- whether or not a waker is found in a slot the call goes on at one point, and before that it calls
+-- the one that it finds
+pub record WakesNext (now : Next Point) : Type 0 where
+  pub wakes : action (then now (waker true)).point ≡ does.Wake
+  pub same : then (then now (waker true)) Nothing ≡ then now (waker false)
+
+-- evidence of what an access found
+
+-- the other side's index was loaded
+abbrev pub WasIndexLoaded : Type 0
+WasIndexLoaded = (names : Names) × (count : ℕ) × (FoundPublished names count ⊎ FoundConsumed names count)
+
+abbrev pub WasClosedLoaded : Bool → Type 0
+WasClosedLoaded is_closed = (names : Names) × FoundClosed names is_closed
+
+-- the other side's slot was checked
+abbrev pub WasSlotLoaded : Bool → Type 0
+WasSlotLoaded is_found = (names : Names) × FoundWaiter names (flag is_found)
+
+-- the step is no access of a ring: a call of the source or the destination of a copy, of a waker, or
+-- for one that is to be registered
+abbrev pub IsOutside : Action → Type 0
+IsOutside does.Register = ⊤
+IsOutside does.Wake = ⊤
+IsOutside does.Yield = ⊤
+IsOutside does.CallDestination = ⊤
+IsOutside does.CallSource = ⊤
+IsOutside action = ⊥
+
+-- the side that waits in a side's own slot, and the one that waits in the other
+abbrev pub own : Bool → Side
+own true = side.Reader
+own false = side.Writer
+
+abbrev pub other : Bool → Side
+other true = side.Writer
+other false = side.Reader

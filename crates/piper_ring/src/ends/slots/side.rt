@@ -1,0 +1,263 @@
+//! A side of a ring: how it waits in its slot, and wakes whoever waits in the other's.
+ghost use Rattle.std.specs.Prelude.{◌≡◌, ◌<◌, ◌≢◌, None, IsSome, IfOk, IfErr, true, false, is_some, not, IsTrue, IsFalse};
+ghost use Rattle.piper_ring.specs.Cells.{AreCellsOf};
+ghost use Rattle.piper_ring.specs.Log.{IsOutside, began, drew, made, next, other, own};
+
+use crate::ends::cells::WakerCells;
+use crate::ends::slots::{Away, Registrations, SlotEnd};
+use crate::log::Log;
+use crate::ring::memory::flag_of;
+use piper_cells::lent_space::Placed;
+use piper_protocol::table::{Action, Found, Point};
+
+/// A side of a ring whose sides can wait.
+///
+/// Its log says what it did. An access that the call table knows asks that it is its turn there, by
+/// a clause named `turn`, and adds what it found, by one named `log`.
+#[derive(Drop)]
+pub struct Side<E: SlotEnd, T> {
+    pub(crate) end: E,
+    /// How it waits in its slot, and what it had stored when it last checked the other's.
+    pub(crate) slots: Registrations<E>,
+    pub(crate) cells: Placed<WakerCells<T>>,
+    pub(crate) log: Log,
+    ghost of_one_ring: { slots.names ≡ E.names_of end },
+    ghost places: { AreCellsOf slots.names cells },
+}
+
+impl<E: SlotEnd, T> Side<E, T> {
+    ghost use Rattle.piper_ring.specs.Loads.{CameBack, FoundFlag, FoundWaiter, IsAway, IsUnregistered, WasPut, WasTaken, WasTakenBack};
+    ghost use Rattle.piper_ring.specs.Shared.{flag};
+    ghost use Rattle.piper_ring.specs.SlotsView.{Registers, SamePlace};
+
+    /// Its end of the ring.
+    #[inline(always)]
+    pub fn end(&self) -> &E
+        ensures { result.now ≡ self.now.end }
+    {
+        &self.end
+    }
+
+    /// Whether the side's waker may be registered in its slot, as far as is known without a look
+    /// there: `is_registered` looks.
+    #[inline(always)]
+    pub fn maybe_registered(&self) -> bool
+        ensures known { result ≡ self.now.slots.maybe_registered }
+        ensures owned { self.now.slots.owns ≡ true → IsFalse result }
+    {
+        self.slots.parts.maybe_registered
+    }
+
+    /// A call begins, at this point of the table.
+    #[inline(always)]
+    pub fn begin(&mut self, first: Point)
+        ensures log { self.new.log ≡ began first self.old.log }
+        ensures rest { (self.new.end ≡ self.old.end) × (self.new.slots ≡ self.old.slots)
+            × (self.new.cells ≡ self.old.cells) }
+    {
+        self.log.begin(first);
+    }
+
+    /// A copy drew whether it yields.
+    #[inline(always)]
+    pub fn drew(&mut self, is_drawn: bool)
+        ensures log { self.new.log ≡ drew is_drawn self.old.log }
+        ensures rest { (self.new.end ≡ self.old.end) × (self.new.slots ≡ self.old.slots)
+            × (self.new.cells ≡ self.old.cells) }
+    {
+        self.log.drew(is_drawn);
+    }
+
+    /// A step of the table was made that is no access of the ring: a source, a destination or a
+    /// waker was called, or asked for.
+    #[inline(always)]
+    pub fn note(&mut self, action: Action, found: Found)
+        requires turn { next self.old.log ≡ action }
+        requires outside { IsOutside action }
+        ensures log { self.new.log ≡ made found self.old.log }
+        ensures rest { (self.new.end ≡ self.old.end) × (self.new.slots ≡ self.old.slots)
+            × (self.new.cells ≡ self.old.cells) }
+    {
+        let _ = action;
+        self.log.note(found);
+    }
+
+    /// The side's own slot was emptied, as a step of the table.
+    #[inline(always)]
+    pub fn own_taken(&mut self, found: Found)
+        requires turn { next self.old.log ≡ Action.Take (own E.READS) }
+        requires none { self.old.slots.maybe_registered ≡ false }
+        ensures log { self.new.log ≡ made found self.old.log }
+        ensures rest { (self.new.end ≡ self.old.end) × (self.new.slots ≡ self.old.slots)
+            × (self.new.cells ≡ self.old.cells) }
+    {
+        self.log.note(found);
+    }
+
+    /// Takes its waker back, where it is still registered in this side's slot.
+    pub fn cancel(&mut self) -> Option<T>
+        ensures back { IsSome result → self.old.slots.owns ≡ false }
+        ensures owns { IsSome result →
+            self.new.slots ≡ record self.old.slots { owns = true; maybe_registered = false } }
+        ensures none { result ≡ None →
+            self.new.slots ≡ record self.old.slots { maybe_registered = false } }
+        ensures out { WasTakenBack self.old.slots.names
+            self.old.slots.owns self.old.slots.tickets result }
+        ensures found { result ≡ None → IsUnregistered self.old.slots.names self.old.slots.owns }
+        ensures rest { (self.new.end ≡ self.old.end) × (self.new.cells ≡ self.old.cells)
+            × (self.new.log ≡ self.old.log) }
+    {
+        let parts = &mut self.slots.parts;
+        if parts.right.is_some() {
+            return None;
+        }
+        let flag = flag_of(E::READS);
+        let (found, mut right) = self.end.slot_words().cancel(&mut parts.waits, flag);
+        parts.maybe_registered = false;
+        if found == 0 {
+            return None;
+        }
+        let waker = self.end.place(&self.cells, E::READS).take(&mut right);
+        parts.right = Some(right);
+        Some(waker)
+    }
+
+    /// Takes the place of its waker back, with the waker that is still registered there, if one is.
+    /// It fails where the other side has the place just now.
+    pub fn reclaim_waker(&mut self) -> Result<Option<T>, Away>
+        ensures owns { IfOk result (λ _.
+            self.new.slots ≡ record self.old.slots { owns = true; maybe_registered = false }) }
+        ensures found { IfOk result (λ waker. IsSome waker → self.old.slots.owns ≡ false) }
+        ensures back { IfOk result (CameBack self.old.slots.owns) }
+        ensures out { IfOk result (WasTakenBack self.old.slots.names
+            self.old.slots.owns self.old.slots.tickets) }
+        ensures away { IfErr result (λ _.
+            (self.old.slots.owns ≡ false) × IsAway self.old.slots.names) }
+        ensures none { IfErr result (λ _.
+            self.new.slots ≡ record self.old.slots { maybe_registered = false }) }
+        ensures rest { (self.new.end ≡ self.old.end) × (self.new.cells ≡ self.old.cells)
+            × (self.new.log ≡ self.old.log) }
+    {
+        let parts = &mut self.slots.parts;
+        if parts.right.is_some() {
+            return Ok(None);
+        }
+        // Who was woken finds the place handed back: so that is asked first.
+        let back = flag_of(E::READS) + 1;
+        let (found, right) = self.end.slot_words().reclaim(&mut parts.waits, back);
+        if found != 0 {
+            parts.right = Some(right);
+            parts.maybe_registered = false;
+            return Ok(None);
+        }
+        match self.cancel() {
+            Some(waker) => Ok(Some(waker)),
+            None => Err(Away),
+        }
+    }
+
+    /// Whether this side's waker is still registered in its slot.
+    pub fn is_registered(&mut self) -> bool
+        ensures registered { IsTrue result →
+            (self.old.slots.owns ≡ false) × FoundFlag self.old.slots.names 1 }
+        ensures none { IsFalse result → IsUnregistered self.old.slots.names self.old.slots.owns }
+        ensures kept { self.new.slots ≡ record self.old.slots { maybe_registered = result } }
+        ensures rest { (self.new.end ≡ self.old.end) × (self.new.cells ≡ self.old.cells)
+            × (self.new.log ≡ self.old.log) }
+    {
+        let parts = &mut self.slots.parts;
+        let waits = &mut parts.waits;
+        let flag = flag_of(E::READS);
+        if parts.right.is_some() || self.end.slot_words().is_registered(waits, flag) == 0 {
+            parts.maybe_registered = false;
+            return false;
+        }
+        parts.maybe_registered = true;
+        true
+    }
+
+    /// Registers: puts `waker` in its place and publishes it in this side's slot, where the
+    /// other side's next look finds it.
+    pub fn publish_waker(&mut self, waker: T)
+        requires turn { next self.old.log ≡ Action.Register }
+        requires owns { self.old.slots.owns ≡ true }
+        ensures put { WasPut self.old.slots.names self.new.slots.tickets waker }
+        ensures registered { Registers self.old.slots self.new.slots }
+        ensures rest { (self.new.end ≡ self.old.end) × (self.new.cells ≡ self.old.cells)
+            × (self.new.log ≡ self.old.log) }
+    {
+        let parts = &mut self.slots.parts;
+        let Some(mut right) = parts.right.take() else {
+            unreachable!()
+        };
+        self.end.place(&self.cells, E::READS).put(&mut right, waker);
+        parts.maybe_registered = true;
+        parts.heard = self.end.register(&mut parts.waits, right);
+    }
+
+    /// Checks after all that this side stored whether the other is registered in its slot.
+    /// Returns `true` where it isn't; else it is `take` that the table has next still.
+    #[inline(always)]
+    pub fn nobody_waits(&mut self) -> bool
+        requires turn { next self.old.log ≡ Action.Take (other E.READS) }
+        ensures none { IsTrue result → (self.new.slots.stored ≡ E.stored_of self.new.end)
+            × (self.new.log ≡ made (Found.Waker false) self.old.log) }
+        ensures some { IsFalse result → (self.new.slots ≡ self.old.slots)
+            × (self.new.log ≡ self.old.log) × FoundWaiter self.old.slots.names 1 }
+        ensures kept { (self.new.slots.taken ≡ self.old.slots.taken)
+            × SamePlace self.old.slots self.new.slots }
+        ensures rest { (self.new.end ≡ self.old.end) × (self.new.cells ≡ self.old.cells) }
+    {
+        let wakes = &mut self.slots.parts.wakes;
+        let flag = flag_of(!E::READS);
+        if self.end.slot_words().load_flag(wakes, flag) != 0 {
+            return false;
+        }
+        self.log.slot_loaded(false);
+        true
+    }
+
+    /// After all that this side stored, takes the other's ticket where it is registered in its
+    /// slot. Returns the waker that it put there, and its place is handed back.
+    pub fn take(&mut self) -> Option<T>
+        requires turn { next self.old.log ≡ Action.Take (other E.READS) }
+        ensures log { self.new.log ≡ made (Found.Waker (is_some result)) self.old.log }
+        ensures rests { self.new.slots.stored ≡ E.stored_of self.new.end }
+        ensures ticket { (result ≡ None → self.new.slots.taken ≡ self.old.slots.taken)
+            × (IsSome result → self.old.slots.taken < self.new.slots.taken) }
+        ensures waker { WasTaken self.old.slots.names
+            self.old.slots.taken self.new.slots.taken result }
+        ensures found { FoundWaiter self.old.slots.names (flag (is_some result)) }
+        ensures own { SamePlace self.old.slots self.new.slots }
+        ensures rest { (self.new.end ≡ self.old.end) × (self.new.cells ≡ self.old.cells) }
+    {
+        let wakes = &mut self.slots.parts.wakes;
+        let flag = flag_of(!E::READS);
+        let (found, mut right) = self.end.slot_words().take_waker(wakes, flag);
+        if found == 0 {
+            self.log.slot_loaded(false);
+            return None;
+        }
+        let waker = self.end.place(&self.cells, !E::READS).take(&mut right);
+        self.end.slot_words().give_back(wakes, right, flag + 1);
+        self.log.slot_loaded(true);
+        Some(waker)
+    }
+
+    /// With what the other side has of the slots, or what is left of that once it is gone: where
+    /// this side has registered, and the other stored something since and checked the slot, its last
+    /// ticket was taken.
+    pub fn meet_slot<O: SlotEnd>(&mut self, left: &mut Registrations<O>)
+        requires other { O.READS ≡ not E.READS }
+        requires ring { left.old.names ≡ E.names_of self.old.end }
+        ensures taken { self.old.slots.owns ≡ false → left.old.stored ≢ self.old.slots.heard →
+            left.old.taken ≡ self.old.slots.tickets }
+        ensures capacity { E.capacity_of self.old.end ≡ (E.names_of self.old.end).capacity }
+        ensures kept { (self.new.slots ≡ self.old.slots) × (left.new ≡ left.old) }
+        ensures rest { (self.new.end ≡ self.old.end) × (self.new.cells ≡ self.old.cells)
+            × (self.new.log ≡ self.old.log) }
+    {
+        let words = self.end.slot_words();
+        words.meet_slot(&mut self.slots.parts.waits, &mut left.parts.wakes);
+    }
+}
