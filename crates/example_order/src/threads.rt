@@ -51,6 +51,7 @@ fn send_all<H: Wait>(rt: &H, writer: OwnedWriter, bytes: &[u8]) -> WriteMark
 
 /// Takes bytes to the front of `place` until it is full or the pipe has ended, and returns how
 /// many.
+#[tactic(auto, using(crate::proofs::Beginnings::front_and_next))]
 fn receive_all<H: Wait>(rt: &H, reader: &mut OwnedReader, place: &mut [u8]) -> usize
     requires { taken reader.old ≡ [] }
     ensures count { result ≤ length place.new }
