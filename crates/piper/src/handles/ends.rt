@@ -12,7 +12,7 @@ use piper_ring::{
 impl Reader {
     ghost use Rattle.piper.specs.OfReader.{end_of, ring, capacity, taken, known, told, told_shut};
     ghost use Rattle.piper.specs.OfWriter as of_writer;
-    ghost use Rattle.piper.specs.ReaderCalls.{KeepsAll, KnowsAll, MeetClosed, MeetMore, MeetReader, MeetSame, MeetWriter, SameReaderButTold, WasWoken};
+    ghost use Rattle.piper.specs.ReaderCalls.{KeepsAll, KnowsAll, MeetClosed, MeetMore, MeetSame, MeetWoken, SameReaderButTold, WasWoken};
 
     /// Its end of the ring.
     pub fn end(&self) -> &ReadEnd
@@ -42,17 +42,17 @@ impl Reader {
     /// the writer closed it, and what the reader holds to be all bytes is what the writer
     /// published. It allocates nothing.
     ///
-    /// And nobody who waits is forgotten: where a side is pending in its slot, and the other has
+    /// And nobody who waits is forgotten: if a side is pending in its slot, and the other has
     /// checked that slot since its last store, the other took the waker and called it, or the side
-    /// has nothing to do.
+    /// has nothing to do. If both are pending so, one of them took and called the other's waker:
+    /// a pipe is not empty and full.
     pub fn meet(&mut self, other: &mut Writer)
         requires { of_writer.ring other.old ≡ ring self.old }
         ensures fifo { taken self.new ++ known self.new ≡ of_writer.sent other.new }
         ensures room { of_writer.room other.new + length (known self.new) ≡ capacity self.new }
         ensures more { MeetMore self.old self.new other.old other.new }
         ensures closed { MeetClosed self.new other.new }
-        ensures reader_woken { MeetReader self.old self.new other.old }
-        ensures writer_woken { MeetWriter other.old other.new self.old }
+        ensures woken { MeetWoken self.old self.new other.old other.new }
         ensures rest { MeetSame self.old self.new other.old other.new }
     {
         self.side.meet(&mut other.side);
