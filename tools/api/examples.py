@@ -76,9 +76,10 @@ def excerpt(crate, owner, name):
         for called, start, lines in functions(path):
             part = window(lines, word)
             if part and part[1] - part[0] <= MOST:
-                is_named = name not in called
-                found.append((is_named, order, start, path, [line[4:] for line in
-                                                             lines[part[0]:part[1]]], part[0]))
+                kept = [line[4:] for line in lines[part[0]:part[1]]]
+                if len([line for line in kept if line]) < LEAST:
+                    part, kept = (0, 0), lines
+                found.append((name not in called, order, start, path, kept, part[0]))
     if not found:
         return None
     _named, _order, start, path, lines, first = min(found)
