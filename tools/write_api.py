@@ -187,8 +187,7 @@ def owner(page, crate, name, path):
     """An owner: what is its own, and a link to what it owns."""
     of = OWNERS[name]
     a_type(page, crate, name, path)
-    shared = "the calls, but for `drop`, and the traits" if of in HANDLES else "the traits"
-    page.lines += ["", f"It has {shared} of [`{of}`](#{of.lower()}), with the same clauses. These "
+    page.lines += ["", f"It has the traits of [`{of}`](#{of.lower()}), with the same clauses. These "
                    "calls are its own:"]
     for method in own_calls(crate, name):
         page.call(method, f"{name}::{method.name}")

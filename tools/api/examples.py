@@ -6,7 +6,8 @@ from .sources import TOP
 
 # For each crate, where its examples are, in the order in which they are looked at.
 FILES = {
-    "piper": ["piper_examples/src/handles", "piper_examples/src/ends", "piper_examples/src/streams"],
+    "piper": ["piper_examples/src/handles", "piper_examples/src/ends", "piper_examples/src/streams",
+              "piper_tests/src/marks"],
     "piper_lines": ["piper_examples/src/lines", "piper_examples/src/frames"],
     "piper_futures": ["piper_futures_streams_tests/src/methods",
                       "piper_futures_streams_tests/src/owning",
@@ -16,17 +17,19 @@ FILES = {
                       "piper_futures_streams_tests/src/texts"],
     "piper_streams": ["piper_futures_streams_tests/src/owning",
                       "piper_futures_streams_tests/src/running",
-                      "piper_futures_streams_tests/src/crossing"],
-    "piper_duplex": ["piper_examples/src/duplex"],
+                      "piper_futures_streams_tests/src/crossing", "example_lines/src/main"],
+    "piper_duplex": ["piper_examples/src/duplex", "piper_lines_duplex_replay_tests/src/duplex/ends"],
     "piper_transfer": ["piper_transfer_tests/src/faults", "piper_transfer_tests/src/waits",
                        "piper_transfer_tests/src/sizes"],
     "piper_tokio": ["piper_tokio_tests/src/ends", "piper_tokio_tests/src/copies",
                     "piper_tokio_tests/src/codecs"],
 }
-# What a value of a type is called there, where calls of two types have the same name.
+# Where calls of a trait are made on any type that has it.
+OF_TRAITS = ["piper_examples/src/streams"]
+# What a value of a type is called there, if calls of two types have the same name.
 CALLED = {"Reader": "reader", "Writer": "writer", "OwnedReader": r"(?:reader|OwnedReader)(?:\.\w+\(\))?",
-          "OwnedWriter": r"(?:writer|OwnedWriter)(?:\.\w+\(\))?", "End": r"(?:near|far)",
-          "OwnedEnd": r"(?:near|far)", "Lines": r"(?:lines|lists|Lines)", "Frames": r"(?:frames|Frames)",
+          "OwnedWriter": r"(?:writer|OwnedWriter)(?:\.\w+\(\))?", "End": r"(?:near|far|end|second|duplex)",
+          "OwnedEnd": r"(?:near|far|OwnedEnd)", "Lines": r"(?:lines|lists|Lines)", "Frames": r"(?:frames|Frames)",
           "WriteLine": r"(?:line|WriteLine)", "WriteFrame": r"(?:frame|WriteFrame)"}
 LEAST, MOST = 3, 14
 
@@ -68,10 +71,16 @@ def window(lines, word):
 
 def excerpt(crate, owner, name):
     """Lines of use of a call, or of a type if there is no owner, and where they stand."""
-    before = CALLED.get(owner, r"\w+")
-    pattern = rf"\b{before}(?:\.|::){name}\(" if owner else rf"(?<![\w.:]){name}\b[({{:]"
-    word, found = re.compile(pattern), []
-    for order, file in enumerate(FILES.get(crate, [])):
+    before = CALLED.get(owner, r"(?:\b\w+|\))")
+    pattern = rf"{before}(?:\.|::){name}\(" if owner else rf"(?:(?<![\w.:])|\.){name}\b ?[({{:]"
+    return search(FILES.get(crate, []), name, re.compile(pattern)) or (
+        search(OF_TRAITS, name, re.compile(rf"\.{name}\(")) if owner else None)
+
+
+def search(files, name, word):
+    """The best lines of some files: of a function with this name, or else the first."""
+    found = []
+    for order, file in enumerate(files):
         path = f"crates/{file}.rt"
         for called, start, lines in functions(path):
             part = window(lines, word)

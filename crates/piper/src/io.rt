@@ -15,7 +15,7 @@ use crate::error::PipeError;
 pub use copy::{Copied, poll_copy};
 use futures::task::{Context, Poll};
 
-/// A reader that copies what it takes into a slice.
+/// A reader that puts what it takes into a slice.
 pub trait AsyncRead {
     ghost use Rattle.futures.specs.declared.task.context.Context.{Context};
     ghost use Rattle.piper.specs.declared.error.PipeError.{PipeError};
@@ -107,7 +107,7 @@ pub trait AsyncBufRead {
 
     /// Lends the first piece of the bytes that it knows.
     ///
-    /// Returns: an empty slice at the end: after it no byte comes, and no call is pending.
+    /// Returns: an empty slice only at the end: after it no byte comes, and no call is pending.
     /// Pending: no byte is known. A reader that was told of the end is not pending.
     /// Errors: those of the type. Bytes that were known stay known, and none is taken.
     fn poll_fill_buf(&mut self, cx: &mut Context<'_>) -> Poll<Result<&[u8], PipeError>>

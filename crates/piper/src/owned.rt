@@ -24,8 +24,8 @@ pub const DEFAULT_SEED: u64 = 0;
 
 /// A reader that is dropped automatically: that closes the pipe and wakes the writer.
 ///
-/// Each call of [`Reader`] but `drop` can be made on it, with the same contract: in clauses it is
-/// its reader.
+/// Each call of [`Reader`] except `drop` can be made on it, with the same contract: in clauses it
+/// is its reader.
 pub struct OwnedReader {
     reader: Reader,
 }
@@ -40,8 +40,8 @@ impl Model for OwnedReader {
 
 /// A writer that is dropped automatically: that closes the pipe and wakes the reader.
 ///
-/// Each call of [`Writer`] but `drop` can be made on it, with the same contract: in clauses it is
-/// its writer.
+/// Each call of [`Writer`] except `drop` can be made on it, with the same contract: in clauses it
+/// is its writer.
 pub struct OwnedWriter {
     writer: Writer,
 }

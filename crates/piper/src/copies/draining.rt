@@ -93,7 +93,8 @@ impl Reader {
     /// Moves known bytes into the front of `dest`, as many as fit, and doesn't wait.
     ///
     /// Returns: how many bytes. 0 says that no byte has come, that `dest` has no room, or that the
-    /// pipe is at its end; `try_drain_with` tells the end from the others.
+    /// pipe is at its end. To tell the end, call `try_drain_with` with room: it is pending if no
+    /// byte has come, and 0 at the end.
     /// Wakes: the writer, if it waits and a byte was moved.
     pub fn try_drain(&mut self, dest: &mut [u8]) -> usize
         ensures ran { Ran (looks_at (end_of self.old) (Purpose.Copy Form.Try)) (Answer.Count result)

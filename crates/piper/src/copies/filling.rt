@@ -94,7 +94,8 @@ impl Writer {
     /// wait.
     ///
     /// Returns: how many bytes it took. 0 says that there is no room, that there are no `bytes`, or
-    /// that the pipe is closed; `try_fill_with` tells no room from the others.
+    /// that the pipe is closed. To tell the close, call `try_fill_with` with bytes: it is pending
+    /// if there is no room, and 0 if the pipe is closed.
     /// Wakes: the reader, if it waits and a byte was published.
     pub fn try_fill(&mut self, bytes: &[u8]) -> usize
         ensures ran { Ran (Point.Writer (WritePoint.LookClosed (Purpose.Copy Form.Try)))

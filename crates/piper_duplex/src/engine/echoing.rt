@@ -60,8 +60,8 @@ impl LineEcho {
     /// Requires: `limit`, which counts the byte that ends a line, is at least 1.
     /// Returns: why it ended.
     /// Pending: a line is on its way back, and the writer's call is pending; or none is, and the
-    /// reader's is; or 64 lines went back, and the task is polled again. A reader that was told of
-    /// the end is not waited for.
+    /// reader's is; or bytes were taken, 64 lines as it is now, and the task is polled again. A
+    /// reader that was told of the end is not waited for.
     /// Errors: that of the reader or of the writer; or `Memory`, before the bytes are taken that
     /// lack room.
     /// Cancel safety: the next poll goes on from where this one ended. What was taken and not
