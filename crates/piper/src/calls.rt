@@ -142,8 +142,8 @@ impl Reader {
     ///
     /// Returns: evidence for the writer's `meet_finished`: how many bytes were ever taken, and that
     /// the writer's slot was checked after the close.
-    /// Wakes: the writer, if it waits. A task that is still registered at this reader may be woken,
-    /// too: later by the writer, or by this call if the writer was dropped before.
+    /// Wakes: the writer, if it waits. A task that is still registered at this reader may also be
+    /// woken: later by the writer, or by this call if the writer was dropped before.
     pub fn drop(self) -> FinishedReader
         ensures ran { Opened (Point.Reader ReadPoint.StoreClosed)
             (ends (Point.Reader ReadPoint.Dropped) Answer.Done) (log self) result.log }
@@ -308,8 +308,8 @@ impl Writer {
     ///
     /// Returns: evidence for the reader's `meet_finished`: which bytes were ever published, and
     /// that the reader's slot was checked after the close.
-    /// Wakes: the reader, if it waits. A task that is still registered at this writer may be woken,
-    /// too: later by the reader, or by this call if the reader was dropped before.
+    /// Wakes: the reader, if it waits. A task that is still registered at this writer may also be
+    /// woken: later by the reader, or by this call if the reader was dropped before.
     pub fn drop(self) -> FinishedWriter
         ensures ran { Opened (Point.Writer (WritePoint.StoreClosed AfterWrite.Drop))
             (ends (Point.Writer WritePoint.Dropped) Answer.Done) (log self) result.log }

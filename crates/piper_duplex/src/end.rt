@@ -111,8 +111,8 @@ impl End {
     ///
     /// Returns: evidence for `meet_finished` of the other end's handles, as `drop` of both handles
     /// gives it.
-    /// Wakes: who waits at the other end. A task that is still registered at this end may be woken,
-    /// too, as by `Reader::drop` and `Writer::drop`.
+    /// Wakes: who waits at the other end. A task that is still registered at this end may also be
+    /// woken, as by `Reader::drop` and `Writer::drop`.
     pub fn drop(self) -> (FinishedReader, FinishedWriter)
         ensures ring { (result.0.told.consumed.names ≡ (ring (reading self)).names)
             × (result.1.told.names ≡ (of_writer.ring (writing self)).names) }

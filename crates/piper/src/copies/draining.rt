@@ -33,9 +33,9 @@ impl Reader {
     /// bytes are known. `dest` is not flushed.
     /// Pending: no byte is known, and the pipe was not seen closed; or the call yields. `dest`
     /// stays as it was.
-    /// Errors: `Memory`, as `OutOfMemory` of `poll`; no byte is taken. `Io`, with the error of
-    /// `dest`: what `dest` took in earlier rounds stays taken and is not counted, and the round
-    /// that failed took none.
+    /// Errors: `Memory`, for the reason for which `poll` fails; no byte is taken. `Io`, with the
+    /// error of `dest`: what `dest` took in earlier rounds stays taken and is not counted, and the
+    /// round that failed took none.
     /// Wakes: the writer, if it waits and a byte was moved.
     pub fn poll_drain<W: StdWriter>(
         &mut self,
@@ -65,7 +65,8 @@ impl Reader {
     /// Returns: how many bytes. 0 is the end, for good, if `dest` has room.
     /// Pending: no byte is known and the pipe was not seen closed, even if `dest` is empty; or the
     /// call yields. `dest` stays as it was.
-    /// Errors: `OutOfMemory`, as of `poll`. No byte is taken, and `dest` stays as it was.
+    /// Errors: `OutOfMemory`, for the reason for which `poll` fails. No byte is taken, and `dest`
+    /// stays as it was.
     /// Wakes: the writer, if it waits and a byte was moved.
     pub fn poll_drain_bytes(
         &mut self,

@@ -32,9 +32,9 @@ impl Writer {
     /// `source` gave none.
     /// Pending: there is no room, and the pipe was not seen closed; or the call yields. `source`
     /// stays as it was.
-    /// Errors: `Memory`, as `OutOfMemory` of `poll`; no byte is published. `Io`, with the error of
-    /// `source`: what `source` gave in earlier rounds stays published and is not counted, and the
-    /// round that failed gave none.
+    /// Errors: `Memory`, for the reason for which `poll` fails; no byte is published. `Io`, with
+    /// the error of `source`: what `source` gave in earlier rounds stays published and is not
+    /// counted, and the round that failed gave none.
     /// Wakes: the reader, if it waits and a byte was published.
     pub fn poll_fill<R: StdReader>(
         &mut self,
@@ -65,7 +65,7 @@ impl Writer {
     /// `bytes`. A count of fewer than all doesn't say that the pipe is full.
     /// Pending: there is no room and the pipe was not seen closed, even if there are no `bytes`; or
     /// the call yields.
-    /// Errors: `OutOfMemory`, as of `poll`. No byte is published.
+    /// Errors: `OutOfMemory`, for the reason for which `poll` fails. No byte is published.
     /// Wakes: the reader, if it waits and a byte was published.
     pub fn poll_fill_bytes(
         &mut self,

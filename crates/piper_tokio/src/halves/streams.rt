@@ -60,13 +60,13 @@ impl tokio::io::AsyncRead for CompatReader {
     ghost reads_in_order = { λ a xs b ys c p q.
         took_in_order (handle_of a) xs (handle_of b) ys (handle_of c) p q };
 
-    /// Moves known bytes into the front of `buf`, as many as fit.
+    /// Moves known bytes into the front of `buf`, as many as fit. After it `buffer` shows nothing.
     ///
     /// Returns: how many bytes. 0 is the end, for good, if `buf` has room.
     /// Pending: no byte is known and the pipe was not seen closed; or the call yields. `buf` stays
     /// as it was.
-    /// Errors: one of the kind `OutOfMemory`, as of `Reader::poll`. No byte is taken, and `buf`
-    /// stays as it was.
+    /// Errors: one of the kind `OutOfMemory`, for the reason for which `Reader::poll` fails. No
+    /// byte is taken, and `buf` stays as it was.
     /// Wakes: the writer, if it waits and a byte was moved.
     fn poll_read(&mut self, cx: &mut Context<'_>, buf: &mut [u8]) -> Poll<io::Result<usize>>
         ensures bound { count_moved result ≤ length buf.new }
@@ -97,7 +97,7 @@ impl tokio::io::AsyncBufRead for CompatReader {
     /// that is the end, for good.
     ///
     /// Pending: no byte is known, and the pipe was not seen closed.
-    /// Errors: one of the kind `OutOfMemory`, as of `Reader::poll`.
+    /// Errors: one of the kind `OutOfMemory`, for the reason for which `Reader::poll` fails.
     fn poll_fill_buf(&mut self, cx: &mut Context<'_>) -> Poll<io::Result<()>>
         ensures bytes { Took (handle_of self.old) [] (handle_of self.new) }
         ensures looked { Looks (handle_of self.old) (handle_of self.new)
@@ -190,7 +190,8 @@ impl tokio::io::AsyncWrite for CompatWriter {
     /// Returns: how many bytes it took. 0 says that the pipe is closed, for good, if `buf` has
     /// bytes. In the call that sees it closed counted bytes may be lost.
     /// Pending: there is no room and the pipe was not seen closed; or the call yields.
-    /// Errors: one of the kind `OutOfMemory`, as of `Writer::poll`. No byte is published.
+    /// Errors: one of the kind `OutOfMemory`, for the reason for which `Writer::poll` fails. No
+    /// byte is published.
     /// Wakes: the reader, if it waits and a byte was published.
     fn poll_write(&mut self, cx: &mut Context<'_>, buf: &[u8]) -> Poll<io::Result<usize>>
         ensures bound { count_moved result ≤ length buf.now }
