@@ -14,6 +14,9 @@ Each block of code on these pages is fenced, and its first word says what become
   `THIS REPOSITORY`; else it is a part of that file of the repository, word for word.
 - `text`: not run, since it takes an hour, or root.
 
+Of docs/api only the sections that begin with "Example" are tried: `tools/write_api.py --check` compares
+the rest with the sources.
+
 The gate's own proofs are not made again: of `rt run` the stored output of the crate is compared. A
 section that begins with "From" needs no `rt`, and has a PATH without it. `~` is a new folder. The section SETUP of the guide
 is tried first, and each other one of it and of docs/api in a copy of what it left, beside the
@@ -70,19 +73,22 @@ class Section:
 def read_page(page):
     """The sections of a page, with their blocks, and what is wrong with its layout."""
     sections, wrong, block, above = [Section(page, "the top")], [], None, ""
+    is_tried = page not in EXAMPLES
     for number, line in enumerate((TOP / page).read_text().splitlines(), 1):
         fence = re.fullmatch(r"```(\w*)", line)
         if fence and block:
             block = None
         elif fence:
             block = Block(page, number, fence[1])
-            sections[-1].blocks.append(block)
+            if is_tried:
+                sections[-1].blocks.append(block)
             if block.word not in WORDS:
                 wrong.append(f"{block.where}: a block of the word '{block.word}'")
         elif block:
             block.lines.append(line)
         elif line.startswith("## "):
             sections.append(Section(page, line[3:]))
+            is_tried = page not in EXAMPLES or line.startswith("## Example")
         elif line.startswith("    ") and not above:
             wrong.append(f"{page}:{number}: an indented block, which is not tried")
         above = line
@@ -235,7 +241,7 @@ def anchors(path):
 def wrong_links(page):
     """The links of a page that lead to no file, or to no heading."""
     text = re.sub(r"^```.*?^```", "", page.read_text(), flags=re.M | re.S)
-    for link in re.findall(r"\]\(([^)\s]+)\)|<a href=\"([^\"]+)\"", text):
+    for link in re.findall(r"\]\(([^)\s]+)(?: \"[^\"]*\")?\)|<a href=\"([^\"]+)\"", text):
         link = "".join(link)
         if re.match(r"\w+:", link):
             continue
@@ -243,6 +249,9 @@ def wrong_links(page):
         target = (page.parent / name).resolve() if name else page.resolve()
         if not target.exists():
             yield f"{page.relative_to(TOP)}: {link}: there is no such file"
+        elif re.fullmatch(r"L\d+", anchor) and target.suffix != ".md":
+            if int(anchor[1:]) > target.read_text().count("\n"):
+                yield f"{page.relative_to(TOP)}: {link}: there is no such line"
         elif anchor and anchor not in anchors(target):
             yield f"{page.relative_to(TOP)}: {link}: there is no such heading"
 

@@ -1,26 +1,51 @@
-"""A page in Markdown: headings with anchors, calls, clauses that are folded away, and contents."""
+"""A page in Markdown: tables of its calls, and items with signature, facts, example and clauses."""
 import re
 
-from .words import anchor
+from .examples import excerpt
+from .words import anchor, block
 
-LABELS = {"requires": "Requires", "returns": "Returns", "pending": "Pending", "error": "Error",
-          "bytes": "Bytes at an error", "wakes": "Wakes"}
+LABELS = ["Requires", "Returns", "Pending", "Errors", "Wakes", "Cancel safety"]
+LABEL = re.compile(rf"({'|'.join(LABELS)}): (.*)")
+HEADER = "Written by `tools/write_api.py` from the sources and `tools/api`: change those, and run it."
 
 
 class Wrong(Exception):
     """Says what does not fit."""
 
 
-def paragraphs(doc):
-    """A comment as paragraphs. A link of rustdoc is left as what it shows."""
-    text = re.sub(r"\[(`[^`]+`)\](\(\w+@[^)]*\))?", r"\1", "\n".join(doc)).split("\n\n")
-    return [part.replace("\n", " ") for part in text if part]
+def plain(text):
+    """A comment's text. A link of rustdoc is left as what it shows."""
+    return re.sub(r"\[(`[^`]+`)\](\(\w+@[^)]*\))?", r"\1", text)
 
 
-def first_sentence(text):
-    """The first sentence of a comment, and the rest of it."""
-    head, dot, rest = text[0].partition(". ")
-    return [head + dot.strip()], ([rest] if rest else []) + text[1:]
+class Doc:
+    """A comment: its paragraphs, what it says under labels, and what it says of clauses."""
+
+    def __init__(self, lines):
+        self.paragraphs, self.labels, self.of_clauses = [], {}, []
+        taken, last = None, None
+        for line in [*lines, ""]:
+            label = LABEL.match(line)
+            if label:
+                last = label[1]
+                self.labels[last] = label[2]
+            elif not line:
+                if taken:
+                    self.add(plain(" ".join(taken)))
+                taken, last = None, None
+            elif last:
+                self.labels[last] += " " + line
+            else:
+                taken = [*(taken or []), line]
+        self.labels = {key: plain(said[0].upper() + said[1:]) for key, said in self.labels.items()}
+
+    def add(self, text):
+        (self.of_clauses if text.startswith("In clauses, ") else self.paragraphs).append(text)
+
+    def summary(self):
+        """The first sentence, with no full stop inside of it."""
+        first = self.paragraphs[0] if self.paragraphs else ""
+        return re.split(r"(?<=\.) (?=[A-Z`])", first)[0]
 
 
 def spaced(lines):
@@ -32,65 +57,82 @@ def listed(names):
 
 
 class Page:
-    """One page: what it says, and its headings for the contents."""
+    """One page. Rows for the table of calls are kept until the page is whole."""
 
-    def __init__(self, name, title, links):
-        self.name, self.title, self.links = name, title, links
-        self.lines, self.contents, self.seen, self.above = [], [], set(), None
-        # The sections whose calls the contents leave out.
-        self.brief = set()
+    def __init__(self, crate, name, title):
+        self.crate, self.name, self.title = crate, name, title
+        self.lines, self.seen, self.groups, self.table_at = [], set(), [], None
 
     def heading(self, depth, text, is_code=True):
-        """A heading. The contents show a call below its type by its own name."""
-        shown = f"`{text}`" if is_code else text
         where = anchor(text)
         if where in self.seen:
             raise Wrong(f"{self.name}: two headings have the anchor {where}")
         self.seen.add(where)
-        if depth == 3:
-            self.above = text
-        elif depth == 2:
-            self.above = None
-        short = re.sub(rf"^`{self.above}(: |::)", "`", shown)
-        self.contents.append((depth, short, where))
-        self.lines += ["", "#" * depth + " " + shown]
+        self.lines += ["", "#" * depth + " " + (f"`{text}`" if is_code else text)]
+
+    def group(self, title, summary=""):
+        """The calls that follow are in a table of their own."""
+        self.groups.append((title, summary, []))
+
+    def row(self, title, shown, summary, answer):
+        self.groups[-1][2].append((shown, anchor(title), summary, answer))
+
+    def code(self, lines):
+        self.lines += ["", "```rust", *lines, "```"]
 
     def folded(self, lines, uses, above=(), summary="Clauses"):
         """Clauses, folded away."""
         if lines or above:
             self.lines += ["", f"<details><summary>{summary}</summary>", *spaced(above)]
-            self.lines += self.links.block(lines, uses, self.name) if lines else []
+            self.lines += block(lines, uses) if lines else []
             self.lines += ["", "</details>"]
 
-    def signature(self, item):
-        self.lines += ["", f"`{item.signature()}`"]
+    def says(self, doc):
+        """What a comment says, and then its labels in their order."""
+        self.lines += spaced(doc.paragraphs)
+        told = [f"- **{label}**: {doc.labels[label]}" for label in LABELS if label in doc.labels]
+        self.lines += ["", *told] if told else []
 
-    def call(self, item, title, said=None, is_short=False):
-        """A call: its comment, or its first sentence and labels; the signature, and the clauses."""
-        self.heading(4, title)
-        text = paragraphs(item.doc)
-        labels = [f"- **{word}**: {said[key]}" for key, word in LABELS.items() if key in (said or {})]
-        first, rest = first_sentence(text) if labels or is_short else (text, [])
-        self.lines += spaced(first)
-        self.lines += ["", *labels] if labels else []
-        self.signature(item)
-        self.folded(item.clauses(), item.uses, rest, "In full, and clauses" if rest else "Clauses")
+    def example(self, owner, name):
+        """Lines of use, from a crate that is tested."""
+        found = excerpt(self.crate, owner, name)
+        if found:
+            lines, where = found
+            self.lines += ["", f"Use, from [a tested crate](../../{where}):"]
+            self.code(lines)
+        return bool(found)
 
-    def table_of_contents(self):
-        """The sections, each with its items, and those with their calls."""
-        found, lines, section = [], [], None
-        for depth, shown, where in self.contents:
-            link = f"[{shown}](#{where})"
-            section = shown if depth == 2 else section
-            if depth < 4:
-                found.append((depth, link, []))
-            elif section not in self.brief:
-                found[-1][2].append(link)
-        for depth, link, calls in found:
-            lines.append("  " * (depth - 2) + f"- {link}" + (": " + ", ".join(calls) if calls else ""))
+    def call(self, item, title, path=None, doc=None, depth=4):
+        """A call: the path of a function, the signature, what it says, an example, the clauses."""
+        doc = doc or Doc(item.doc)
+        self.heading(depth, title)
+        self.code(([f"use {path};", ""] if path else []) + item.shown())
+        self.says(doc)
+        owner, _, name = re.sub(r": \w+", "", title).rpartition("::")
+        self.example(owner or ".", name) if owner else self.example("", name)
+        self.folded(item.clauses(), item.uses, doc.of_clauses)
+        self.row(title, self.short(title), doc.summary(), item.answer())
+
+    def short(self, title):
+        """A call's name in the table of its type, and else whole."""
+        of_type = re.match(r"\[`(\w+)`\]", self.groups[-1][0])
+        return re.sub(rf"^{of_type[1]}(: |::)", "", title) if of_type else title
+
+    def table(self):
+        """A table for each group that has calls."""
+        lines = []
+        for title, summary, rows in self.groups:
+            rows = [row for row in rows if row[0] != "Future::poll"]
+            if rows:
+                lines += ["", f"{title}{': ' + summary if summary else ''}", "",
+                          "| Call | What it does | Answer |", "|---|---|---|"]
+            for shown, where, said, answer in rows:
+                cell = f"`{answer}`".replace("|", "\\|") if answer else "–"
+                lines.append(f"| [`{shown}`](#{where}) | {said} | {cell} |")
         return lines
 
     def text(self):
-        head = [f"# {self.title}", "", "Written by `tools/write_api.py`.", "", "Contents:", ""]
-        head += self.table_of_contents()
-        return "\n".join(head + self.lines) + "\n"
+        head = [f"# {self.title}", "", HEADER]
+        at = len(self.lines) if self.table_at is None else self.table_at
+        table = ["", "## Calls", *self.table()] if self.table() else []
+        return "\n".join(head + self.lines[:at] + table + self.lines[at:]) + "\n"

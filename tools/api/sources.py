@@ -21,23 +21,32 @@ class Item:
         self.name = re.match(r"[\s]*(\w*)", rest)[1]
         self.is_public = lines[0].lstrip().startswith("pub ")
 
-    def head(self):
-        """The lines up to the body, or to the first clause."""
-        head = []
+    def shown(self):
+        """The lines up to the body, or to the first clause, as they stand."""
+        found = []
         for line in self.lines:
             text = line.strip()
             if text == "{" or re.match(r"(requires|ensures)\b", text):
                 break
             if not text.startswith("//"):
-                head.append(re.sub(r" \{$|;$|\{\}$", "", text))
+                found.append(re.sub(r" \{$|;$| ?\{\}$", "", line).replace("final fn ", "fn ", 1))
             if re.search(r"[^=] \{$|;$|\{\}$", text):
                 break
-        text = re.sub(r",? ([>)])", r"\1", " ".join(head))
+        if found[-1].strip() == "where":
+            found.pop()
+        margin = len(found[0]) - len(found[0].lstrip())
+        return [*(line[margin:] for line in found[:-1]), found[-1][margin:].rstrip(",")]
+
+    def head(self):
+        """The same in one line."""
+        text = re.sub(r",? ([>)])", r"\1", " ".join(line.strip() for line in self.shown()))
         text = re.sub(r"([(<]) ", r"\1", text).rstrip(", ")
         return re.sub(r",? where$", "", text)
 
-    def signature(self):
-        return re.sub(r"^(pub |final )*", "", self.head())
+    def answer(self):
+        """The type of what a function returns."""
+        found = re.search(r"\) -> (.*?)(?: where .*)?$", self.head())
+        return found[1] if found else ""
 
     def is_foreign(self, trait):
         """Whether a trait, as an impl names it, is the toolchain's."""

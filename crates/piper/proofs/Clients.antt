@@ -2,7 +2,7 @@
 use Rattle.std.proofs.Common.{◌≡◌, ◌∙◌, ◌+◌, ◌-◌, ◌<◌, ◌≤◌, ℕ, Bool, true, false, true≢false, List, [], ◌++◌, take, drop, length, refl, sym, ap, append-nil, length-append, length-take-le, arith}
 use Rattle.std.proofs.Math.Seq.{take-add}
 use Rattle.std.proofs.lemmas.Grind.{common_steps}
-use Rattle.std.proofs.lemmas.List.{append_cancel_left, nil_from_length, take_all, take_rest}
+use Rattle.std.proofs.lemmas.List.{append_cancel_left, nil_from_length, take_all, take_rest, take-take}
 use borrow.Rule.Slice.PartMut.{put_mid}
 use native.Mathlib.Decide.{dec_lt}
 use Rattle.piper.specs.ReaderCalls.{Drained, MeetClosed, MeetSame}
@@ -61,3 +61,11 @@ filled_and_drained n m q r s v w x source old new filled met closed fifo drained
 pub next_part : (i m k : ℕ) (xs ys text : List ℕ) → i ≤ length xs → m ≤ length ys → take i xs ≡ take i text → take m ys ≡ take m (take (length text - i) (drop i text))
     → take (i + m) (put_mid i k xs ys) ≡ take (i + m) text
 next_part i m k xs ys text within fits front next = grind (arith, common_steps, take-add, take_rest)
+
+-- the same, where the part is of a piece of the text that ends before the text does, as
+-- `&bytes[a..b]`
+pub next_piece : (i m n k : ℕ) (xs ys text : List ℕ) → i ≤ length xs → m ≤ length ys → m ≤ n → take i xs ≡ take i text → take m ys ≡ take m (take n (drop i text))
+    → take (i + m) (put_mid i k xs ys) ≡ take (i + m) text
+next_piece i m n k xs ys text within fits short front piece =
+    let next : take m ys ≡ take m (drop i text) = piece ∙ take-take m n (drop i text) short in
+    grind (arith, common_steps, take-add)

@@ -27,15 +27,17 @@ impl Reader {
     ghost use Rattle.piper_ring.specs.Looks.{looks_at};
     ghost use Rattle.piper.specs.Waits.{ReaderIsRefused, ReaderPends, ReaderWokeLast};
 
-    /// How many bytes are unread now: at least those that the reader knows of or learned of from a
-    /// mark, and at most the capacity. The writer may publish more at any time.
+    /// How many bytes are unread now.
+    ///
+    /// Returns: at least as many as are known or were reported by a mark, and at most the capacity.
+    /// The writer may publish more at any time.
     pub fn len(&self) -> usize
         ensures { MayBeUnread self.now result }
     {
         self.end().len()
     }
 
-    /// Whether nothing is unread now. It compares such a count as `len` returns with 0.
+    /// Whether no byte is unread now, by such a count as `len` returns.
     pub fn is_empty(&self) -> bool
         ensures { ReaderCompares self.now 0 result }
     {
@@ -49,16 +51,17 @@ impl Reader {
         self.end().capacity()
     }
 
-    /// Whether the pipe is full now. It compares such a count as `len` returns with the capacity.
+    /// Whether the pipe is full now, by such a count as `len` returns.
     pub fn is_full(&self) -> bool
         ensures { ReaderCompares self.now (capacity self.now) result }
     {
         self.end().is_full()
     }
 
-    /// Whether the pipe is closed now: a handle was dropped, or the writer closed the pipe. Once
-    /// the reader saw it closed, or learned from a mark that the writer closed it, the result is
-    /// `true`.
+    /// Whether the pipe is closed now: the writer was dropped, or closed it.
+    ///
+    /// Returns: `true` for good, though bytes may still be unread; always `true` once this reader
+    /// saw the pipe closed or learned it from a mark.
     pub fn is_closed(&self) -> bool
         ensures saw { saw self.now ≡ true → IsTrue result }
         ensures told { told_shut self.now ≡ true → IsTrue result }
@@ -69,12 +72,11 @@ impl Reader {
 
     /// Waits for a byte, or for the end.
     ///
-    /// Returns `true` once a byte is known, which `peek_buf` then lends; and `false` once the pipe
-    /// is closed and all that was ever published has been taken: this is final. Until then the call
-    /// is pending, and the task is woken when bytes are published or the pipe is closed. It checks
-    /// for more bytes only where none is known. Where none is found and no waker can be made it
-    /// fails with `OutOfMemory`, even if the pipe is closed: the waker is made before closed is
-    /// loaded.
+    /// Returns: `true` if a byte is known, which `peek_buf` lends; `false` at the end: the pipe is
+    /// closed, and every byte that was ever published has been taken. The end is final.
+    /// Pending: no byte is known, and the pipe was not seen closed.
+    /// Errors: `OutOfMemory` if no byte is known and no waker can be made, also at the end, since
+    /// the waker is made before closed is loaded.
     pub fn poll(&mut self, cx: &mut Context<'_>) -> Poll<Result<bool, OutOfMemory>>
         ensures ran { Ran (looks_at (end_of self.old) Purpose.Poll) (poll_answer result)
             (log self.old) (log self.new) }
@@ -95,9 +97,10 @@ impl Reader {
         Poll::Ready(Ok(true))
     }
 
-    /// The known bytes that are contiguous, the next one first; at least one where any is known.
-    /// The slice stays as it is while the writer writes and publishes. More bytes become known by a
-    /// look, as by `poll`.
+    /// Lends the known bytes that are contiguous, the next one first.
+    ///
+    /// Returns: at least one byte if any is known. An empty slice is not the end: a poll may find
+    /// more. The slice stays as it is while the writer publishes.
     pub fn peek_buf(&self) -> &[u8]
         ensures bytes { result.now ≡ take (front self.now) (known self.now) }
         ensures length { length result.now ≡ front self.now }
@@ -106,8 +109,11 @@ impl Reader {
         self.end().peek_buf()
     }
 
-    /// Takes the first `amt` bytes of what `peek_buf` lends, gives their places back, and wakes the
+    /// Takes the first `amt` bytes of what `peek_buf` lends, and gives their places back to the
     /// writer.
+    ///
+    /// Requires: `amt` is at most the length of what `peek_buf` lends.
+    /// Wakes: the writer, if it waits, also where `amt` is 0.
     #[inline(always)]
     pub fn consume(&mut self, amt: usize)
         requires { amt ≤ front self.old }
@@ -125,7 +131,7 @@ impl Reader {
         wake_other(&mut self.side);
     }
 
-    /// Evidence of how many bytes were consumed, for the writer to heed.
+    /// Evidence of how many bytes were taken, for the writer to heed.
     pub fn mark(&self) -> ReadMark
         ensures ring { result.names ≡ (ring self.now).names }
         ensures count { result.count ≡ length (taken self.now) }
@@ -133,12 +139,13 @@ impl Reader {
         self.end().mark()
     }
 
-    /// Closes the pipe and wakes the writer. The memory is freed if the writer is gone.
+    /// Closes the pipe, and frees its memory if the writer was dropped before. Unread bytes are
+    /// lost.
     ///
-    /// The result is evidence, for the writer's `meet_finished`: how many bytes were ever consumed,
-    /// and that the writer's slot was checked after the store that closed. Whoever was registered
-    /// there was taken, and is woken. Bytes that are unread are lost. The drop does not wake a task
-    /// that waited with this handle.
+    /// Returns: evidence for the writer's `meet_finished`: how many bytes were ever taken, and that
+    /// the writer's slot was checked after the close.
+    /// Wakes: the writer, if it waits. A task that is still registered at this reader may also be
+    /// woken: later by the writer, or by this call if the writer was dropped before.
     pub fn drop(self) -> FinishedReader
         ensures ran { Opened (Point.Reader ReadPoint.StoreClosed)
             (ends (Point.Reader ReadPoint.Dropped) Answer.Done) (log self) result.log }
@@ -177,15 +184,17 @@ impl Writer {
     ghost use Rattle.piper.specs.Waits.{WriterIsRefused, WriterLeavesNone, WriterPends, WriterWokeLast};
     ghost use Rattle.piper.specs.WriterCalls.{MayBeUnread, Polled, SameWriterButPublished, SameWriterButShut};
 
-    /// How many bytes are unread now: it counts all of those that the writer learned of from marks
-    /// as consumed. The reader may consume more at any time.
+    /// How many bytes are unread now.
+    ///
+    /// Returns: a count in which the known room is free, and bytes that a mark reported are taken.
+    /// Bytes that a dropped reader left unread are counted. The reader may take more at any time.
     pub fn len(&self) -> usize
         ensures { MayBeUnread self.now result }
     {
         self.end().len()
     }
 
-    /// Whether nothing is unread now. It compares such a count as `len` returns with 0.
+    /// Whether no byte is unread now, by such a count as `len` returns.
     pub fn is_empty(&self) -> bool
         ensures { WriterCompares self.now 0 result }
     {
@@ -199,15 +208,16 @@ impl Writer {
         self.end().capacity()
     }
 
-    /// Whether the pipe is full now. It compares such a count as `len` returns with the capacity.
+    /// Whether the pipe is full now, by such a count as `len` returns.
     pub fn is_full(&self) -> bool
         ensures { WriterCompares self.now (capacity self.now) result }
     {
         self.end().is_full()
     }
 
-    /// Whether the pipe is closed now: a handle was dropped, or this one closed the pipe. Once the
-    /// writer saw it closed, or closed it, the answer is `true`.
+    /// Whether the pipe is closed now: the reader was dropped, or this writer closed it.
+    ///
+    /// Returns: `true` for good; always `true` once this writer saw the pipe closed, or closed it.
     pub fn is_closed(&self) -> bool
         ensures saw { saw self.now ≡ true → IsTrue result }
         ensures found { FoundClosed (ring self.now).names result }
@@ -215,12 +225,13 @@ impl Writer {
         self.end().is_closed()
     }
 
-    /// Waits for room, or for the end.
+    /// Waits for room, or for the close of the pipe.
     ///
-    /// Returns `false` once the pipe is closed; and else `true` once there is room, which
-    /// `write_buf` then lends. Until then the call is pending, and the task is woken when bytes are
-    /// consumed or the pipe is closed. It checks for more room only where none is known. Where it
-    /// has to wait and no waker can be made it fails with `OutOfMemory`.
+    /// Returns: `true` if there is room, which `write_buf` lends; `false` if the pipe is closed,
+    /// even if there is room. `false` is final.
+    /// Pending: there is no room, and the pipe was not seen closed.
+    /// Errors: `OutOfMemory` if there is no room, the pipe was not seen closed, and no waker can be
+    /// made.
     pub fn poll(&mut self, cx: &mut Context<'_>) -> Poll<Result<bool, OutOfMemory>>
         ensures ran { Ran (Point.Writer (WritePoint.LookClosed Purpose.Poll)) (poll_answer result)
             (log self.old) (log self.new) }
@@ -240,8 +251,13 @@ impl Writer {
         Poll::Ready(Ok(true))
     }
 
-    /// Publishes the first `n` bytes of what is left of the slice last lent, as they are, and wakes
-    /// the reader.
+    /// Publishes the first `n` bytes of what is left of the slice last lent, as they are.
+    ///
+    /// It doesn't check whether the pipe is closed: nobody gets what is published after the
+    /// reader's drop.
+    ///
+    /// Requires: `n` is at most the length of what is left of the slice last lent.
+    /// Wakes: the reader, if it waits, also where `n` is 0.
     #[inline(always)]
     pub fn produced(&mut self, n: usize)
         requires { n ≤ length (lent self.old) }
@@ -259,8 +275,11 @@ impl Writer {
         wake_other(&mut self.side);
     }
 
-    /// Closes the pipe for good, and wakes both sides. Nothing is lent any more, and what was lent
-    /// is taken back. It is ready at once and doesn't fail: the result has the form of the trait's.
+    /// Closes the pipe for good. What was lent is taken back, unpublished, and nothing is lent any
+    /// more.
+    ///
+    /// Returns: `Ok(())`, at once and always: the result has the form of the trait's.
+    /// Wakes: the reader, if it waits, and a task that waits at this writer.
     pub fn poll_close(&mut self, cx: &mut Context<'_>) -> Poll<Result<(), OutOfMemory>>
         ensures ran { Ran (Point.Writer (WritePoint.StoreClosed AfterWrite.WakeWriter)) Answer.Done
             (log self.old) (log self.new) }
@@ -288,13 +307,13 @@ impl Writer {
         self.end().mark()
     }
 
-    /// Closes the pipe and wakes the reader, who can still read what is unread. The memory is freed
-    /// if the reader is gone.
+    /// Closes the pipe, and frees its memory if the reader was dropped before. Unread bytes can
+    /// still be read; what is lent is not published.
     ///
-    /// The result is evidence, for the reader's `meet_finished`: which bytes were ever published,
-    /// that the pipe is closed, and that the reader's slot was checked after the store that closed.
-    /// Whoever was registered there was taken, and is woken. The drop does not wake a task that
-    /// waited with this handle.
+    /// Returns: evidence for the reader's `meet_finished`: which bytes were ever published, and
+    /// that the reader's slot was checked after the close.
+    /// Wakes: the reader, if it waits. A task that is still registered at this writer may also be
+    /// woken: later by the reader, or by this call if the reader was dropped before.
     pub fn drop(self) -> FinishedWriter
         ensures ran { Opened (Point.Writer (WritePoint.StoreClosed AfterWrite.Drop))
             (ends (Point.Writer WritePoint.Dropped) Answer.Done) (log self) result.log }

@@ -6,7 +6,7 @@ use std::alloc::AllocError;
 use std::io;
 use thiserror::Error;
 
-/// What a copying call may fail with.
+/// What a call may fail with that reads or writes by std, or by a trait of `piper::io`.
 #[derive(Debug, Drop, Error)]
 pub enum PipeError {
     /// No waker could be made, or no room for bytes that are gathered.
@@ -17,7 +17,7 @@ pub enum PipeError {
     Io(io::Error),
 }
 
-/// What a copy over any source or destination may fail with.
+/// What a fill or a drain over any source or destination may fail with.
 #[derive(Debug, Drop)]
 pub enum Inner<E> {
     /// No waker could be made.

@@ -11,8 +11,9 @@ use rand_pcg::Pcg32;
 
 /// The reading side of a pipe.
 ///
-/// It is made by `pipe`, can't be cloned, and has to be spent by its call `drop`. Clauses see what
-/// it knows by functions of it: `taken`, `known`, `capacity` and others.
+/// It is made by `pipe`, can't be cloned, and has to be spent by its call `drop`.
+///
+/// In clauses, functions of the reader say what it knows: `taken`, `known`, `capacity` and others.
 pub struct Reader {
     pub(crate) side: ReadSide<Waker>,
     /// What its task waits at. A waker of it is called when it lies in its place no more.
@@ -22,8 +23,9 @@ pub struct Reader {
 
 /// The writing side of a pipe.
 ///
-/// It is made by `pipe`, can't be cloned, and has to be spent by its call `drop`. Clauses see what
-/// it knows by functions of it: `sent`, `room`, `capacity` and others.
+/// It is made by `pipe`, can't be cloned, and has to be spent by its call `drop`.
+///
+/// In clauses, functions of the writer say what it knows: `sent`, `room`, `capacity` and others.
 pub struct Writer {
     pub(crate) side: WriteSide<Waker>,
     /// What its task waits at. A waker of it is called when it lies in its place no more.

@@ -15,7 +15,7 @@ use crate::error::PipeError;
 pub use copy::{Copied, poll_copy};
 use futures::task::{Context, Poll};
 
-/// A reader that copies what it takes.
+/// A reader that puts what it takes into a slice.
 pub trait AsyncRead {
     ghost use Rattle.futures.specs.declared.task.context.Context.{Context};
     ghost use Rattle.piper.specs.declared.error.PipeError.{PipeError};
@@ -48,9 +48,13 @@ pub trait AsyncRead {
     // after, and the context: how many bytes it takes, for one
     ghost says: { Self → Self → Count → List ℕ → List ℕ → Context → Type 0 } = { λ _ _ _ _ _ _. ⊤ };
 
-    /// Takes bytes, puts them at the front of `dest`, and returns how many; 0 where `dest` has room
-    /// is the end, after which no byte comes and no call waits. A reader that was told of the end
-    /// is pending only where it asked for another poll itself.
+    /// Takes bytes, and puts them at the front of `dest`.
+    ///
+    /// Returns: how many bytes. 0 is the end if `dest` has room: after it no byte comes, and no
+    /// call is pending.
+    /// Pending: nothing was taken, and `dest` stays as it was. A reader that was told of the end is
+    /// pending only if it asked for another poll itself.
+    /// Errors: those of the type. Nothing was taken, and `dest` stays as it was.
     fn poll_read(&mut self, cx: &mut Context<'_>, dest: &mut [u8]) -> Poll<Result<usize, PipeError>>
         ensures read { Reads result dest.old dest.new
             (taken self.old) (taken self.new) (saw self.new) }
@@ -101,9 +105,11 @@ pub trait AsyncBufRead {
     // the other side was woken after all that this side stored
     ghost woken: { Self → Type 0 } = { λ _. ⊤ };
 
-    /// Lends the first piece of the bytes that it knows; an empty slice is the end, after which no
-    /// byte comes and no call waits. Bytes that were known stay known, and none is taken. A reader
-    /// that was told of the end is not pending.
+    /// Lends the first piece of the bytes that it knows.
+    ///
+    /// Returns: an empty slice only at the end: after it no byte comes, and no call is pending.
+    /// Pending: no byte is known. A reader that was told of the end is not pending.
+    /// Errors: those of the type. Bytes that were known stay known, and none is taken.
     fn poll_fill_buf(&mut self, cx: &mut Context<'_>) -> Poll<Result<&[u8], PipeError>>
         // said of the reader as it is once the slice is given back
         ensures* lent { sem 𝓛 (Rests Self.row self.entry (λ new.
@@ -121,6 +127,8 @@ pub trait AsyncBufRead {
         ensures kept { Keeps cx.old cx.new };
 
     /// Takes the first `amt` bytes of the piece.
+    ///
+    /// Requires: `amt` is at most the length of the piece.
     fn consume(&mut self, amt: usize)
         requires { amt ≤ piece self.old }
         ensures known { known self.new ≡ drop amt (known self.old) }
@@ -131,7 +139,7 @@ pub trait AsyncBufRead {
         ensures woken { woken self.old → woken self.new };
 }
 
-/// A writer.
+/// A writer that may be pending.
 pub trait AsyncWrite {
     ghost use Rattle.futures.specs.declared.task.context.Context.{Context};
     ghost use Rattle.piper.specs.declared.error.PipeError.{PipeError};
@@ -161,9 +169,13 @@ pub trait AsyncWrite {
     // context: how many bytes it publishes, for one
     ghost says: { Self → Self → Count → List ℕ → Context → Type 0 } = { λ _ _ _ _ _. ⊤ };
 
-    /// Publishes bytes from the front of `source`, and returns how many; 0 for a `source` that is
-    /// not empty says that the pipe is closed, and so does each later answer. Bytes that were
-    /// counted in the call that sees the pipe closed may be lost.
+    /// Publishes bytes from the front of `source`.
+    ///
+    /// Returns: how many bytes it counts. 0 for a `source` that is not empty says that the pipe is
+    /// closed, and so does each later answer. In the call that sees the pipe closed at most 131,072
+    /// of the counted bytes are lost.
+    /// Pending: nothing was published.
+    /// Errors: those of the type. Nothing was published.
     fn poll_write(&mut self, cx: &mut Context<'_>, source: &[u8]) -> Poll<Result<usize, PipeError>>
         ensures written { Writes result source.now (sent self.old) (sent self.new) (saw self.new) }
         ensures full { result ≡ Poll.Ready (Ok 0) →

@@ -1,4 +1,4 @@
-//! A bounded pipe of bytes between one reader and one writer.
+//! A bounded pipe of bytes between one reader and one writer, for threads and for polled tasks.
 #![tactic(auto)]
 
 mod calls;

@@ -31,8 +31,10 @@ pub trait ReadLike {
     // for how many bytes it asks next
     ghost wants: { Self → ℕ };
 
-    /// Reads bytes to the front of `dest`, and returns how many. A read that fails gives none,
-    /// though `dest` may be changed.
+    /// Reads bytes to the front of `dest`.
+    ///
+    /// Returns: how many bytes.
+    /// Errors: those of the type. None was given, though `dest` may be changed.
     fn read(&mut self, dest: &mut [u8]) -> Result<usize, Self::Error>
         ensures bound { IfOk result (λ n. n ≤ length dest.new) }
         ensures bytes { gives self.old (passed result dest.new) self.new }
@@ -40,8 +42,10 @@ pub trait ReadLike {
         ensures error { IfErr result (λ e. fails self.old e self.new) }
         ensures failures { Counts result (failures self.old) (failures self.new) };
 
-    /// How many bytes it asks to be lent next: 0 only where it has none left to give. A source that
-    /// can't tell asks for any other number.
+    /// How many bytes it asks to be lent next.
+    ///
+    /// Returns: 0 only if it has none left to give. A source that can't tell returns any other
+    /// number.
     fn asks(&self) -> usize
         ensures wanted { result ≡ wants self.now }
         ensures dry { result ≡ 0 → is_dry self.now };
@@ -71,8 +75,10 @@ pub trait WriteLike {
     // for how many bytes it asks next
     ghost wants: { Self → ℕ };
 
-    /// Writes bytes from the front of `source`, and returns how many. A write that fails takes
-    /// none.
+    /// Writes bytes from the front of `source`.
+    ///
+    /// Returns: how many bytes.
+    /// Errors: those of the type. None was taken.
     fn write(&mut self, source: &[u8]) -> Result<usize, Self::Error>
         ensures bound { IfOk result (λ n. n ≤ length source.now) }
         ensures bytes { takes self.old (passed result source.now) self.new }
@@ -80,8 +86,9 @@ pub trait WriteLike {
         ensures error { IfErr result (λ e. fails self.old e self.new) }
         ensures failures { Counts result (failures self.old) (failures self.new) };
 
-    /// How many bytes it asks for next: 0 only where it takes no more. A destination that can't
-    /// tell asks for any other number.
+    /// How many bytes it asks for next.
+    ///
+    /// Returns: 0 only if it takes no more. A destination that can't tell returns any other number.
     fn asks(&self) -> usize
         ensures wanted { result ≡ wants self.now }
         ensures full { result ≡ 0 → is_full self.now };

@@ -19,12 +19,13 @@ use std::alloc::Global;
 use std::marker::Model;
 use std::ops::{Deref, DerefMut};
 
-/// Where the generators of a pipe begin for which no seed is chosen.
+/// The seed of pipes for which no seed is chosen.
 pub const DEFAULT_SEED: u64 = 0;
 
-/// A reader that is dropped automatically: it closes the pipe and wakes the writer.
+/// A reader that is dropped automatically: that closes the pipe and wakes the writer.
 ///
-/// Each call of [`Reader`] can be made on it, with the same contract: in clauses it is its reader.
+/// Each call of [`Reader`] except `drop` can be made on it, with the same contract: in clauses it
+/// is its reader.
 pub struct OwnedReader {
     reader: Reader,
 }
@@ -37,9 +38,10 @@ impl Model for OwnedReader {
     ghost view = { λ owned. owned.reader };
 }
 
-/// A writer that is dropped automatically: it closes the pipe and wakes the reader.
+/// A writer that is dropped automatically: that closes the pipe and wakes the reader.
 ///
-/// Each call of [`Writer`] can be made on it, with the same contract: in clauses it is its writer.
+/// Each call of [`Writer`] except `drop` can be made on it, with the same contract: in clauses it
+/// is its writer.
 pub struct OwnedWriter {
     writer: Writer,
 }
@@ -54,7 +56,10 @@ impl Model for OwnedWriter {
 
 /// Creates a pipe of `cap` bytes whose handles are dropped automatically.
 ///
-/// It is `pipe` from the seed `DEFAULT_SEED`, with the same bounds of `cap` and the same error.
+/// Requires: `cap` is at least 1 and less than 2^63.
+/// Returns: both owners. The random generators begin as those of `pipe` with the seed
+/// `DEFAULT_SEED`.
+/// Errors: `OutOfMemory` if memory is refused; what was allocated is freed.
 pub fn owned_pipe(alloc: Global, cap: usize) -> Result<(OwnedReader, OwnedWriter), OutOfMemory>
     requires { (0 < cap) × (2 * cap < 2 ^ 64) }
     ensures pair { IfOk result (λ (reader, writer). ArePair reader writer) }
@@ -69,14 +74,14 @@ pub fn owned_pipe(alloc: Global, cap: usize) -> Result<(OwnedReader, OwnedWriter
 impl OwnedReader {
     ghost use Rattle.piper.specs.Owned.{lends_reader};
 
-    /// Takes the reader, so that a drop closes the pipe and wakes the writer.
+    /// Takes the reader, so that it is dropped automatically.
     pub fn new(reader: Reader) -> OwnedReader
         ensures { result ≡ reader }
     {
         OwnedReader { reader }
     }
 
-    /// The reader.
+    /// Lends the reader.
     pub fn get_mut(&mut self) -> &mut Reader
         ensures* lends { sem 𝓛 (lends_reader self.entry result) }
         ensures value { result.now ≡ self.old }
@@ -84,15 +89,14 @@ impl OwnedReader {
         &mut self.reader
     }
 
-    /// The reader, by a shared reference.
+    /// Lends the reader by a shared reference.
     pub fn get_ref(&self) -> &Reader
         ensures { result.now ≡ self.now }
     {
         &self.reader
     }
 
-    /// The reader itself, which has to be spent by its call `drop`. The pipe is as it was: it is
-    /// not closed.
+    /// Gives the reader itself, which has to be spent by its call `drop`. The pipe is not closed.
     pub fn into_inner(self) -> Reader
         ensures { result ≡ self }
     {
@@ -104,14 +108,14 @@ impl OwnedReader {
 impl OwnedWriter {
     ghost use Rattle.piper.specs.Owned.{lends_writer};
 
-    /// Takes the writer, so that a drop closes the pipe and wakes the reader.
+    /// Takes the writer, so that it is dropped automatically.
     pub fn new(writer: Writer) -> OwnedWriter
         ensures { result ≡ writer }
     {
         OwnedWriter { writer }
     }
 
-    /// The writer.
+    /// Lends the writer.
     pub fn get_mut(&mut self) -> &mut Writer
         ensures* lends { sem 𝓛 (lends_writer self.entry result) }
         ensures value { result.now ≡ self.old }
@@ -119,15 +123,14 @@ impl OwnedWriter {
         &mut self.writer
     }
 
-    /// The writer, by a shared reference.
+    /// Lends the writer by a shared reference.
     pub fn get_ref(&self) -> &Writer
         ensures { result.now ≡ self.now }
     {
         &self.writer
     }
 
-    /// The writer itself, which has to be spent by its call `drop`. The pipe is as it was: it is
-    /// not closed.
+    /// Gives the writer itself, which has to be spent by its call `drop`. The pipe is not closed.
     pub fn into_inner(self) -> Writer
         ensures { result ≡ self }
     {
@@ -187,6 +190,7 @@ impl DerefMut for OwnedWriter {
 impl Drop for OwnedReader {
     ghost use Rattle.piper.specs.OfReader.{ring};
 
+    /// As `Reader::drop`, whose evidence is dropped.
     fn drop(self)
         ensures { HasDropped (ring self).names }
     {
@@ -198,6 +202,7 @@ impl Drop for OwnedReader {
 impl Drop for OwnedWriter {
     ghost use Rattle.piper.specs.OfWriter.{ring};
 
+    /// As `Writer::drop`, whose evidence is dropped.
     fn drop(self)
         ensures { HasDropped (ring self).names }
     {

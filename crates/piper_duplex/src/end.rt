@@ -12,21 +12,23 @@ use piper::{FinishedReader, FinishedWriter, OutOfMemory, Reader, Writer, pipe};
 use std::alloc::Global;
 use std::fmt::{self, Debug, Formatter};
 
-/// One end of a duplex stream.
+/// One end of a duplex stream. It reads from one pipe and writes into the other.
 ///
 /// It is made by `duplex`, can't be cloned, and has to be spent: by its call `drop`, or by
-/// `into_halves`. In clauses, `reading` and `writing` are the handles that the calls `reader` and
-/// `writer` lend.
+/// `into_halves`.
+///
+/// In clauses, `reading` and `writing` are the handles that the calls `reader` and `writer` lend.
 pub struct End {
     reader: Reader,
     writer: Writer,
 }
 
-/// Creates a duplex stream: what the first end writes the second reads, through a pipe of `cap_a`
-/// bytes, and what the second writes the first reads, through one of `cap_b`.
+/// Creates a duplex stream, of a pipe for each way.
 ///
-/// Each capacity is at least 1 and less than 2^63. Both pipes take `seed`. Where memory is refused
-/// it fails with `OutOfMemory`, and what was allocated is freed.
+/// Requires: each capacity is at least 1 and less than 2^63.
+/// Returns: two ends. What the first writes the second reads, through a pipe of `cap_a` bytes; what
+/// the second writes the first reads, through one of `cap_b`. Both pipes take `seed`.
+/// Errors: `OutOfMemory` if memory is refused; what was allocated is freed.
 pub fn duplex(
     alloc: Global,
     cap_a: usize,
@@ -64,22 +66,22 @@ pub fn duplex(
 impl End {
     ghost use Rattle.piper_duplex.specs.Crosswise.{HaveMet};
 
-    /// The handle that reads what the other end writes.
+    /// Lends the handle that reads what the other end writes.
     pub fn reader(&self) -> &Reader
         ensures { result.now ≡ reading self.now }
     {
         &self.reader
     }
 
-    /// The handle that writes what the other end reads.
+    /// Lends the handle that writes what the other end reads.
     pub fn writer(&self) -> &Writer
         ensures { result.now ≡ writing self.now }
     {
         &self.writer
     }
 
-    /// Both handles, each for itself: for two tasks, or for a reader of lines over the one and
-    /// answers through the other.
+    /// Gives both handles, each for itself: for two tasks, or for a reader of lines over the one
+    /// and answers through the other. No pipe is closed.
     pub fn into_halves(self) -> (Reader, Writer)
         ensures reader { result.0 ≡ reading self }
         ensures writer { result.1 ≡ writing self }
@@ -88,8 +90,10 @@ impl End {
         (reader, writer)
     }
 
-    /// Both ends held by one thread: then each reader knows of all that the writer at the other end
-    /// published, in its order. It takes no memory.
+    /// Tells each handle of its other side, once one thread holds both ends, as `Reader::meet` does
+    /// for each of the two pipes.
+    ///
+    /// Requires: both are ends of one duplex stream.
     pub fn meet(&mut self, other: &mut End)
         requires there { of_writer.ring (writing self.old) ≡ ring (reading other.old) }
         requires back { of_writer.ring (writing other.old) ≡ ring (reading self.old) }
@@ -102,9 +106,13 @@ impl End {
         self.reader.meet(&mut other.writer);
     }
 
-    /// Closes both pipes, first the one that it writes into, and wakes who waits at the other end.
-    /// What is unread there can still be read. Returns what is left of both handles, for
-    /// `meet_finished` of the handles of the other end.
+    /// Closes both pipes, first the one that it writes into. What the other end has not read yet it
+    /// can still read.
+    ///
+    /// Returns: evidence for `meet_finished` of the other end's handles, as `drop` of both handles
+    /// gives it.
+    /// Wakes: who waits at the other end. A task that is still registered at this end may also be
+    /// woken, as by `Reader::drop` and `Writer::drop`.
     pub fn drop(self) -> (FinishedReader, FinishedWriter)
         ensures ring { (result.0.told.consumed.names ≡ (ring (reading self)).names)
             × (result.1.told.names ≡ (of_writer.ring (writing self)).names) }

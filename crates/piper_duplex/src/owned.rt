@@ -23,22 +23,23 @@ use piper::{DEFAULT_SEED, OutOfMemory, OwnedReader, OwnedWriter, PipeError};
 use std::alloc::Global;
 use std::fmt::{self, Debug, Formatter};
 
-/// One end of a duplex stream, dropped automatically: it closes both pipes, first the one that it
-/// writes into, and wakes who waits at the other end.
+/// An end of a duplex stream that is dropped automatically: that closes both pipes, first the one
+/// that it writes into, and wakes who waits at the other end.
 ///
-/// It moves into threads, tasks and closures. In clauses, `reading` and `writing` are its handles.
+/// It moves into threads, tasks and closures.
+///
+/// In clauses, `reading` and `writing` are its handles.
 #[derive(Drop)]
 pub struct OwnedEnd {
     writer: OwnedWriter,
     reader: OwnedReader,
 }
 
-/// Creates a duplex stream whose ends are dropped automatically: what the first end writes the
-/// second reads, through a pipe of `cap_a` bytes, and what the second writes the first reads,
-/// through one of `cap_b`.
+/// Creates a duplex stream whose ends are dropped automatically.
 ///
-/// It is `duplex` from the seed `DEFAULT_SEED`, with the same bounds of both capacities and the
-/// same error.
+/// Requires: each capacity is at least 1 and less than 2^63.
+/// Returns: two ends, as of `duplex` with the seed `DEFAULT_SEED`.
+/// Errors: `OutOfMemory` if memory is refused; what was allocated is freed.
 pub fn owned_duplex(
     alloc: Global,
     cap_a: usize,
@@ -57,7 +58,7 @@ pub fn owned_duplex(
 }
 
 impl OwnedEnd {
-    /// Takes the end, so that a drop closes both pipes and wakes who waits at the other end.
+    /// Takes the end, so that it is dropped automatically.
     pub fn new(end: End) -> OwnedEnd
         ensures reader { reading result ≡ reading_of end }
         ensures writer { writing result ≡ writing_of end }
@@ -69,22 +70,22 @@ impl OwnedEnd {
         }
     }
 
-    /// The handle that reads what the other end writes.
+    /// Lends the owner that reads what the other end writes.
     pub fn reader(&self) -> &OwnedReader
         ensures { result.now ≡ reading self.now }
     {
         &self.reader
     }
 
-    /// The handle that writes what the other end reads.
+    /// Lends the owner that writes what the other end reads.
     pub fn writer(&self) -> &OwnedWriter
         ensures { result.now ≡ writing self.now }
     {
         &self.writer
     }
 
-    /// Both handles, each for itself: for two threads, or for a reader of lines over the one and
-    /// answers through the other. No pipe is closed.
+    /// Gives both owners, each for itself: for two threads, or for a reader of lines over the one
+    /// and answers through the other. No pipe is closed.
     pub fn into_halves(self) -> (OwnedReader, OwnedWriter)
         ensures reader { result.0 ≡ reading self }
         ensures writer { result.1 ≡ writing self }

@@ -16,11 +16,17 @@ pub struct Copying<R, W> {
     state: Option<(R, W)>,
 }
 
-/// Copies all bytes from the reader to the writer, in order, up to the end of the one or the close
-/// of the other, and gives both back with why it ended.
+/// Copies all bytes from the reader to the writer, in order, up to the reader's end or the close of
+/// the writer's pipe.
 ///
-/// It holds no bytes of its own: where it fails, as where it is dropped, all that was taken is
-/// written, but for what is lost where the writer's pipe is closed.
+/// As `poll_copy`, it sees the close only once a byte is known.
+///
+/// Returns: a future of the reader, the writer, and why it ended.
+/// Pending: a call of the reader or of the writer is pending; or 64 pieces were copied, and the
+/// task is polled again.
+/// Errors: that of the reader or of the writer. `left` has both.
+/// Cancel safety: as long as the writer has not seen its pipe closed, all that was taken is
+/// published, so a dropped future loses none.
 pub fn copy<R: AsyncBufRead + Drop, W: AsyncWrite + Drop>(reader: R, writer: W) -> Copying<R, W>
     ensures { StartsCopy result reader writer }
 {

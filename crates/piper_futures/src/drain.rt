@@ -28,12 +28,15 @@ pub struct Draining<R, D> {
     state: Option<(R, D)>,
 }
 
-/// Moves all bytes of the reader, in order, into a writer of std, up to the reader's end, and gives
-/// both back.
+/// Moves all bytes of the reader into a writer of std, up to the reader's end.
 ///
-/// Each write blocks the thread. It holds no bytes of its own: where it fails, as where it is
-/// dropped, all that was taken is written. A writer that takes none of some bytes fails with the
-/// kind `WriteZero`. What the writer holds back is not flushed.
+/// Each write blocks the thread. `dest` is not flushed.
+///
+/// Returns: a future of the reader and `dest`.
+/// Pending: no byte has come; or 64 pieces were moved, and the task is polled again.
+/// Errors: the reader's own; that of `dest`; or one of the kind `WriteZero`, if `dest` takes none
+/// of some bytes. `left` has the reader and `dest`.
+/// Cancel safety: a byte is taken only once it was written, so a dropped future loses none.
 pub fn drain_into<R: AsyncBufRead + Drop, D: Write + Drop>(reader: R, dest: D) -> Draining<R, D>
     ensures { StartsDraining result reader dest }
 {
@@ -77,11 +80,13 @@ impl<R: AsyncBufRead + Drop, D: Write + Drop> Future for Draining<R, D> {
     }
 }
 
-/// Moves the bytes of the reader into `dest`, up to the reader's end.
+/// Moves the bytes of the reader into a writer of std, up to the reader's end.
 ///
-/// Bytes are taken once they are written: after an error, as where it is pending, the next poll
-/// goes on from there. After 64 pieces it asks for another poll. An error is the reader's own, or
-/// that of `dest` as it came.
+/// Returns: `Ok(())` at the reader's end. `dest` is not flushed.
+/// Pending: no byte has come; or 64 pieces were moved, and the task is polled again.
+/// Errors: the reader's own; that of `dest`; or one of the kind `WriteZero`, if `dest` takes none
+/// of some bytes.
+/// Cancel safety: a byte is taken only once it was written, and the next poll goes on from there.
 pub fn poll_drain_into<R: AsyncBufRead, D: Write>(
     reader: &mut R,
     cx: &mut Context<'_>,

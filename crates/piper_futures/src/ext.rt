@@ -74,7 +74,7 @@ pub trait AsyncBufReadExt: AsyncBufRead {
 
 impl<R: AsyncBufRead> AsyncBufReadExt for R {}
 
-/// Calls of a writer, each a future that owns it; all but one give it back.
+/// Calls of a writer, each a future that owns it. All but `write_all_and_close` give it back.
 pub trait AsyncWriteExt: AsyncWrite {
     /// As the function [`write_all`].
     final fn write_all<'a>(self, bytes: &'a [u8]) -> WriteAll<'a, Self>

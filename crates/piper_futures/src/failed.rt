@@ -6,9 +6,9 @@ use std::fmt::{Formatter, Write};
 use std::{fmt, io};
 use thiserror::Error;
 
-/// What a future owned when it failed, and the error.
+/// The error of a future that failed, and what it owned.
 ///
-/// Shown, it is the error alone.
+/// `{}` and `{:?}` print the error alone.
 #[derive(Drop, Error)]
 #[error("{error}")]
 pub struct Failed<T> {

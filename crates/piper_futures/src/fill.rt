@@ -24,13 +24,16 @@ use std::io::Read;
 
 /// A writer that readers of std can read into, with no bytes held in between.
 pub trait AsyncFill: AsyncWrite {
-    /// Publishes what `source` gives, up to its end or the close of the pipe, and returns which it
-    /// was; where both hold, it may be either.
+    /// Publishes what a reader of std gives, up to its end or the close of the pipe.
     ///
-    /// It asks for another poll where bytes came, and waits for no pipe that was seen closed. After
-    /// an answer other than that the pipe is closed, all that `source` gave is published, and the
-    /// next poll goes on from there. An error is want of memory for a waker, or the source's own,
-    /// as it came.
+    /// As long as the writer has not seen its pipe closed, all that `source` gave is published. The
+    /// poll in which it sees the close may have lost bytes that `source` gave, with any answer.
+    ///
+    /// Returns: `ToTheEnd` or `UntilClosed`; if both hold it may be either.
+    /// Pending: the writer's call is pending; or bytes came, and the task is polled again. A pipe
+    /// that was seen closed is not waited for.
+    /// Errors: `Memory`, if no waker can be made, or the error of `source` as it came.
+    /// Cancel safety: the next poll goes on from where this one ended.
     fn poll_fill_from<S: Read>(
         &mut self,
         cx: &mut Context<'_>,
@@ -134,12 +137,17 @@ pub struct Filling<W, S> {
     state: Option<(W, S)>,
 }
 
-/// Moves all that a reader of std gives into the writer's pipe, in order, up to its end or the
-/// close of the pipe, and gives both back with why it ended.
+/// Moves all that a reader of std gives into the writer's pipe, up to the reader's end or the close
+/// of the pipe.
 ///
-/// Each read blocks the thread, so it belongs on a thread of its own. It holds no bytes of its own:
-/// where it fails, as where it is dropped, all that was read is published, but for what is lost
-/// where the pipe is closed.
+/// Each read blocks the thread, so it belongs on a thread of its own.
+///
+/// Returns: a future of the writer, `source`, and why it ended.
+/// Pending: the writer's call is pending; or bytes came, and the task is polled again.
+/// Errors: `Memory`, if no waker can be made, or the error of `source`. `left` has the writer and
+/// `source`.
+/// Cancel safety: as long as the writer has not seen its pipe closed, all that was read is
+/// published, so a dropped future loses none.
 pub fn fill_from<W: AsyncFill + Drop, S: Read + Drop>(writer: W, source: S) -> Filling<W, S>
     ensures { StartsFilling result writer source }
 {

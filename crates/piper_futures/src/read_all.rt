@@ -27,10 +27,13 @@ pub struct ReadToEnd<R> {
     state: Option<(R, Vec<u8>)>,
 }
 
-/// Appends all bytes of the reader to `bytes`, in order, up to its end, and gives both back.
+/// Appends all bytes of the reader to `bytes`, up to its end.
 ///
-/// Where the reader fails or memory is refused, what is left is the reader and the bytes that came
-/// before; memory is asked for before bytes are taken, so none is lost.
+/// Returns: a future of the reader and `bytes`.
+/// Pending: no byte has come; or 64 pieces were taken, and the task is polled again.
+/// Errors: the reader's own; or `Memory`, before the bytes are taken that lack room. `left` has the
+/// reader, and `bytes` with all that was taken.
+/// Cancel safety: a dropped future drops `bytes`, with all that was taken.
 pub fn read_to_end<R: AsyncBufRead + Drop>(reader: R, bytes: Vec<u8>) -> ReadToEnd<R>
     ensures { StartsReadingAll result reader bytes }
 {
@@ -76,8 +79,10 @@ impl<R: AsyncBufRead + Drop> Future for ReadToEnd<R> {
 
 /// Appends the bytes of the reader to `bytes`, up to its end.
 ///
-/// Memory is asked for before bytes are taken: after an error, as where it is pending, the next
-/// poll goes on from there. After 64 pieces it asks for another poll.
+/// Returns: `Ok(())` at the reader's end.
+/// Pending: no byte has come; or 64 pieces were taken, and the task is polled again.
+/// Errors: the reader's own; or `Memory`, before the bytes are taken that lack room.
+/// Cancel safety: what was taken is in `bytes`, and the next poll goes on from there.
 pub fn poll_read_to_end<R: AsyncBufRead>(
     reader: &mut R,
     cx: &mut Context<'_>,

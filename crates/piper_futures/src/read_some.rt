@@ -18,10 +18,13 @@ pub struct ReadOnce<R> {
     state: Option<(R, Vec<u8>)>,
 }
 
-/// Waits for a byte, puts what came to the front of `places`, and gives both back with how many
-/// came; 0 for `places` that are not empty is the end.
+/// Waits for a byte, and puts what came at the front of `places`.
 ///
-/// Where the reader fails, what is left is the reader and the places as they were.
+/// Returns: a future of the reader, `places`, and how many bytes came: 0 is the end, if there are
+/// places.
+/// Pending: no byte has come.
+/// Errors: the reader's own. `left` has the reader, and `places` as they were.
+/// Cancel safety: a dropped future has taken no byte.
 pub fn read<R: AsyncRead + Drop>(reader: R, places: Vec<u8>) -> ReadOnce<R>
     ensures { StartsReading result reader places }
 {

@@ -28,12 +28,16 @@ pub struct ReadUntil<R> {
     byte: u8,
 }
 
-/// Appends bytes of the reader to `bytes`, in order, through the first that is `byte`, or up to the
-/// reader's end, and gives both back.
+/// Appends bytes of the reader to `bytes`, through the first that is `byte`, or up to the reader's
+/// end.
 ///
-/// Where the reader fails or memory is refused, what is left is the reader and the bytes that came
-/// before; memory is asked for before bytes are taken, so none is lost. Nothing bounds how many
-/// bytes come: `piper_lines` has a limit.
+/// Nothing bounds how many bytes come: the lines of `piper_lines` have a limit.
+///
+/// Returns: a future of the reader and `bytes`.
+/// Pending: no byte has come; or 64 pieces were taken, and the task is polled again.
+/// Errors: the reader's own; or `Memory`, before the bytes are taken that lack room. `left` has the
+/// reader, and `bytes` with all that was taken.
+/// Cancel safety: a dropped future drops `bytes`, with all that was taken.
 pub fn read_until<R: AsyncBufRead + Drop>(reader: R, byte: u8, bytes: Vec<u8>) -> ReadUntil<R>
     ensures { StartsReadingThrough result reader byte bytes }
 {
@@ -78,11 +82,13 @@ impl<R: AsyncBufRead + Drop> Future for ReadUntil<R> {
     }
 }
 
-/// Appends bytes of the reader to `bytes`, through the first that is `byte`, and then returns true,
-/// or up to the reader's end, and then returns false.
+/// Appends bytes of the reader to `bytes`, through the first that is `byte`, or up to the reader's
+/// end.
 ///
-/// Memory is asked for before bytes are taken: after an error, as where it is pending, the next
-/// poll goes on from there. After 64 pieces it asks for another poll.
+/// Returns: `true` after a `byte`, `false` at the reader's end.
+/// Pending: no byte has come; or 64 pieces were taken, and the task is polled again.
+/// Errors: the reader's own; or `Memory`, before the bytes are taken that lack room.
+/// Cancel safety: what was taken is in `bytes`, and the next poll goes on from there.
 pub fn poll_read_until<R: AsyncBufRead>(
     reader: &mut R,
     cx: &mut Context<'_>,

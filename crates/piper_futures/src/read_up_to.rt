@@ -20,11 +20,15 @@ pub struct ReadExact<R> {
     size: usize,
 }
 
-/// Appends bytes of the reader to `bytes`, in order, until there are `size` of them, and gives both
-/// back; fewer than that only at the reader's end.
+/// Appends bytes of the reader to `bytes`, until there are `size` of them.
 ///
-/// Where the reader fails or memory is refused, what is left is the reader and the bytes that came
-/// before; memory is asked for before bytes are taken, so none is lost.
+/// Requires: `bytes` has at most `size` bytes.
+/// Returns: a future of the reader and `bytes`, which has fewer than `size` only at the reader's
+/// end.
+/// Pending: no byte has come.
+/// Errors: the reader's own; or `Memory`, before the bytes are taken that lack room. `left` has the
+/// reader, and `bytes` with all that was taken.
+/// Cancel safety: a dropped future drops `bytes`, with all that was taken.
 pub fn read_exact<R: AsyncBufRead + Drop>(reader: R, bytes: Vec<u8>, size: usize) -> ReadExact<R>
     requires { length bytes.items ≤ size }
     ensures { StartsReadingUpTo result reader bytes size }

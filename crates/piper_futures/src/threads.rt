@@ -66,11 +66,14 @@ impl<D: Write> Promise<Result<(OwnedReader, D), Failed<Option<Drained<D>>>>> for
 }
 
 /// Starts a thread that moves all that `source` gives into the pipe, as `fill_from` does, and then
-/// drops the writer, which closes the pipe. The thread's result comes with the join: until then
-/// what was read of the pipe may be only a part of the source.
+/// drops the writer, which closes the pipe.
 ///
-/// Where no thread can be made, writer and source are dropped, and also where the thread's own wait
-/// fails, which is want of memory.
+/// Until the join what was read of the pipe may be only a part of the source.
+///
+/// Returns: a handle whose `join` gives the source with the writer's last mark, and why it ended;
+/// or the failure of `fill_from`, with `None` left if the thread's own wait failed for want of
+/// memory.
+/// Errors: no thread can be made. The writer and `source` are dropped.
 pub fn spawn_fill<H, S>(
     rt: &H,
     writer: OwnedWriter,
@@ -92,12 +95,12 @@ where
     reported(spawned.map_err(io::Error::from))
 }
 
-/// Starts a thread that moves all bytes of the pipe into `dest`, as `drain_into` does. The thread's
-/// result comes with the join. Where the drain fails, the thread drops the reader, which closes the
-/// pipe. What `dest` holds back is not flushed.
+/// Starts a thread that moves all bytes of the pipe into `dest`, as `drain_into` does. If that
+/// fails the thread drops the reader, which closes the pipe.
 ///
-/// Where no thread can be made, reader and `dest` are dropped, and also where the thread's own wait
-/// fails, which is want of memory.
+/// Returns: a handle whose `join` gives the reader and `dest`; or the failure of `drain_into`, with
+/// `None` left if the thread's own wait failed for want of memory.
+/// Errors: no thread can be made. The reader and `dest` are dropped.
 pub fn spawn_drain<H, D>(
     rt: &H,
     reader: OwnedReader,

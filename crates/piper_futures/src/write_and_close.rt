@@ -21,12 +21,17 @@ pub struct WriteAllAndClose<'a, W> {
     written: usize,
 }
 
-/// Writes all bytes, in order, closes the writer, drops it, and gives how many bytes are written:
-/// fewer than all only where its pipe was closed before.
+/// Writes all bytes, in order, closes the writer, and drops it, also if it fails. So the other side
+/// gets its end while a `join` still holds what this future gave.
 ///
-/// The writer is dropped also where it fails; what is left then is how many bytes were written. So
-/// the other side gets its end while what this future gave is still held, as by a `join`. It asks
-/// for no memory. Bytes that were counted in the poll that sees the pipe closed may be lost.
+/// It asks for no memory. If the writer has not seen its pipe closed before it closes it, all
+/// counted bytes are published; in the poll that sees it closed some may be lost.
+///
+/// Returns: a future of how many bytes the writer counted: fewer than all only if its pipe was
+/// closed before.
+/// Pending: the writer's call is pending.
+/// Errors: the writer's own. `left` says how many bytes it counted.
+/// Cancel safety: a dropped future has written a front of `bytes`, and drops the writer.
 pub fn write_all_and_close<'a, W: AsyncWrite + Drop>(
     writer: W,
     bytes: &'a [u8],

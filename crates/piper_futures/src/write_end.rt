@@ -21,7 +21,11 @@ pub struct Closing<W> {
     writer: Option<W>,
 }
 
-/// Waits until what was written is on its way, and gives the writer back, also where it fails.
+/// Waits until what was written is on its way.
+///
+/// Returns: a future of the writer.
+/// Pending: the writer's flush is.
+/// Errors: the writer's own. `left` is the writer.
 pub fn flush<W: AsyncWrite + Drop>(writer: W) -> Flushing<W>
     ensures { StartsFlushing result writer }
 {
@@ -30,7 +34,12 @@ pub fn flush<W: AsyncWrite + Drop>(writer: W) -> Flushing<W>
     }
 }
 
-/// Closes the writer's pipe for good, and gives the writer back, also where it fails.
+/// Closes the writer's pipe for good.
+///
+/// Returns: a future of the writer.
+/// Pending: the writer's close is.
+/// Errors: the writer's own. `left` is the writer.
+/// Cancel safety: a dropped future may not have closed the pipe; the writer's drop does.
 pub fn close<W: AsyncWrite + Drop>(writer: W) -> Closing<W>
     ensures { StartsClosing result writer }
 {

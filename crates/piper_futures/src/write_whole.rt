@@ -19,11 +19,16 @@ pub struct WriteAll<'a, W> {
     written: usize,
 }
 
-/// Writes all bytes, in order, and gives the writer back with how many are written: fewer than all
-/// only where its pipe is closed.
+/// Writes all bytes, in order.
 ///
-/// Where the writer fails, what is left is the writer, and how many bytes were written before. It
-/// asks for no memory. Bytes that were counted in the poll that sees the pipe closed may be lost.
+/// It asks for no memory. As long as the writer has not seen its pipe closed, all counted bytes are
+/// published; in the poll that sees it closed some may be lost.
+///
+/// Returns: a future of the writer and how many bytes it counted: fewer than all only if its pipe
+/// is closed.
+/// Pending: the writer's call is pending.
+/// Errors: the writer's own. `left` has the writer and how many bytes it counted.
+/// Cancel safety: a dropped future has written a front of `bytes`, and doesn't say how many.
 pub fn write_all<'a, W: AsyncWrite + Drop>(writer: W, bytes: &'a [u8]) -> WriteAll<'a, W>
     ensures { StartsWriting result writer bytes.now }
 {

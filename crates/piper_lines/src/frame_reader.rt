@@ -21,21 +21,22 @@ use std::mem;
 pub enum FrameAnswer {
     /// A whole frame, of at most as many bytes as the limit.
     Frame,
-    /// The next frame has this many bytes, which are more than the limit. None of them was taken by
-    /// this poll.
+    /// The next frame has this many bytes, which are more than the limit. This poll took none of
+    /// them.
     TooLong(usize),
     /// The end of the reader, inside a frame.
     Truncated,
-    /// The end of the reader, after a whole frame.
+    /// The end of the reader, after a whole frame. Each later poll answers `End` again, or fails.
     End,
 }
 
-/// The frames of a reader: pieces of bytes with their length before them.
+/// The frames of a reader: each is a length, and then a body of that many bytes.
 ///
-/// What was taken of a frame that has not come to its end is kept from poll to poll. In clauses,
-/// `reader_of` is the reader, `format_of` says how the length is reported, `header_of` and
-/// `body_of` the bytes that are kept of the length and of the frame itself, `kept_of` all of them,
-/// and `skips_of` how many bytes of a skipped frame have still to pass.
+/// Bytes of a frame that has not come to its end are kept from poll to poll.
+///
+/// In clauses, `reader_of` is the reader, `format_of` says how the length is reported, `header_of`
+/// and `body_of` are the bytes that are kept of the length and of the body, `kept_of` all of them,
+/// and `skips_of` says how many bytes of a skipped frame have still to pass.
 #[derive(Drop)]
 pub struct Frames<R> {
     reader: R,
@@ -55,8 +56,8 @@ impl<R: AsyncBufRead> Frames<R> {
     ghost use Rattle.piper_lines.specs.FrameAnswers.{EndsAgain, HandsFrame, OnEnd, handed};
     ghost use Rattle.piper_lines.specs.Moves.{PassesMoves};
 
-    /// The frames whose length is reported in four bytes, the most significant first. Nothing is
-    /// kept yet, and no memory is asked for.
+    /// The frames whose length is four bytes, the most significant first. Nothing is kept yet, and
+    /// no memory is asked for.
     pub fn new(alloc: Global, reader: R) -> Frames<R>
         ensures reader { reader_of result ≡ reader }
         ensures format { format_of result ≡ usual_header }
@@ -66,7 +67,8 @@ impl<R: AsyncBufRead> Frames<R> {
         Frames::with_header(alloc, reader, FrameHeader::FourBytes(ByteOrder::BigEndian))
     }
 
-    /// The frames whose length is reported in this way.
+    /// The frames whose length is reported in this way. Nothing is kept yet, and no memory is asked
+    /// for.
     pub fn with_header(alloc: Global, reader: R, format: FrameHeader) -> Frames<R>
         ensures reader { reader_of result ≡ reader }
         ensures format { format_of result ≡ format }
@@ -84,7 +86,7 @@ impl<R: AsyncBufRead> Frames<R> {
         }
     }
 
-    /// The reader. What is kept of a frame stays.
+    /// Lends the reader. What is kept of a frame stays.
     pub fn reader_mut(&mut self) -> &mut R
         ensures value { result.now ≡ reader_of self.old }
         ensures* writes_back { sem 𝓛 (lends_reader R.row self.entry result) }
@@ -106,8 +108,10 @@ impl<R: AsyncBufRead> Frames<R> {
         reader
     }
 
-    /// Gives up the frame whose length was reported: the next polls pass over its bytes, and then
-    /// take the frame after it.
+    /// Gives up the next frame: the polls that follow take its bytes and drop them, and then take
+    /// the frame after it.
+    ///
+    /// Requires: the whole length of the frame was taken, as it is after `TooLong`.
     pub fn skip(&mut self)
         requires { length (header_of self.old) ≡ header_size (format_of self.old) }
         ensures reader { reader_of self.new ≡ reader_of self.old }
@@ -121,13 +125,17 @@ impl<R: AsyncBufRead> Frames<R> {
         self.header.clear();
     }
 
-    /// Replaces `frame` by the next frame of the reader, if that has at most `limit` bytes.
+    /// Replaces `frame` by the body of the reader's next frame, if that has at most `limit` bytes.
     ///
-    /// It is empty where no frame is handed out: on another answer, where the poll is pending, and
-    /// on an error. What was taken by then is kept, and the next poll goes on from there. Memory is
-    /// asked for before bytes are taken, so a refusal loses none. After `TooLong` the caller can
-    /// skip the frame, ask again with another limit, or stop. A pending poll is woken by the
-    /// reader, or at once where it has passed over many bytes.
+    /// After `TooLong` the caller can `skip` the frame, ask again with another limit, or stop.
+    ///
+    /// Returns: whether `frame` is a whole body, or why there is none; then it is empty.
+    /// Pending: the reader knows no byte, and its call is pending; or 64 pieces of a skipped frame
+    /// were passed over, and the task is polled again. `frame` is empty.
+    /// Errors: the reader's own; or `Memory`, before the bytes are taken that lack room. `frame` is
+    /// empty.
+    /// Cancel safety: the next poll goes on from where this one ended. What was taken of an
+    /// unfinished frame is dropped with the `Frames`.
     pub fn poll_frame(
         &mut self,
         cx: &mut Context<'_>,

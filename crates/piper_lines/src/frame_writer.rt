@@ -23,7 +23,7 @@ use thiserror::Error;
 #[error("a body of more bytes than the header of its frame can encode")]
 pub struct BodyTooLong;
 
-/// What is left of a frame that is being written: the length of a body, and the body.
+/// A frame that is being written: what is left of its length, and of its body.
 ///
 /// In clauses, `left_of` are the bytes that are left.
 #[derive(Drop)]
@@ -39,8 +39,10 @@ pub struct WriteFrame<'a> {
 impl<'a> WriteFrame<'a> {
     ghost use Rattle.piper_lines.specs.FrameWriter.{left_of};
 
-    /// The frame with this body, none of which is written yet: its length in four bytes, the most
-    /// significant first, and the body.
+    /// The frame with this body, none of which is written yet. Its length is four bytes, the most
+    /// significant first.
+    ///
+    /// Requires: the body has fewer than 2^32 bytes.
     pub fn new(body: &'a [u8]) -> WriteFrame<'a>
         requires { length body.now < 2 ^ 32 }
         ensures { left_of result ≡ frame_bytes usual_header body.now }
@@ -48,8 +50,9 @@ impl<'a> WriteFrame<'a> {
         WriteFrame::begin(FrameHeader::FourBytes(ByteOrder::BigEndian), body)
     }
 
-    /// The frame with this body, whose length is reported in this way, unless that form can't hold
-    /// the length.
+    /// The frame with this body, whose length is reported in this way.
+    ///
+    /// Errors: `BodyTooLong` if the header can't report the length.
     pub fn with_header(format: FrameHeader, body: &'a [u8]) -> Result<WriteFrame<'a>, BodyTooLong>
         ensures fits { IsOk result ↔ CanEncode format (length body.now) }
         ensures whole { IfOk result (λ frame. left_of frame ≡ frame_bytes format body.now) }
@@ -73,11 +76,12 @@ impl<'a> WriteFrame<'a> {
         }
     }
 
-    /// Writes what is left of the frame.
+    /// Writes what is left of the frame, as `poll_write_all` does.
     ///
-    /// Where it is pending, or on an error, the rest is left for the next poll. It is woken by the
-    /// writer, and asks for no memory of its own. Bytes that were counted in the poll that sees the
-    /// pipe closed may be lost.
+    /// Returns: whether all of it was counted, or the pipe is closed with some left.
+    /// Pending: bytes are left, and the writer's call is pending.
+    /// Errors: the writer's own.
+    /// Cancel safety: the next poll goes on from where this one ended.
     pub fn poll<W: AsyncWrite>(
         &mut self,
         cx: &mut Context<'_>,

@@ -15,11 +15,13 @@ use piper::io::AsyncBufRead;
 /// How many pieces a poll passes over at most, so that other tasks get their turn.
 const MOST_PIECES: u32 = 64;
 
-/// Takes bytes from the reader to the end of `gathered`, until it has `size` of them; false at the
-/// end of the reader.
+/// Takes bytes from the reader to the end of `gathered`, until that has `size` bytes.
 ///
-/// Memory is asked for before bytes are taken: after an error, as where it is pending, the next
-/// poll goes on from there.
+/// Requires: `gathered` has at most `size` bytes.
+/// Returns: `true` once there are `size` bytes; `false` at the reader's end, with fewer.
+/// Pending: the reader knows no byte, and its call is pending.
+/// Errors: the reader's own; or `Memory`, before the bytes are taken that lack room.
+/// Cancel safety: what was taken is in `gathered`, and the next poll goes on from there.
 pub fn fill_up<R: AsyncBufRead>(
     reader: &mut R,
     cx: &mut Context<'_>,

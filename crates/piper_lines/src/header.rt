@@ -69,6 +69,8 @@ impl FrameHeader {
     }
 
     /// The bytes that report this length.
+    ///
+    /// Requires: the header can report it, which `can_encode` tests.
     pub fn encode(self, size: usize) -> LengthBytes
         requires { CanEncode self size }
         ensures { shown_of result ≡ length_bytes self size }

@@ -1,4 +1,4 @@
-//! Lines and frames over any reader that lends, and over any writer.
+//! Lines and frames, read from any reader that lends its bytes and written to any writer.
 #![tactic(auto)]
 
 mod collect;

@@ -23,20 +23,20 @@ use std::mem;
 pub enum LineAnswer {
     /// A whole line with the byte that ends it, of at most as many bytes as the limit.
     Line,
-    /// As many bytes as the limit, or all that was kept where that is more, none of which ends a
-    /// line.
+    /// As many bytes as the limit, none of which ends a line; or all that was kept, if that is
+    /// more.
     TooLong,
     /// What follows the last line, at the end of the reader.
     Last,
-    /// The end of the reader, with nothing left of a line. After it, and after `Last`, each poll
-    /// returns it again.
+    /// The end of the reader, with nothing left of a line. Each poll after it, and after `Last`,
+    /// answers `End` again, or fails.
     End,
 }
 
 impl LineAnswer {
     ghost use Rattle.piper_lines.specs.LineAnswers.{at_end};
 
-    /// Whether the reader ended, so that no line comes after this answer.
+    /// Whether the reader has ended, so that no line comes after this answer.
     pub fn is_end(self) -> bool
         ensures { result ≡ at_end self }
     {
@@ -49,9 +49,10 @@ impl LineAnswer {
 
 /// The lines of a reader.
 ///
-/// What was taken of a line that has not come to its end is kept from poll to poll. In clauses,
-/// `reader_of` is the reader, `end_of` the byte that ends a line, and `kept_of` the bytes that are
-/// kept.
+/// Bytes of a line that has not come to its end are kept from poll to poll.
+///
+/// In clauses, `reader_of` is the reader, `end_of` the byte that ends a line, and `kept_of` the
+/// bytes that are kept.
 #[derive(Drop)]
 pub struct Lines<R> {
     reader: R,
@@ -82,7 +83,7 @@ impl<R: AsyncBufRead> Lines<R> {
         Lines { reader, kept, end }
     }
 
-    /// The reader. What is kept of a line stays.
+    /// Lends the reader. What is kept of a line stays.
     pub fn reader_mut(&mut self) -> &mut R
         ensures value { result.now ≡ reader_of self.old }
         ensures* writes_back { sem 𝓛 (lends_reader R.row self.entry result) }
@@ -102,12 +103,15 @@ impl<R: AsyncBufRead> Lines<R> {
         reader
     }
 
-    /// Replaces `line` by the next line of the reader, up to `limit` bytes of it.
+    /// Replaces `line` by the next line of the reader, with the byte that ends it.
     ///
-    /// It is empty where nothing is handed out: at the end, where the poll is pending, and on an
-    /// error. What was taken by then is kept, and the next poll goes on from there. Memory is asked
-    /// for before bytes are taken, so a refusal loses none. A pending poll is woken by the reader.
-    /// It fails with the reader's error, or with `Memory`.
+    /// Requires: `limit`, which counts the byte that ends the line, is at least 1.
+    /// Returns: what `line` is now, or that the reader has ended.
+    /// Pending: the reader knows no byte, and its call is pending. `line` is empty.
+    /// Errors: the reader's own; or `Memory`, before the bytes are taken that lack room. `line` is
+    /// empty.
+    /// Cancel safety: the next poll goes on from where this one ended. What was taken of an
+    /// unfinished line is dropped with the `Lines`.
     pub fn poll_line(
         &mut self,
         cx: &mut Context<'_>,

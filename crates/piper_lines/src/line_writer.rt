@@ -14,7 +14,7 @@ use piper::PipeError;
 use piper::io::AsyncWrite;
 use std::fmt::{self, Debug, Formatter};
 
-/// What is left of a line that is being written: a text, and the byte that ends it.
+/// A line that is being written: what is left of a text, and of the byte that ends it.
 ///
 /// In clauses, `left_of` are the bytes that are left.
 #[derive(Drop)]
@@ -34,8 +34,8 @@ pub fn is_one_line(text: &[u8]) -> bool
     lacks(text, b'\n')
 }
 
-/// Whether the text has no such byte, so that with one after it it is one line of those that end
-/// with it.
+/// Whether the text has no such byte, so that with one after it it is one of the lines which that
+/// byte ends.
 pub fn lacks(text: &[u8], end: u8) -> bool
     ensures { IsTrue result ↔ Lacks end text.now }
 {
@@ -46,6 +46,8 @@ impl<'a> WriteLine<'a> {
     ghost use Rattle.piper_lines.specs.LineWriter.{left_of};
 
     /// The text with an LF after it, none of which is written yet.
+    ///
+    /// Requires: the text has no LF, which `is_one_line` tests.
     pub fn new(text: &'a [u8]) -> WriteLine<'a>
         requires { Lacks line_feed text.now }
         ensures { left_of result ≡ text.now ++ line_feed ∷ [] }
@@ -54,6 +56,8 @@ impl<'a> WriteLine<'a> {
     }
 
     /// The text with this byte after it, none of which is written yet.
+    ///
+    /// Requires: the text has no such byte, which `lacks` tests.
     pub fn ended_by(text: &'a [u8], end: u8) -> WriteLine<'a>
         requires { Lacks end text.now }
         ensures { left_of result ≡ text.now ++ end ∷ [] }
@@ -66,11 +70,12 @@ impl<'a> WriteLine<'a> {
         }
     }
 
-    /// Writes what is left of the line.
+    /// Writes what is left of the line, as `poll_write_all` does.
     ///
-    /// Where it is pending, or on an error, the rest is left for the next poll. It is woken by the
-    /// writer, and asks for no memory of its own. Bytes that were counted in the poll that sees the
-    /// pipe closed may be lost.
+    /// Returns: whether all of it was counted, or the pipe is closed with some left.
+    /// Pending: bytes are left, and the writer's call is pending.
+    /// Errors: the writer's own.
+    /// Cancel safety: the next poll goes on from where this one ended.
     pub fn poll<W: AsyncWrite>(
         &mut self,
         cx: &mut Context<'_>,

@@ -2,8 +2,8 @@
 ghost use Rattle.std.specs.Prelude.{◌≡◌, ◌++◌, ◌∷◌, [], MatchOption};
 ghost use Rattle.piper_lines.specs.Text.{EndsIn, IsTextOf};
 
-/// The line without the LF at its end, and without a CR before that LF. A piece that does not end
-/// with LF comes as it is.
+/// The line without the LF at its end, and without a CR before that LF. A piece without LF at its
+/// end comes as it is.
 pub fn line_text(line: &[u8]) -> &[u8]
     ensures { IsTextOf line.now result.now }
 {
@@ -16,7 +16,7 @@ pub fn line_text(line: &[u8]) -> &[u8]
     }
 }
 
-/// The same of a line that is owned, as a stream of lines yields it. No memory is asked for.
+/// As `line_text`, of a line that is owned, as a stream of lines yields it. It asks for no memory.
 pub fn into_line_text(line: Vec<u8>) -> Vec<u8>
     ensures { IsTextOf line.items result.items }
 {

@@ -13,17 +13,23 @@ use piper::io::AsyncWrite;
 /// How a write of bytes ended.
 #[derive(Clone, Copy, Debug, PartialEq, Eq)]
 pub enum Written {
-    /// All of them are written.
+    /// All of them were counted by the writer.
     Whole,
-    /// The writer's pipe is closed.
+    /// The writer's pipe is closed, and some of them are left.
     Closed,
 }
 
-/// Writes what is left of `bytes`, from `written` on, and adds what it wrote to `written`.
+/// Writes `bytes` from `written` on, and adds to `written` how many the writer counted.
 ///
-/// Where it is pending, or on an error, the next poll goes on from there. It is woken by the
-/// writer, and asks for no memory of its own. Bytes that were counted in the poll that sees the
-/// pipe closed may be lost.
+/// It asks for no memory of its own. As long as the writer has not seen its pipe closed, all
+/// counted bytes are published; in the poll that sees it closed some may be lost, even if the
+/// answer is `Whole`.
+///
+/// Requires: `written` is at most the length of `bytes`.
+/// Returns: whether all were counted, or the pipe is closed with some left.
+/// Pending: bytes are left, and the writer's call is pending.
+/// Errors: the writer's own.
+/// Cancel safety: the next poll goes on from `written`.
 pub fn poll_write_all<W: AsyncWrite>(
     writer: &mut W,
     cx: &mut Context<'_>,

@@ -8,9 +8,11 @@ use crate::line_stream::LineStream;
 use piper::io::AsyncBufRead;
 use std::alloc::Global;
 
-/// The lines of a reader, as a call on it.
+/// The lines of a reader, by a call on it.
 pub trait LinesExt: AsyncBufRead {
-    /// As [`LineStream::new`]: the lines of at most `limit` bytes that end with LF.
+    /// The lines of at most `limit` bytes that end with LF, as `LineStream::new` gives them.
+    ///
+    /// Requires: `limit`, which counts the LF, is at least 1.
     final fn lines(self, alloc: Global, limit: usize) -> LineStream<Self>
     where
         Self: Sized + Drop,

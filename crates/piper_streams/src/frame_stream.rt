@@ -18,11 +18,11 @@ use std::io::ErrorKind;
 
 /// The bodies of a reader's frames, as a stream.
 ///
-/// A frame of more bytes than the limit is reported by an error of the kind `InvalidData`, and an
-/// end inside a frame by one of the kind `UnexpectedEof`; after either the stream ends, and
-/// `into_frames` gives what is kept. After another error it goes on where it was. In clauses,
-/// `frames_of` are the frames below, `frame_limit_of` the limit, and `is_over` whether the stream
-/// has ended.
+/// Cancel safety: a `next()` that is dropped loses nothing. What was taken of an unfinished frame
+/// is dropped with the stream.
+///
+/// In clauses, `frames_of` are the frames below, `frame_limit_of` is the limit, and `is_over` says
+/// whether the stream has ended.
 #[derive(Drop)]
 pub struct FrameStream<R> {
     frames: Frames<R>,
@@ -35,8 +35,8 @@ pub struct FrameStream<R> {
 impl<R: AsyncBufRead + Drop> FrameStream<R> {
     ghost use Rattle.piper_streams.specs.FrameStream.{frames_of, frame_limit_of, is_over};
 
-    /// The frames of at most `limit` bytes, whose length is reported in four bytes, the most
-    /// significant first. Memory is asked for where a frame comes.
+    /// The frames of at most `limit` bytes, whose length is four bytes, the most significant first.
+    /// It asks for no memory before a frame comes.
     pub fn new(alloc: Global, reader: R, limit: usize) -> FrameStream<R>
         ensures reader { reader_of (frames_of result) ≡ reader }
         ensures format { format_of (frames_of result) ≡ usual_header }
@@ -69,8 +69,8 @@ impl<R: AsyncBufRead + Drop> FrameStream<R> {
         }
     }
 
-    /// Gives the frames below back, with what is kept: to skip a frame that is too long, or to take
-    /// it with another limit.
+    /// Gives the frames below, with what is kept: to skip a frame that is too long, or to take it
+    /// with another limit.
     pub fn into_frames(self) -> Frames<R>
         ensures { result ≡ frames_of self }
     {
@@ -93,6 +93,14 @@ impl<R: AsyncBufRead + Drop> Stream for FrameStream<R> {
 
     ghost yields = { YieldsFrames R.taken R.known R.saw R.fails };
 
+    /// The body of the next frame.
+    ///
+    /// Returns: `Some` body; `None` at the reader's end.
+    /// Pending: the reader knows no byte, and its call is pending; or bytes were taken, and the
+    /// task is polled again.
+    /// Errors: the reader's own, or `Memory`, before the bytes are taken that lack room: after
+    /// these the stream goes on where it was. `InvalidData` if the frame has more bytes than the
+    /// limit, `UnexpectedEof` if the reader ends inside a frame: after these the stream has ended.
     fn poll_next(&mut self, cx: &mut Context<'_>) -> Poll<Option<Self::Item>>
         ensures value { IfReady result (YieldsFrames R.taken R.known R.saw R.fails self.old []) }
         ensures rest { IfReady result (λ o. IfSome o (λ x.

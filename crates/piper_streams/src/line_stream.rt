@@ -15,12 +15,16 @@ use piper_lines::{LineAnswer, Lines};
 use std::alloc::Global;
 use std::fmt::{self, Debug, Formatter};
 
-/// The lines of a reader, each with the byte that ends it, as a stream; the last is what follows
-/// the last line.
+/// The lines of a reader, each with the byte that ends it, as a stream. The last item is what
+/// follows the last line.
 ///
-/// A line of more bytes than the limit comes in pieces of that many. After an error the stream goes
-/// on where it was: what was taken of a line is kept. In clauses, `lines_of` are the lines below,
-/// `limit_of` the limit, and `ended_of` whether the end was reported.
+/// A line of more bytes than the limit comes in pieces of that many.
+///
+/// Cancel safety: a `next()` that is dropped loses nothing. What was taken of an unfinished line is
+/// dropped with the stream.
+///
+/// In clauses, `lines_of` are the lines below, `limit_of` is the limit, and `ended_of` says whether
+/// the end was reported.
 #[derive(Drop)]
 pub struct LineStream<R> {
     lines: Lines<R>,
@@ -34,7 +38,10 @@ pub struct LineStream<R> {
 impl<R: AsyncBufRead + Drop> LineStream<R> {
     ghost use Rattle.piper_streams.specs.LineStream.{lines_of, limit_of, ended_of};
 
-    /// The lines of at most `limit` bytes that end with LF. Memory is asked for where a line comes.
+    /// The lines of at most `limit` bytes that end with LF. It asks for no memory before a line
+    /// comes.
+    ///
+    /// Requires: `limit`, which counts the byte that ends a line, is at least 1.
     pub fn new(alloc: Global, reader: R, limit: usize) -> LineStream<R>
         requires { 0 < limit }
         ensures reader { reader_of (lines_of result) ≡ reader }
@@ -47,6 +54,8 @@ impl<R: AsyncBufRead + Drop> LineStream<R> {
     }
 
     /// The lines of at most `limit` bytes that end with this byte.
+    ///
+    /// Requires: `limit`, which counts that byte, is at least 1.
     pub fn split(alloc: Global, reader: R, end: u8, limit: usize) -> LineStream<R>
         requires { 0 < limit }
         ensures reader { reader_of (lines_of result) ≡ reader }
@@ -86,6 +95,13 @@ impl<R: AsyncBufRead + Drop> Stream for LineStream<R> {
 
     ghost yields = { YieldsLines R.taken R.known R.saw R.fails };
 
+    /// The next line.
+    ///
+    /// Returns: `Some` line with the byte that ends it, or a piece of one; at the reader's end what
+    /// follows the last line, and then `None`.
+    /// Pending: the reader knows no byte, and its call is pending.
+    /// Errors: the reader's own; or `Memory`, before the bytes are taken that lack room. After an
+    /// error the stream goes on where it was.
     fn poll_next(&mut self, cx: &mut Context<'_>) -> Poll<Option<Self::Item>>
         ensures value { IfReady result (YieldsLines R.taken R.known R.saw R.fails self.old []) }
         ensures rest { IfReady result (λ o. IfSome o (λ x.

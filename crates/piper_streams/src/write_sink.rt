@@ -18,12 +18,14 @@ use std::alloc::Global;
 use std::fmt::{self, Debug, Formatter};
 use std::io;
 
-/// Writes each piece of bytes that it is sent as it is, whole and in order: lines with their LF, or
-/// frames.
+/// Writes each piece of bytes that it is sent as it is, whole and in order.
 ///
-/// It holds one piece at a time, and asks for no memory. Where the writer's pipe is closed, the
-/// error is of the kind `BrokenPipe`; bytes that were counted in the poll that sees it closed may
-/// be lost. In clauses, `writer_of` is the writer, and `left_of` what is left of the piece.
+/// It holds one piece at a time, and asks for no memory.
+///
+/// Cancel safety: a `send` that is dropped after `start_send` leaves its piece in the sink, and the
+/// next call writes it on. A dropped sink drops what is left of its piece.
+///
+/// In clauses, `writer_of` is the writer, and `left_of` is what is left of the piece.
 #[derive(Drop)]
 pub struct WriteSink<W> {
     writer: W,
@@ -35,7 +37,7 @@ pub struct WriteSink<W> {
 impl<W: AsyncWrite + Drop> WriteSink<W> {
     ghost use Rattle.piper_streams.specs.Sent.{left_of, writer_of};
 
-    /// Nothing is sent yet.
+    /// The sink over this writer. Nothing is sent yet.
     pub fn new(alloc: Global, writer: W) -> WriteSink<W>
         ensures writer { writer_of result ≡ writer }
         ensures left { left_of result ≡ [] }
@@ -47,7 +49,7 @@ impl<W: AsyncWrite + Drop> WriteSink<W> {
         }
     }
 
-    /// Gives the writer back, and what is left of the last piece goes.
+    /// Gives the writer back. What is left of the last piece is dropped.
     pub fn into_writer(self) -> W
         ensures { result ≡ writer_of self }
     {
@@ -106,6 +108,11 @@ impl<W: AsyncWrite + Drop> Sink<Vec<u8>> for WriteSink<W> {
 
     ghost needs = { λ sink. W.needs (writer_of sink) };
 
+    /// Writes what is left of the last piece, so that the next one can be sent.
+    ///
+    /// Pending: the writer's call is pending.
+    /// Errors: the writer's own; or one of the kind `BrokenPipe`, if the pipe was seen closed and
+    /// bytes are left. In the poll that sees it closed counted bytes may be lost.
     fn poll_ready(&mut self, cx: &mut Context<'_>) -> Poll<Result<(), PipeError>>
         ensures ready { IfReady result (λ r. OnOk r (left_of self.new ≡ [])) }
         ensures history { (xs : _) → WasSent W.sent W.saw self.old xs
@@ -118,6 +125,9 @@ impl<W: AsyncWrite + Drop> Sink<Vec<u8>> for WriteSink<W> {
         self.poll_write(cx)
     }
 
+    /// Keeps the piece. It doesn't fail.
+    ///
+    /// Requires: nothing is left of the last piece, as after `poll_ready`.
     fn start_send(&mut self, item: Vec<u8>) -> Result<(), PipeError>
         requires { left_of self.old ≡ [] }
         ensures answer { result ≡ Ok (record {}) }
@@ -130,6 +140,10 @@ impl<W: AsyncWrite + Drop> Sink<Vec<u8>> for WriteSink<W> {
         Ok(())
     }
 
+    /// Writes what is left of the last piece, and flushes the writer.
+    ///
+    /// Pending: the writer's call, or its flush, is pending.
+    /// Errors: as `poll_ready`.
     fn poll_flush(&mut self, cx: &mut Context<'_>) -> Poll<Result<(), PipeError>>
         ensures flushed { IfReady result (λ r. OnOk r (IsFlushed W.flushed self.new)) }
         ensures history { (xs : _) → WasSent W.sent W.saw self.old xs
@@ -145,6 +159,10 @@ impl<W: AsyncWrite + Drop> Sink<Vec<u8>> for WriteSink<W> {
         }
     }
 
+    /// Writes what is left of the last piece, and closes the writer's pipe.
+    ///
+    /// Pending: the writer's call, or its close, is pending.
+    /// Errors: as `poll_ready`.
     fn poll_close(&mut self, cx: &mut Context<'_>) -> Poll<Result<(), PipeError>>
         ensures closed { IfReady result (λ r. OnOk r (IsClosed W.flushed W.saw self.new)) }
         ensures history { (xs : _) → WasSent W.sent W.saw self.old xs

@@ -24,11 +24,13 @@ use piper_duplex::End;
 use std::io;
 use tokio::io::{AsyncBufRead, AsyncRead, AsyncWrite};
 
-/// An end of a duplex stream, as a reader and a writer of `tokio`. Where it is dropped it closes
-/// both pipes, first the one that it writes into, and wakes who waits at the other end.
+/// An end of a duplex stream, as a reader and a writer of `tokio`.
+///
+/// It is dropped automatically: that closes both pipes, first the one that it writes into, and
+/// wakes who waits at the other end.
 ///
 /// In clauses, `read_half` and `write_half` are what `into_halves` gives, and `reading` and
-/// `writing` their handles.
+/// `writing` are their handles.
 #[derive(Drop)]
 pub struct CompatEnd {
     writer: CompatWriter,
@@ -36,7 +38,7 @@ pub struct CompatEnd {
 }
 
 impl CompatEnd {
-    /// Takes the end, so that a drop closes both pipes and wakes who waits at the other end.
+    /// Takes the end.
     pub fn new(end: End) -> CompatEnd
         ensures reader { reading result ≡ reading_of end }
         ensures shown { shown_by (read_half result) ≡ [] }
@@ -49,7 +51,7 @@ impl CompatEnd {
         }
     }
 
-    /// Both halves, each for itself: for two tasks.
+    /// Gives both halves, each for itself: for two tasks. No pipe is closed.
     pub fn into_halves(self) -> (CompatReader, CompatWriter)
         ensures reader { result.0 ≡ read_half self }
         ensures writer { result.1 ≡ write_half self }
@@ -73,6 +75,7 @@ impl AsyncRead for CompatEnd {
     ghost reads_in_order = { λ a xs b ys c p q.
         (took_in_order (reading a) xs (reading b) ys (reading c) p.0 q.0, q.1 ∙ p.1) };
 
+    /// As `poll_read` of the half that reads.
     fn poll_read(&mut self, cx: &mut Context<'_>, buf: &mut [u8]) -> Poll<io::Result<usize>>
         ensures bound { count_moved result ≤ length buf.new }
         ensures bytes { Took (reading self.old) (bytes_moved result buf.new) (reading self.new)
@@ -93,6 +96,7 @@ impl AsyncRead for CompatEnd {
 impl AsyncBufRead for CompatEnd {
     ghost buffered = { λ compat. shown_by (read_half compat) };
 
+    /// As `poll_fill_buf` of the half that reads.
     fn poll_fill_buf(&mut self, cx: &mut Context<'_>) -> Poll<io::Result<()>>
         ensures bytes { Took (reading self.old) [] (reading self.new)
             × (write_half self.new ≡ write_half self.old) }
@@ -114,6 +118,7 @@ impl AsyncBufRead for CompatEnd {
         self.reader.buffer()
     }
 
+    /// As `consume` of the half that reads.
     fn consume(&mut self, amount: usize)
         requires { amount ≤ length (shown_by (read_half self.old)) }
         ensures bytes { Took (reading self.old) (take amount (shown_by (read_half self.old)))
@@ -145,6 +150,7 @@ impl AsyncWrite for CompatEnd {
     ghost writes_in_order = { λ a xs b ys c p q.
         (gave_in_order (writing a) xs (writing b) ys (writing c) p.0 q.0, q.1 ∙ p.1) };
 
+    /// As `poll_write` of the half that writes.
     fn poll_write(&mut self, cx: &mut Context<'_>, buf: &[u8]) -> Poll<io::Result<usize>>
         ensures bound { count_moved result ≤ length buf.now }
         ensures bytes { Gave (writing self.old) (bytes_moved result buf.now)
@@ -161,6 +167,7 @@ impl AsyncWrite for CompatEnd {
         self.writer.poll_write(cx, buf)
     }
 
+    /// As `poll_flush` of the half that writes.
     fn poll_flush(&mut self, cx: &mut Context<'_>) -> Poll<io::Result<()>>
         ensures answer { result ≡ Poll.Ready (Ok (record {})) }
         ensures bytes { Gave (writing self.old) [] (writing self.new)
@@ -171,6 +178,7 @@ impl AsyncWrite for CompatEnd {
         self.writer.poll_flush(cx)
     }
 
+    /// As `poll_shutdown` of the half that writes.
     fn poll_shutdown(&mut self, cx: &mut Context<'_>) -> Poll<io::Result<()>>
         ensures answer { result ≡ Poll.Ready (Ok (record {})) }
         ensures bytes { Gave (writing self.old) [] (writing self.new)

@@ -6,10 +6,12 @@ mod streams;
 
 use piper::{Reader, Writer};
 
-/// The reading side of a pipe, as a reader of `tokio`. Where it is dropped it closes the pipe and
-/// wakes the writer.
+/// The reading side of a pipe, as a reader of `tokio`.
 ///
-/// In clauses, `handle_of` is its handle, and `shown_by` the bytes that `buffer` shows.
+/// It is dropped automatically: that closes the pipe and wakes the writer.
+///
+/// In clauses, `handle_of` is its handle, and `shown_by` are the bytes that `buffer` shows. `reads
+/// a xs b` says that the handle `a` took the bytes `xs`, in this order, and is `b` now (`Took`).
 pub struct CompatReader {
     reader: Reader,
     // `tokio` asks that `buffer` shows what is left of one piece and no more, until the next fill.
@@ -24,10 +26,12 @@ impl Drop for CompatReader {
     }
 }
 
-/// The writing side of a pipe, as a writer of `tokio`. Where it is dropped it closes the pipe and
-/// wakes the reader.
+/// The writing side of a pipe, as a writer of `tokio`.
 ///
-/// In clauses, `writing` is its handle.
+/// It is dropped automatically: that closes the pipe and wakes the reader.
+///
+/// In clauses, `writing` is its handle. `writes a xs b` says that a front of `xs` was published,
+/// and all of it unless the pipe was seen closed (`Gave`).
 pub struct CompatWriter {
     writer: Writer,
 }

@@ -30,32 +30,36 @@ use std::thread::Threads;
 use std::time::Clock;
 
 /// How many bytes a transfer holds and moves at a time.
+///
+/// A value of this type keeps to the bounds of its fields: a program is built only if they are
+/// proved where the value is made.
 #[derive(Clone, Copy, Debug, PartialEq, Eq)]
 pub struct Sizes {
-    /// How many bytes the pipe can hold.
+    /// How many bytes the pipe can hold: at least 1 and less than 2^63.
     pub capacity: usize,
-    /// How many bytes one read or write is asked for at most.
+    /// How many bytes one read or write is asked for at most: at least 1.
     pub chunk: usize,
-    /// How many bytes are to be in the pipe before the first is written, and again once it ran dry;
-    /// at most what it can hold.
+    /// How many bytes are to be in the pipe before the first is written, and again once it ran dry:
+    /// at most `capacity`.
     pub level: usize,
     ghost fits: { (0 < capacity) × (2 * capacity < 2 ^ 64) × (0 < chunk)
         × (level ≤ capacity) },
 }
 
 /// Moves all bytes from the reader to the writer, through a pipe: one thread reads while the other
-/// writes.
+/// writes. If a second thread is refused, both sides take turns on this one.
 ///
 /// It ends at the input's end, once all of it is written, or at the first failure of either side. A
-/// read that fails ends it once all that came before is written. Where a write fails or takes
-/// nothing, what is still in the pipe is dropped, and the input is read no further once a read that
-/// is under way has ended. A read or a write that is interrupted is made again, and one that would
-/// block is made again after a sleep of at most 10 milliseconds. Where a second thread is refused,
-/// both sides take turns on this one. `meter` is kept up to date meanwhile.
+/// read or a write that is interrupted is made again, and so is one that would block, after a sleep
+/// of 1 to 10 milliseconds. `meter` is kept up to date meanwhile.
 ///
-/// Where all that the input gave is written, with `Ok` or with the input's error, the output is
-/// flushed after the last byte; a flush that fails is reported in place of the input's error. An
-/// error that is reported is one that its side returned, and `Full` says that a write took nothing.
+/// Returns: `Ok(())`: all that the input gave is written, and the output is flushed.
+/// Errors: `Read`: all that the input gave before is written, and the output is flushed. `Write`: a
+/// write or a flush failed; the output has a front of what the input gave, and the input is read no
+/// further, except for a read that is under way. A flush that fails after a failed read is reported
+/// in its place. `Full`: a write took none of some bytes; else as `Write`. `Memory`: it was refused
+/// for the pipe, and nothing was moved, or for a waker. `Turns`: a thread could not be made to
+/// wait. In all cases the output was given a front of what the input gave, in order.
 pub fn transfer<R, S, D>(
     rt: &R,
     source: &mut S,

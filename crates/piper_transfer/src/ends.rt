@@ -7,9 +7,8 @@ ghost use Rattle.piper_transfer.specs.Taken.{StaysTaken, WriteTakes};
 use piper::like::{StdReader, StdWriter};
 use std::io;
 
-/// What a transfer reads.
-///
-/// It is a reader that can say which errors it fails with. A reader of std is one as a `Plain`.
+/// What a transfer reads: a reader that can say which errors it fails with. A reader of std is one
+/// as a `Plain`.
 pub trait Source {
     ghost use Rattle.std.specs.declared.io.Error.{Error};
 
@@ -19,17 +18,17 @@ pub trait Source {
     // a read has failed with this error, and left it so
     ghost fails: { Self → Error → Type 0 } = { λ _ _. ⊤ };
 
-    /// Reads bytes to the front of `buf`, and returns how many; 0 where `buf` has room is the end.
+    /// Reads bytes to the front of `buf`.
+    ///
+    /// Returns: how many bytes. 0 is the end if `buf` has room.
     fn read(&mut self, buf: &mut [u8]) -> io::Result<usize>
         ensures bound { ReadsAtMost result buf.new }
         ensures bytes { ReadConsumes (remaining self.old) (remaining self.new) result buf.new }
         ensures error { IfErr result (fails self.new) };
 }
 
-/// What a transfer writes.
-///
-/// It is a writer that can say what became of the bytes that it took, what it has flushed, and
-/// which errors it fails with. A writer of std is one as a `Plain`.
+/// What a transfer writes: a writer that can say what it took and flushed, and which errors it
+/// fails with. A writer of std is one as a `Plain`.
 pub trait Destination {
     ghost use Rattle.std.specs.declared.io.Error.{Error};
 
@@ -48,7 +47,9 @@ pub trait Destination {
     // a write or a flush has failed with this error, and left it so
     ghost fails: { Self → Error → Type 0 } = { λ _ _. ⊤ };
 
-    /// Writes bytes from the front of `buf`, and returns how many.
+    /// Writes bytes from the front of `buf`.
+    ///
+    /// Returns: how many bytes.
     fn write(&mut self, buf: &[u8]) -> io::Result<usize>
         ensures bound { WritesAtMost result buf.now }
         ensures bytes { WriteAppends (contents self.old) (contents self.new) result buf.now }

@@ -9,13 +9,13 @@ use thiserror::Error;
 /// Why a transfer stopped before the input's end was written.
 #[derive(Debug, Drop, Error)]
 pub enum TransferError {
-    /// Reading the input failed. All that it gave before was written.
+    /// Reading the input failed with this error. All that it gave before was written and flushed.
     #[error("reading the input failed: {0}")]
     Read(io::Error),
-    /// Writing the output failed.
+    /// A write to the output, or its flush, failed with this error.
     #[error("writing the output failed: {0}")]
     Write(io::Error),
-    /// The output takes no more bytes.
+    /// A write to the output took none of some bytes.
     #[error("the output takes no more bytes")]
     Full,
     /// Memory was refused: for the pipe, or for a waker.

@@ -1,5 +1,6 @@
 //! Moves bytes from a reader to a writer through a pipe: one thread reads and another writes, so
-//! neither waits for the other while the pipe has room and bytes.
+//! that a slow read does not hold up the writes, as long as the pipe has bytes, nor a slow write
+//! the reads, as long as it has room.
 #![tactic(auto)]
 
 mod both_sides;

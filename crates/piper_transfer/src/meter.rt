@@ -5,16 +5,15 @@ use std::sync::atomic::{AtomicU64, Ordering};
 use std::sync::{Mutex, Wait};
 use std::time::{Clock, Duration, Instant};
 
-/// That a `Side` is the one that reads the input.
+/// Says that a `Side` is the one that reads the input.
 #[derive(Clone, Copy)]
 pub struct OfInput(());
 
-/// That a `Side` is the one that writes the output.
+/// Says that a `Side` is the one that writes the output.
 #[derive(Clone, Copy)]
 pub struct OfOutput(());
 
-/// What a side of a transfer has done so far. `K` says which side it is, so that neither is taken
-/// for the other.
+/// What a side of a transfer has done so far. `K` says which side it is.
 #[derive(Drop)]
 pub struct Side<K> {
     bytes: AtomicU64,
@@ -27,9 +26,9 @@ pub struct Side<K> {
 
 /// What both sides of a transfer have done so far. Other threads may read it at any time.
 ///
-/// It only counts, so transfers move the same bytes and answer the same whichever of them share
-/// one, after another or at once. Of those at once it counts all bytes; of waits that overlap, the
-/// last one from its begin to whichever ends first.
+/// Transfers may share one, after another or at once, and move the same bytes then. Of those at
+/// once it counts all bytes; of waits that overlap it counts the last one, from its begin to
+/// whichever ends first.
 #[derive(Drop)]
 pub struct Meter {
     /// The side that reads the input; it waits for room.
@@ -53,8 +52,8 @@ impl<K> Side<K> {
         self.bytes.load(Ordering::SeqCst)
     }
 
-    /// How long it has waited for the other side, with the wait that is under way. A clock that
-    /// can't be read counts none.
+    /// How long it has waited for the other side, with a wait that is under way. If the clock can't
+    /// be read, that wait counts nothing.
     pub fn waited<R: Wait + Clock>(&self, rt: &R) -> Duration {
         let since = *self.since.lock(rt);
         let under_way = nanoseconds_since(rt, since);

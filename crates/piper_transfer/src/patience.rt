@@ -67,7 +67,8 @@ impl Patience {
     }
 }
 
-/// Whether a call that failed so is not made again: it was not interrupted, and would not block.
+/// Whether a call that failed with this error is not made again: it was not interrupted, and would
+/// not block.
 pub fn is_lasting(error: &io::Error) -> bool
     ensures { IsTrue result ↔ IsLasting error.now }
 {
@@ -126,7 +127,10 @@ where
     unreachable!()
 }
 
-/// Flushes. Where that could not be done for now, it is tried again.
+/// Flushes the output. A flush that is interrupted is made again, and so is one that would block,
+/// after a sleep of 1 to 10 milliseconds.
+///
+/// Errors: that of the output; it is of another kind than these two.
 pub fn flush_patiently<R, D>(rt: &R, dest: &mut D) -> io::Result<()>
 where
     R: Wait + Clock,

@@ -27,15 +27,16 @@ impl Reader {
     ghost use Rattle.piper.specs.OfReader.{end_of, log};
     ghost use Rattle.piper.specs.ReaderCalls.{Drained, DrainsAtOnce, DrainsEnd, DrainsLike, DrainsSlice, DrainsStd, DrainsWaiting, DrainPends, DrawsToYield, KeepsEnd, SameReaderButMoved, SameReaderButTried, WakesWriter};
 
-    /// Moves bytes into a writer, and returns how many that took. It doesn't flush the writer.
+    /// Moves known bytes into a writer of std.
     ///
-    /// It begins with the look of `poll`: 0 is the end of a closed pipe, or says that the writer
-    /// took none. Where no byte is known and the pipe is open it is pending, and where no waker can
-    /// be made for that it fails with `Memory`. Once in a hundred calls, as the reader's generator
-    /// draws, it yields in place of the rounds: it moves nothing and asks for another poll. A round
-    /// hands the writer at most 131,072 bytes in one piece; the rounds end once nothing is known or
-    /// the writer takes none. Where the writer fails, what it took in the rounds before stays
-    /// taken, and its error is returned.
+    /// Returns: how many bytes `dest` took. 0 is the end, for good, or `dest` took none though
+    /// bytes are known. `dest` is not flushed.
+    /// Pending: no byte is known, and the pipe was not seen closed; or the call yields. `dest`
+    /// stays as it was.
+    /// Errors: `Memory`, for the reason for which `poll` fails; no byte is taken. `Io`, with the
+    /// error of `dest`: what `dest` took in earlier rounds stays taken and is not counted, and the
+    /// round that failed took none.
+    /// Wakes: the writer, if it waits and a byte was moved.
     pub fn poll_drain<W: StdWriter>(
         &mut self,
         cx: &mut Context<'_>,
@@ -59,11 +60,14 @@ impl Reader {
         }
     }
 
-    /// Moves bytes into the front of `dest`, and returns how many: as many as fit of those
-    /// that it knows of after its look. With an empty `dest` it waits, too, while none is known.
+    /// Moves known bytes into the front of `dest`, as many as fit.
     ///
-    /// It looks, draws and waits as `poll_drain` does: 0 is the end of a closed pipe, or `dest` has
-    /// no room and a byte is known.
+    /// Returns: how many bytes. 0 is the end, for good, if `dest` has room.
+    /// Pending: no byte is known and the pipe was not seen closed, even if `dest` is empty; or the
+    /// call yields. `dest` stays as it was.
+    /// Errors: `OutOfMemory`, for the reason for which `poll` fails. No byte is taken, and `dest`
+    /// stays as it was.
+    /// Wakes: the writer, if it waits and a byte was moved.
     pub fn poll_drain_bytes(
         &mut self,
         cx: &mut Context<'_>,
@@ -87,9 +91,12 @@ impl Reader {
         }
     }
 
-    /// Moves bytes into the front of `dest`, as many as fit of those that it knows of, and returns
-    /// how many. It looks for more only where it knows of none, and doesn't wait: 0 doesn't mean
-    /// the end, since no byte may have come, or `dest` has no room.
+    /// Moves known bytes into the front of `dest`, as many as fit, and doesn't wait.
+    ///
+    /// Returns: how many bytes. 0 says that no byte has come, that `dest` has no room, or that the
+    /// pipe is at its end. To tell the end, call `try_drain_with` with room: it is pending if no
+    /// byte has come, and 0 at the end.
+    /// Wakes: the writer, if it waits and a byte was moved.
     pub fn try_drain(&mut self, dest: &mut [u8]) -> usize
         ensures ran { Ran (looks_at (end_of self.old) (Purpose.Copy Form.Try)) (Answer.Count result)
             (log self.old) (log self.new) }
@@ -107,10 +114,14 @@ impl Reader {
         }
     }
 
-    /// Moves known bytes into any destination, as `poll_drain` does into a writer.
+    /// Moves known bytes into any destination, as `poll_drain` does into a writer of std.
     ///
-    /// A failure is the destination's own error: what it took in the rounds before stays taken, and
-    /// the write that failed took nothing.
+    /// Returns: how many bytes `dest` took. 0 is the end, for good, or `dest` took none though
+    /// bytes are known.
+    /// Pending: as `poll_drain`.
+    /// Errors: `Memory`, as `poll_drain`. `Like`, with the error of `dest`: as `Io` of
+    /// `poll_drain`.
+    /// Wakes: the writer, if it waits and a byte was moved.
     #[inline(always)]
     pub fn poll_drain_with<W: WriteLike>(
         &mut self,
@@ -141,9 +152,14 @@ impl Reader {
         self.drain_rounds(WAITING, dest)
     }
 
-    /// Moves known bytes into any destination, as `try_drain` does into a slice: it registers no
-    /// task and doesn't draw. It is pending where it knows of no byte after its look and didn't see
-    /// the pipe closed. Its failure is the destination's own, as that of `poll_drain_with`.
+    /// Moves known bytes into any destination, and doesn't wait: it registers no task and never
+    /// yields.
+    ///
+    /// Returns: how many bytes `dest` took. 0 is the end, for good, or `dest` took none though
+    /// bytes are known.
+    /// Pending: no byte is known, and the pipe was not seen closed. No task is registered.
+    /// Errors: `Like`, with the error of `dest`: as `Io` of `poll_drain`.
+    /// Wakes: the writer, if it waits and a byte was moved.
     #[inline(always)]
     pub fn try_drain_with<W: WriteLike>(
         &mut self,

@@ -26,16 +26,16 @@ impl Writer {
     ghost use Rattle.piper.specs.WriterCalls.{DrawsToYield, Filled, FillPends, FillsAtOnce, FillsEnd, FillsLike, FillsSlice, FillsStd, FillsWaiting, SameWriterButMoved, SameWriterButTried, WakesReader};
     ghost use Rattle.piper.specs.OfWriter.{log, saw};
 
-    /// Publishes bytes that a reader gives, and returns how many it gave.
+    /// Publishes bytes that a reader of std gives.
     ///
-    /// It begins with the look of `poll`: 0 says that the pipe is closed, or that the reader gave
-    /// none. Where there is no room the call is pending, or fails with `Memory` if no waker can be
-    /// made. Once in a hundred calls, as the writer's generator draws, it yields in place of the
-    /// rounds: it moves nothing and asks for another poll. A round lends the reader at most 131,072
-    /// places in one piece; the rounds end once there is no room, the reader gives none, or the
-    /// pipe is seen closed, and what was given in that last round is counted and lost. Where the
-    /// reader fails, what it gave in the rounds before stays published, and its error is returned.
-    /// Nothing is lent afterwards.
+    /// Returns: how many bytes `source` gave. 0 says that the pipe is closed, for good, or that
+    /// `source` gave none.
+    /// Pending: there is no room, and the pipe was not seen closed; or the call yields. `source`
+    /// stays as it was.
+    /// Errors: `Memory`, for the reason for which `poll` fails; no byte is published. `Io`, with
+    /// the error of `source`: what `source` gave in earlier rounds stays published and is not
+    /// counted, and the round that failed gave none.
+    /// Wakes: the reader, if it waits and a byte was published.
     pub fn poll_fill<R: StdReader>(
         &mut self,
         cx: &mut Context<'_>,
@@ -59,14 +59,14 @@ impl Writer {
         }
     }
 
-    /// Publishes bytes from the front of `bytes`, and returns how many: as many as fit into the
-    /// room that it knows of after its look.
+    /// Publishes bytes from the front of `bytes`, as many as there is known room for.
     ///
-    /// It looks, draws and waits as `poll_fill` does: 0 for `bytes` that are not empty says that
-    /// the pipe is closed, and so does each later answer. It fails with `OutOfMemory` only where it
-    /// has to wait and no waker can be made. Where the pipe is seen closed only once some bytes
-    /// were taken, the last of them, at most one round, are counted and lost. Nothing is lent
-    /// afterwards.
+    /// Returns: how many bytes it took. 0 says that the pipe is closed, for good, if there are
+    /// `bytes`. A count of fewer than all doesn't say that the pipe is full.
+    /// Pending: there is no room and the pipe was not seen closed, even if there are no `bytes`; or
+    /// the call yields.
+    /// Errors: `OutOfMemory`, for the reason for which `poll` fails. No byte is published.
+    /// Wakes: the reader, if it waits and a byte was published.
     pub fn poll_fill_bytes(
         &mut self,
         cx: &mut Context<'_>,
@@ -90,12 +90,13 @@ impl Writer {
         }
     }
 
-    /// Publishes bytes from the front of `bytes`, as many as fit into the room that it knows of,
-    /// and returns how many it took. It looks for room only where it knows of none, and doesn't
-    /// wait. Nothing is lent afterwards.
+    /// Publishes bytes from the front of `bytes`, as many as there is known room for, and doesn't
+    /// wait.
     ///
-    /// A closed pipe takes none. Where the pipe is seen closed only once some bytes were taken, the
-    /// last of them, at most one round, are counted and not published.
+    /// Returns: how many bytes it took. 0 says that there is no room, that there are no `bytes`, or
+    /// that the pipe is closed. To tell the close, call `try_fill_with` with bytes: it is pending
+    /// if there is no room, and 0 if the pipe is closed.
+    /// Wakes: the reader, if it waits and a byte was published.
     pub fn try_fill(&mut self, bytes: &[u8]) -> usize
         ensures ran { Ran (Point.Writer (WritePoint.LookClosed (Purpose.Copy Form.Try)))
             (Answer.Count result) (log self.old) (log self.new) }
@@ -113,10 +114,14 @@ impl Writer {
         }
     }
 
-    /// Publishes bytes that any source gives, as `poll_fill` does those of a reader.
+    /// Publishes bytes that any source gives, as `poll_fill` does those of a reader of std.
     ///
-    /// A failure is the source's own error: what it gave in the rounds before stays published, and
-    /// nothing else moved.
+    /// Returns: how many bytes `source` gave. 0 says that the pipe is closed, for good, or that
+    /// `source` gave none.
+    /// Pending: as `poll_fill`.
+    /// Errors: `Memory`, as `poll_fill`. `Like`, with the error of `source`: as `Io` of
+    /// `poll_fill`.
+    /// Wakes: the reader, if it waits and a byte was published.
     #[inline(always)]
     pub fn poll_fill_with<R: ReadLike>(
         &mut self,
@@ -138,9 +143,14 @@ impl Writer {
         outcome
     }
 
-    /// Publishes bytes that any source gives, as `try_fill` does those of a slice: it registers no
-    /// task and doesn't draw. It is pending where it knows of no room after its look and didn't see
-    /// the pipe closed. Its failure is the source's own, as that of `poll_fill_with`.
+    /// Publishes bytes that any source gives, and doesn't wait: it registers no task and never
+    /// yields.
+    ///
+    /// Returns: how many bytes `source` gave. 0 says that the pipe is closed, for good, or that
+    /// `source` gave none.
+    /// Pending: there is no room, and the pipe was not seen closed. No task is registered.
+    /// Errors: `Like`, with the error of `source`: as `Io` of `poll_fill`.
+    /// Wakes: the reader, if it waits and a byte was published.
     #[inline(always)]
     pub fn try_fill_with<R: ReadLike>(
         &mut self,

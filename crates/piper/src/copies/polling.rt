@@ -37,6 +37,7 @@ impl AsyncRead for Reader {
 
     ghost says = { ReadsAsDrain };
 
+    /// As `poll_drain_bytes`, whose error is `Memory` here.
     fn poll_read(&mut self, cx: &mut Context<'_>, dest: &mut [u8]) -> Poll<Result<usize, PipeError>>
         ensures says { ReadsAsDrain self.old self.new result dest.old dest.new cx.new }
         ensures error { IfReadyErr result (WantsWaker cx.new) }
@@ -77,6 +78,8 @@ impl AsyncBufRead for Reader {
 
     ghost woken = { NotifiesWriter };
 
+    /// As `poll`, and then lends what `peek_buf` does. An empty slice is the end, for good. The
+    /// error is `Memory`.
     fn poll_fill_buf(&mut self, cx: &mut Context<'_>) -> Poll<Result<&[u8], PipeError>>
         // said of the reader as it is once the slice is given back
         ensures* lent { sem 𝓛 (Rests the_row self.entry
@@ -92,6 +95,7 @@ impl AsyncBufRead for Reader {
     }
 
     // A reader of lines consumes in several places, and is shorter where each of them is a call.
+    /// As `Reader::consume`.
     #[inline(never)]
     fn consume(&mut self, amt: usize)
         requires { amt ≤ front self.old }
@@ -126,6 +130,7 @@ impl AsyncWrite for Writer {
 
     ghost says = { WritesAsFill };
 
+    /// As `poll_fill_bytes`, whose error is `Memory` here.
     fn poll_write(&mut self, cx: &mut Context<'_>, source: &[u8]) -> Poll<Result<usize, PipeError>>
         ensures says { WritesAsFill self.old self.new result source.now cx.new }
         ensures error { IfReadyErr result (WantsWaker cx.new) }
@@ -138,6 +143,7 @@ impl AsyncWrite for Writer {
         }
     }
 
+    /// Ready at once, always with `Ok(())`: what was written is published.
     fn poll_flush(&mut self, cx: &mut Context<'_>) -> Poll<Result<(), PipeError>>
         ensures answer { result ≡ Poll.Ready (Ok (record {})) }
         ensures context { Keeps cx.old cx.new }
@@ -148,6 +154,7 @@ impl AsyncWrite for Writer {
         Poll::Ready(Ok(()))
     }
 
+    /// As `Writer::poll_close`.
     fn poll_close(&mut self, cx: &mut Context<'_>) -> Poll<Result<(), PipeError>>
         ensures answer { result ≡ Poll.Ready (Ok (record {})) }
         ensures woken { NotifiesReader self.new }

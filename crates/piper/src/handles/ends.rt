@@ -21,10 +21,14 @@ impl Reader {
         self.side.end()
     }
 
-    /// From now on it knows what the mark reports: a look finds at least the bytes that were
-    /// published before it, and a pipe that the writer closed before it is seen closed. The mark's
-    /// bytes agree with those that the reader took and knows of, as far as both go. Where the mark
-    /// says that the writer closed the pipe, they are all bytes that were ever published.
+    /// Learns what the mark reports.
+    ///
+    /// From now on a look finds at least the bytes that were published before the mark, and a pipe
+    /// that the writer closed before it is seen closed. The mark's bytes agree with those that the
+    /// reader took and knows of, as far as both go. If the mark says that the writer closed the
+    /// pipe, they are all bytes that were ever published.
+    ///
+    /// Requires: the mark is of the same pipe.
     pub fn heed(&mut self, mark: &WriteMark)
         requires { mark.now.names ≡ (ring self.old).names }
         ensures told { told self.new ≡ max (told self.old) (length mark.now.bytes) }
@@ -37,15 +41,18 @@ impl Reader {
         self.side.heed(mark);
     }
 
-    /// Is called where one thread holds both handles of a pipe. After it the reader knows of all
-    /// that was published, and the writer of all the free room. Where either saw the pipe closed
-    /// the writer closed it, and what the reader holds to be all bytes is what the writer
-    /// published. It allocates nothing.
+    /// Tells both handles of each other, once one thread holds both.
     ///
-    /// And nobody who waits is forgotten: if a side is pending in its slot, and the other has
-    /// checked that slot since its last store, the other took the waker and called it, or the side
-    /// has nothing to do. If both are pending so, one of them took and called the other's waker:
-    /// a pipe is not empty and full.
+    /// After it the reader knows of all that was published, and the writer of all the free room. If
+    /// either saw the pipe closed, the writer closed it, and what the reader holds to be all bytes
+    /// is what the writer published. It allocates nothing.
+    ///
+    /// No side that waits is forgotten. Take a side that is pending in its slot, while the other
+    /// has checked that slot since its last store: then the other took its waker, to call it; or
+    /// the side has nothing to do, and the pipe is open. If both sides are pending so, one of them
+    /// took the other's waker: a pipe is not empty and full.
+    ///
+    /// Requires: both handles are of one pipe.
     pub fn meet(&mut self, other: &mut Writer)
         requires { of_writer.ring other.old ≡ ring self.old }
         ensures fifo { taken self.new ++ known self.new ≡ of_writer.sent other.new }
@@ -59,8 +66,11 @@ impl Reader {
     }
 
     /// Heeds the last mark of the writer that was dropped; its bytes become known at the next look.
-    /// And the reader was not forgotten: where it waits in its slot, the writer took its waker and
-    /// called it as it left. `left` stays as it was: the proof alone needs a `&mut`.
+    ///
+    /// If the reader waits in its slot, the writer took its waker as it left. `left` stays as it
+    /// was: the proof alone needs a `&mut`.
+    ///
+    /// Requires: the mark is of the same pipe.
     pub fn meet_finished(&mut self, left: &mut FinishedWriter)
         requires { left.old.told.names ≡ (ring self.old).names }
         ensures woken { WasWoken self.old left.old }
@@ -88,8 +98,10 @@ impl Writer {
         self.side.end()
     }
 
-    /// From now on it knows what the mark reports: a look finds at least the room that was given
-    /// back before it.
+    /// Learns what the mark reports: from now on a look finds at least the room that was given back
+    /// before it.
+    ///
+    /// Requires: the mark is of the same pipe.
     pub fn heed(&mut self, mark: &ReadMark)
         requires { mark.now.names ≡ (ring self.old).names }
         ensures told { told self.new ≡ max (told self.old) mark.now.count }
@@ -98,8 +110,11 @@ impl Writer {
         self.side.heed(mark);
     }
 
-    /// From now on it knows that the reader was dropped: the pipe counts as seen closed, so polls
-    /// answer `false` and fills 0. And it knows of all that was ever consumed.
+    /// Learns that the reader was dropped, and how many bytes were ever taken.
+    ///
+    /// The pipe counts as seen closed: polls answer `false`, and fills 0.
+    ///
+    /// Requires: the mark is of the same pipe.
     pub fn heed_last(&mut self, mark: &LastReadMark)
         requires { mark.now.consumed.names ≡ (ring self.old).names }
         ensures saw { saw self.new ≡ true }
@@ -109,9 +124,12 @@ impl Writer {
         self.side.heed_last(mark);
     }
 
-    /// Heeds the last mark of the reader that was dropped (`heed_last`). And the writer was not
-    /// forgotten: where it waits in its slot, the reader took its waker and called it as it left.
-    /// `left` stays as it was: the proof alone needs a `&mut`.
+    /// Heeds the last mark of the reader that was dropped, as `heed_last` does.
+    ///
+    /// If the writer waits in its slot, the reader took its waker as it left. `left` stays as it
+    /// was: the proof alone needs a `&mut`.
+    ///
+    /// Requires: the mark is of the same pipe.
     pub fn meet_finished(&mut self, left: &mut FinishedReader)
         requires { left.old.told.consumed.names ≡ (ring self.old).names }
         ensures woken { WasWoken self.old left.old }
@@ -124,13 +142,12 @@ impl Writer {
         self.side.heed_last(&left.told);
     }
 
-    /// Lends at most `max` bytes of the known room, in one piece, to be written: at least one where
-    /// any is known, one is asked for and the writer didn't close the pipe. It replaces what was
-    /// lent before; what is in the bytes is not said.
+    /// Lends at most `max` bytes of the known room, in one piece, to be written.
     ///
-    /// Nothing is lent once the writer closed the pipe. Otherwise it lends all that is asked for
-    /// and fits in one piece. While a part of the buffer was never written it may lend less: then
-    /// at least 4,096 bytes plus twice what was published and is lent.
+    /// Returns: all that is asked for and lies in one piece, but none once this writer closed the
+    /// pipe. As long as a part of the buffer was never written it may be less, but at least `4096 +
+    /// 2 × (published + lent)` bytes of it. An empty slice doesn't say that the pipe is closed or
+    /// full. What its bytes hold is not said. It takes the place of the slice lent before.
     pub fn write_buf(&mut self, max: usize) -> &mut [u8]
         ensures* writes { sem 𝓛 (lends_room self.entry result) }
         ensures length { MayLend self.old max (length result.now) }

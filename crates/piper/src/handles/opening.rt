@@ -10,12 +10,12 @@ use rand_core::SeedableRng;
 use rand_pcg::Pcg32;
 use std::alloc::Global;
 
-/// Creates a bounded single-producer single-consumer pipe: a ring of `cap` bytes that can be read
-/// and written by two threads.
+/// Creates a pipe of `cap` bytes between one reader and one writer.
 ///
-/// `cap` is at least 1 and less than 2^63. The reader's generator begins at `seed`, the writer's at
-/// `seed` with its lowest bit flipped. Where memory is refused it fails with `OutOfMemory`, and
-/// what was allocated is freed.
+/// Requires: `cap` is at least 1 and less than 2^63.
+/// Returns: both handles. The reader's random generator begins at `seed`, the writer's at `seed`
+/// with its lowest bit flipped.
+/// Errors: `OutOfMemory` if memory is refused; what was allocated is freed.
 pub fn pipe(alloc: Global, cap: usize, seed: u64) -> Result<(Reader, Writer), OutOfMemory>
     requires { (0 < cap) × (2 * cap < 2 ^ 64) }
     ensures pair { IfOk result (λ (reader, writer). ArePair reader writer) }

@@ -20,12 +20,17 @@ pub enum Copied {
     UntilClosed,
 }
 
-/// Copies all bytes from the reader to the writer, in order, up to the end of the one, the close of
-/// the other, or the first error.
+/// Copies bytes from the reader to the writer, in order.
 ///
-/// After 64 pieces it asks for another poll. After an answer other than that the writer's pipe is
-/// closed, all that was taken is published, and the next poll goes on from there. Of a reader that
-/// was told of the end it doesn't wait for bytes.
+/// It polls the reader first, so the close of the writer's pipe is seen only once a byte is known.
+/// The copy holds no bytes of its own: the next poll goes on from where this one ended.
+///
+/// Returns: `ToTheEnd` at the reader's end; `UntilClosed` if the writer's pipe is closed and a byte
+/// was known. As long as the writer has not seen its pipe closed, all that was taken is published.
+/// The poll in which it sees the close may have lost bytes that it took, with any answer.
+/// Pending: a call of the reader or of the writer is pending; or 64 pieces were copied, and the
+/// task is polled again. A reader that was told of the end is not waited for.
+/// Errors: that of the reader or of the writer.
 pub fn poll_copy<R: AsyncBufRead, W: AsyncWrite>(
     cx: &mut Context<'_>,
     reader: &mut R,

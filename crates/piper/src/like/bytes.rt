@@ -8,13 +8,13 @@ use super::slices::copy;
 use super::{ReadLike, WriteLike};
 use std::convert::Infallible;
 
-/// A slice as a source: `rest` is what it has left to give.
+/// A slice as a source: `rest` is what it has left to give. It doesn't fail.
 #[derive(Drop)]
 pub struct ReadBytes<'a> {
     pub rest: &'a [u8],
 }
 
-/// A slice as a destination: up to `place` it is written.
+/// A slice as a destination: up to `place` it is written. It doesn't fail.
 #[derive(Drop)]
 pub struct WriteBytes<'a> {
     pub bytes: &'a mut [u8],
@@ -23,7 +23,7 @@ pub struct WriteBytes<'a> {
 }
 
 impl<'a> ReadBytes<'a> {
-    /// All of it is left.
+    /// All of the slice is left.
     pub fn new(bytes: &'a [u8]) -> ReadBytes<'a>
         ensures { result.rest.now ≡ bytes.now }
     {
@@ -75,7 +75,7 @@ impl ReadLike for ReadBytes<'_> {
 }
 
 impl<'a> WriteBytes<'a> {
-    /// Nothing of it is written.
+    /// Nothing of the slice is written.
     pub fn new(bytes: &'a mut [u8]) -> WriteBytes<'a>
         ensures same { result.bytes.ghost_name ≡ bytes.entry.ghost_name }
         ensures bytes { result.bytes.now ≡ bytes.old }

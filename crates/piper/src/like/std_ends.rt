@@ -23,7 +23,7 @@ pub trait StdReader: Read {
     // a read on the one state failed with this error, and left the other
     ghost fails: { Self → Error → Self → Type 0 };
 
-    /// Reads once.
+    /// Reads once, as `Read::read` of std does.
     fn read_once(&mut self, dest: &mut [u8]) -> io::Result<usize>
         ensures bound { ReadsAtMost result dest.new }
         ensures bytes { ReadConsumes (Self.remaining self.old) (Self.remaining self.new)
@@ -53,7 +53,7 @@ pub trait StdWriter: Write {
     // a write or a flush on the one state failed with this error, and left the other
     ghost fails: { Self → Error → Self → Type 0 };
 
-    /// Writes once.
+    /// Writes once, as `Write::write` of std does.
     fn write_once(&mut self, source: &[u8]) -> io::Result<usize>
         ensures bound { WritesAtMost result source.now }
         ensures bytes { WriteAppends (Self.contents self.old) (Self.contents self.new)
@@ -63,7 +63,7 @@ pub trait StdWriter: Write {
         ensures error { IfErr result (λ e. fails self.old e self.new) }
         ensures reported { IsOfStd result };
 
-    /// Sends what was written on its way.
+    /// Sends what was written on its way, as `Write::flush` of std does.
     fn flush_once(&mut self) -> io::Result<()>
         ensures bytes { Keeps (Self.contents self.old) (Self.contents self.new) }
         ensures flushed { flushes self.old result self.new }

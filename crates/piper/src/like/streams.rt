@@ -7,14 +7,14 @@ ghost use Rattle.std.proofs.KnownBytes.{Consumes-nil, Consumes-trans, Appends-ni
 use super::{ReadLike, StdReader, StdWriter, WriteLike};
 use std::io;
 
-/// A reader as a source.
+/// A reader of std as a source.
 #[derive(Drop)]
 pub struct StdRead<'a, R: StdReader> {
     pub object: &'a mut R,
     pub failures: u64,
 }
 
-/// A writer as a destination.
+/// A writer of std as a destination.
 #[derive(Drop)]
 pub struct StdWrite<'a, W: StdWriter> {
     pub object: &'a mut W,
@@ -22,7 +22,7 @@ pub struct StdWrite<'a, W: StdWriter> {
 }
 
 impl<'a, R: StdReader> StdRead<'a, R> {
-    /// It has not failed yet.
+    /// The source over this reader. It has not failed yet.
     pub fn new(object: &'a mut R) -> StdRead<'a, R>
         ensures same { result.object.ghost_name ≡ object.entry.ghost_name }
         ensures object { result.object.now ≡ object.old }
@@ -69,7 +69,7 @@ impl<R: StdReader> ReadLike for StdRead<'_, R> {
 }
 
 impl<'a, W: StdWriter> StdWrite<'a, W> {
-    /// It has not failed yet.
+    /// The destination over this writer. It has not failed yet.
     pub fn new(object: &'a mut W) -> StdWrite<'a, W>
         ensures same { result.object.ghost_name ≡ object.entry.ghost_name }
         ensures object { result.object.now ≡ object.old }

@@ -41,6 +41,7 @@ impl AsyncRead for End {
     ghost says = { λ a b r old new cx.
         ReadsAsDrain (reading a) (reading b) r old new cx × (writing b ≡ writing a) };
 
+    /// As `poll_read` of the handle that reads.
     fn poll_read(&mut self, cx: &mut Context<'_>, dest: &mut [u8]) -> Poll<Result<usize, PipeError>>
         ensures says { ReadsAsDrain (reading self.old) (reading self.new) result
             dest.old dest.new cx.new }
@@ -79,6 +80,7 @@ impl AsyncBufRead for End {
 
     ghost woken = { λ e. NotifiesWriter (reading e) };
 
+    /// As `poll_fill_buf` of the handle that reads.
     fn poll_fill_buf(&mut self, cx: &mut Context<'_>) -> Poll<Result<&[u8], PipeError>>
         // said of the end as it is once the slice is given back
         ensures* lent { sem 𝓛 (Rests the_row self.entry
@@ -94,6 +96,7 @@ impl AsyncBufRead for End {
         }
     }
 
+    /// As `consume` of the handle that reads.
     fn consume(&mut self, amt: usize)
         requires { amt ≤ front (reading self.old) }
         ensures known { known (reading self.new) ≡ drop amt (known (reading self.old)) }
@@ -125,6 +128,7 @@ impl AsyncWrite for End {
     ghost says = { λ a b r bytes cx.
         WritesAsFill (writing a) (writing b) r bytes cx × (reading b ≡ reading a) };
 
+    /// As `poll_write` of the handle that writes.
     fn poll_write(&mut self, cx: &mut Context<'_>, source: &[u8]) -> Poll<Result<usize, PipeError>>
         ensures says { WritesAsFill (writing self.old) (writing self.new) result
             source.now cx.new }
@@ -139,6 +143,7 @@ impl AsyncWrite for End {
         }
     }
 
+    /// Ready at once, always with `Ok(())`: what was written is published.
     fn poll_flush(&mut self, cx: &mut Context<'_>) -> Poll<Result<(), PipeError>>
         ensures answer { result ≡ Poll.Ready (Ok (record {})) }
         ensures kept { cx.new ≡ cx.old }
@@ -149,6 +154,11 @@ impl AsyncWrite for End {
         Poll::Ready(Ok(()))
     }
 
+    /// Closes the pipe that it writes into, for good. What comes from the other end can still be
+    /// read.
+    ///
+    /// Returns: `Ok(())`, at once and always.
+    /// Wakes: the other end's reader, if it waits, and a task that waits here for room.
     fn poll_close(&mut self, cx: &mut Context<'_>) -> Poll<Result<(), PipeError>>
         ensures answer { result ≡ Poll.Ready (Ok (record {})) }
         ensures woken { NotifiesReader (writing self.new)

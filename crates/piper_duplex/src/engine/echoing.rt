@@ -21,15 +21,15 @@ const MOST_LINES: u32 = 64;
 /// Why an echo ended.
 #[derive(Clone, Copy, Debug, PartialEq, Eq)]
 pub enum Echoed {
-    /// All that the reader gave is written.
+    /// All that the reader gave was written back.
     ToTheEnd,
-    /// The writer's pipe is closed.
+    /// The writer's pipe is closed, and bytes of a line are left.
     UntilClosed,
 }
 
-/// The line that an echo has on its way back.
+/// Writes back the lines of a reader. It holds the line that is on its way.
 ///
-/// In clauses, `left_of` are the bytes of it that are not written yet.
+/// In clauses, `left_of` are the bytes of that line that are not written yet.
 #[derive(Drop)]
 pub struct LineEcho {
     line: Vec<u8>,
@@ -50,14 +50,22 @@ impl LineEcho {
         }
     }
 
-    /// Reads lines of at most `limit` bytes, and writes each back once it is whole, up to the
-    /// reader's end, the close of the writer's pipe, or the first error.
+    /// Reads lines, and writes each back once it is whole, up to the reader's end or the close of
+    /// the writer's pipe.
     ///
-    /// A longer line goes back in pieces of `limit` bytes, and what follows the last LF goes back
-    /// too. Where it is pending, or on an error, the next poll goes on from there and loses
-    /// nothing. It is woken by the writer while a line is on its way back, and else by the reader;
-    /// after 64 lines it asks for another poll. It doesn't wait for a reader that was told of the
-    /// end.
+    /// A line of more than `limit` bytes goes back in pieces of that many, and what follows the
+    /// last line goes back as well. As long as the writer has not seen its pipe closed, all counted
+    /// bytes are published.
+    ///
+    /// Requires: `limit`, which counts the byte that ends a line, is at least 1.
+    /// Returns: why it ended.
+    /// Pending: a line is on its way back, and the writer's call is pending; or none is, and the
+    /// reader's is; or bytes were taken, 64 lines as it is now, and the task is polled again. A
+    /// reader that was told of the end is not waited for.
+    /// Errors: that of the reader or of the writer; or `Memory`, before the bytes are taken that
+    /// lack room.
+    /// Cancel safety: the next poll goes on from where this one ended. What was taken and not
+    /// written back is dropped with the `LineEcho` and the `Lines`.
     pub fn poll<R: AsyncBufRead, W: AsyncWrite>(
         &mut self,
         cx: &mut Context<'_>,

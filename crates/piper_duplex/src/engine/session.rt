@@ -24,7 +24,7 @@ use std::thread::{JoinHandle, Threads};
 /// each way, so that time goes into those.
 const CAPACITY: usize = 64;
 
-/// How an echo ended.
+/// How an echo program ends.
 #[derive(Clone, Copy, Debug, PartialEq, Eq)]
 pub struct Ended {
     /// The exit status.
@@ -66,12 +66,15 @@ impl Ended {
 }
 
 /// Sends the text that `input` gives line by line through a duplex stream, at the other end of
-/// which a thread writes each line back, and prints what comes back to `output`. `words` are the
-/// arguments of the command line; there are to be none.
+/// which a thread writes each line back, and prints what comes back to `output`.
 ///
-/// A line is printed and flushed before the next one is sent. One that is longer than 65,536 bytes
-/// goes through in pieces of that many. The status 0 says that the input is at its end, and that as
-/// many bytes were printed as it gave.
+/// A line is printed and flushed before the next one is sent. One of more than 65,536 bytes goes
+/// through in pieces of that many. `words` are the arguments of the command line; with any it moves
+/// no byte.
+///
+/// Returns: with the status 0, the input is at its end, and as many bytes were printed as it gave;
+/// 1, there were `words`; 2, with a text that says why, memory or a thread was refused, or `input`
+/// or `output` failed.
 pub fn echo<R, I, O>(
     rt: &R,
     alloc: Global,

@@ -16,13 +16,18 @@ use futures::task::{Context, Poll};
 use piper::PipeError;
 use piper::io::AsyncBufRead;
 
-/// Appends the frames of the reader to `out`, up to its end or to a frame of more than `limit`
-/// bytes.
+/// Appends the bodies of the reader's frames to `out`, up to the reader's end or to a frame of more
+/// than `limit` bytes.
 ///
-/// Of a frame past the limit no byte is taken: the caller can skip it and poll again, or ask again
-/// with another limit. Memory is asked for before bytes are taken: after an error, as where it is
-/// pending, `out` has each frame that was handed out, and the next poll goes on from there. After
-/// 64 frames it asks for another poll.
+/// Such a frame's body is not taken: the caller can skip it and poll again, or ask again with
+/// another limit.
+///
+/// Returns: why it ended.
+/// Pending: the reader knows no byte, and its call is pending; or 64 frames were appended, or 64
+/// pieces of a skipped frame passed over, and the task is polled again.
+/// Errors: the reader's own; or `Memory`, before the bytes are taken that lack room. `out` has each
+/// body that was taken whole.
+/// Cancel safety: the next poll goes on from where this one ended.
 pub fn poll_frames<R: AsyncBufRead>(
     frames: &mut Frames<R>,
     cx: &mut Context<'_>,

@@ -18,11 +18,18 @@ use futures::task::{Context, Poll};
 use piper::PipeError;
 use piper::io::AsyncBufRead;
 
-/// Appends the lines of the reader to `out`, up to its end, and returns what follows the last line.
+/// Appends the lines of the reader to `out`, up to the reader's end.
 ///
-/// A line of more than `limit` bytes comes in pieces of that many. Memory is asked for before bytes
-/// are taken: after an error, as where it is pending, `out` has each line that was handed out, and
-/// the next poll goes on from there. After 64 lines it asks for another poll.
+/// A line of more than `limit` bytes comes in pieces of that many. The first piece is longer if
+/// more was kept before, by a call with another limit.
+///
+/// Requires: `limit`, which counts the byte that ends a line, is at least 1.
+/// Returns: what follows the last line.
+/// Pending: the reader knows no byte, and its call is pending; or 64 lines or pieces were appended,
+/// and the task is polled again.
+/// Errors: the reader's own; or `Memory`, before the bytes are taken that lack room. `out` has each
+/// line that was taken whole.
+/// Cancel safety: the next poll goes on from where this one ended.
 pub fn poll_lines<R: AsyncBufRead>(
     lines: &mut Lines<R>,
     cx: &mut Context<'_>,

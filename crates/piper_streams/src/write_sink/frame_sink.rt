@@ -17,11 +17,10 @@ use std::io::ErrorKind;
 
 /// Writes a frame for each body that it is sent, whole and in order: its length, and the body.
 ///
-/// The header is put before the body in the body's own memory, and more is asked for only where it
-/// has no room for both. Where that is refused, or a body whose length the header can't say is, by
-/// an error of the kind `InvalidInput`, the sink is as it was, and the body goes. What is said of
-/// [`WriteSink`] holds of it, too. In clauses, `frames_below` is the sink below, and `header_of`
-/// how the length is reported.
+/// The length is put before the body in the body's own memory; more is asked for only if that has
+/// no room for both.
+///
+/// In clauses, `frames_below` is the sink below, and `header_of` says how the length is reported.
 #[derive(Debug, Drop)]
 pub struct FrameSink<W> {
     sink: WriteSink<W>,
@@ -31,8 +30,8 @@ pub struct FrameSink<W> {
 impl<W: AsyncWrite + Drop> FrameSink<W> {
     ghost use Rattle.piper_streams.specs.SentFrames.{frames_below, header_of};
 
-    /// Frames whose length is reported in four bytes, the most significant first. Nothing is sent
-    /// yet.
+    /// The sink over this writer, of frames whose length is four bytes, the most significant first.
+    /// Nothing is sent yet.
     pub fn new(alloc: Global, writer: W) -> FrameSink<W>
         ensures writer { writer_of (frames_below result) ≡ writer }
         ensures format { header_of result ≡ usual_header }
@@ -41,7 +40,8 @@ impl<W: AsyncWrite + Drop> FrameSink<W> {
         FrameSink::with_header(alloc, writer, FrameHeader::FourBytes(ByteOrder::BigEndian))
     }
 
-    /// Frames whose length is reported in this way. Nothing is sent yet.
+    /// The sink over this writer, of frames whose length is reported in this way. Nothing is sent
+    /// yet.
     pub fn with_header(alloc: Global, writer: W, format: FrameHeader) -> FrameSink<W>
         ensures writer { writer_of (frames_below result) ≡ writer }
         ensures format { header_of result ≡ format }
@@ -53,7 +53,7 @@ impl<W: AsyncWrite + Drop> FrameSink<W> {
         }
     }
 
-    /// Gives the writer back, and what is left of the last frame goes.
+    /// Gives the writer back. What is left of the last frame is dropped.
     pub fn into_writer(self) -> W
         ensures { result ≡ writer_of (frames_below self) }
     {
@@ -77,6 +77,7 @@ impl<W: AsyncWrite + Drop> Sink<Vec<u8>> for FrameSink<W> {
 
     ghost needs = { λ frames. W.needs (writer_of frames.sink) };
 
+    /// As `poll_ready` of `WriteSink`.
     fn poll_ready(&mut self, cx: &mut Context<'_>) -> Poll<Result<(), PipeError>>
         ensures ready { IfReady result (λ r. OnOk r (left_of (frames_below self.new) ≡ [])) }
         ensures history { (xs : _) → FramesSent W.sent W.saw self.old xs
@@ -90,6 +91,11 @@ impl<W: AsyncWrite + Drop> Sink<Vec<u8>> for FrameSink<W> {
         self.sink.poll_write(cx)
     }
 
+    /// Keeps the body, with its length before it.
+    ///
+    /// Requires: nothing is left of the last frame, as after `poll_ready`.
+    /// Errors: one of the kind `InvalidInput`, if the header can't report the length; or `Memory`,
+    /// if there is no room for it. The body is dropped, and the sink is as it was.
     fn start_send(&mut self, item: Vec<u8>) -> Result<(), PipeError>
         requires { left_of (frames_below self.old) ≡ [] }
         ensures error { IfErr result
@@ -113,6 +119,7 @@ impl<W: AsyncWrite + Drop> Sink<Vec<u8>> for FrameSink<W> {
         Ok(())
     }
 
+    /// As `poll_flush` of `WriteSink`.
     fn poll_flush(&mut self, cx: &mut Context<'_>) -> Poll<Result<(), PipeError>>
         ensures flushed { IfReady result (λ r.
             OnOk r (IsFlushed W.flushed (frames_below self.new))) }
@@ -130,6 +137,7 @@ impl<W: AsyncWrite + Drop> Sink<Vec<u8>> for FrameSink<W> {
         }
     }
 
+    /// As `poll_close` of `WriteSink`.
     fn poll_close(&mut self, cx: &mut Context<'_>) -> Poll<Result<(), PipeError>>
         ensures closed { IfReady result (λ r.
             OnOk r (IsClosed W.flushed W.saw (frames_below self.new))) }

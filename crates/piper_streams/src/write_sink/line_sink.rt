@@ -15,9 +15,10 @@ use std::fmt::Debug;
 
 /// Writes each text that it is sent as a line, whole and in order, with the byte that ends it.
 ///
-/// That byte is put to the end of the text itself. Where memory for it is refused, the sink is as
-/// it was, and the text goes. What is said of [`WriteSink`] holds of it, too. In clauses,
-/// `lines_below` is the sink below, and `ending_of` the byte that ends a line.
+/// That byte is put at the end of the text itself. A text that has such a byte inside is written as
+/// it is, as several lines.
+///
+/// In clauses, `lines_below` is the sink below, and `ending_of` is the byte that ends a line.
 #[derive(Debug, Drop)]
 pub struct LineSink<W> {
     sink: WriteSink<W>,
@@ -27,7 +28,7 @@ pub struct LineSink<W> {
 impl<W: AsyncWrite + Drop> LineSink<W> {
     ghost use Rattle.piper_streams.specs.SentLines.{lines_below, ending_of};
 
-    /// Lines that end with LF. Nothing is sent yet.
+    /// The sink over this writer, of lines that end with LF. Nothing is sent yet.
     pub fn new(alloc: Global, writer: W) -> LineSink<W>
         ensures writer { writer_of (lines_below result) ≡ writer }
         ensures end { ending_of result ≡ line_feed }
@@ -36,7 +37,7 @@ impl<W: AsyncWrite + Drop> LineSink<W> {
         LineSink::ended_by(alloc, writer, b'\n')
     }
 
-    /// Lines that end with this byte. Nothing is sent yet.
+    /// The sink over this writer, of lines that end with this byte. Nothing is sent yet.
     pub fn ended_by(alloc: Global, writer: W, end: u8) -> LineSink<W>
         ensures writer { writer_of (lines_below result) ≡ writer }
         ensures end { ending_of result ≡ end }
@@ -48,7 +49,7 @@ impl<W: AsyncWrite + Drop> LineSink<W> {
         }
     }
 
-    /// Gives the writer back, and what is left of the last line goes.
+    /// Gives the writer back. What is left of the last line is dropped.
     pub fn into_writer(self) -> W
         ensures { result ≡ writer_of (lines_below self) }
     {
@@ -72,6 +73,7 @@ impl<W: AsyncWrite + Drop> Sink<Vec<u8>> for LineSink<W> {
 
     ghost needs = { λ lines. W.needs (writer_of lines.sink) };
 
+    /// As `poll_ready` of `WriteSink`.
     fn poll_ready(&mut self, cx: &mut Context<'_>) -> Poll<Result<(), PipeError>>
         ensures ready { IfReady result (λ r. OnOk r (left_of (lines_below self.new) ≡ [])) }
         ensures history { (xs : _) → LinesSent W.sent W.saw self.old xs
@@ -85,6 +87,11 @@ impl<W: AsyncWrite + Drop> Sink<Vec<u8>> for LineSink<W> {
         self.sink.poll_write(cx)
     }
 
+    /// Keeps the text, with the byte that ends the line.
+    ///
+    /// Requires: nothing is left of the last line, as after `poll_ready`.
+    /// Errors: `Memory`, if there is no room for that byte. The text is dropped, and the sink is as
+    /// it was.
     fn start_send(&mut self, item: Vec<u8>) -> Result<(), PipeError>
         requires { left_of (lines_below self.old) ≡ [] }
         ensures error { IfErr result (λ e. (e ≡ PipeError.Memory)
@@ -103,6 +110,7 @@ impl<W: AsyncWrite + Drop> Sink<Vec<u8>> for LineSink<W> {
         Ok(())
     }
 
+    /// As `poll_flush` of `WriteSink`.
     fn poll_flush(&mut self, cx: &mut Context<'_>) -> Poll<Result<(), PipeError>>
         ensures flushed { IfReady result (λ r.
             OnOk r (IsFlushed W.flushed (lines_below self.new))) }
@@ -120,6 +128,7 @@ impl<W: AsyncWrite + Drop> Sink<Vec<u8>> for LineSink<W> {
         }
     }
 
+    /// As `poll_close` of `WriteSink`.
     fn poll_close(&mut self, cx: &mut Context<'_>) -> Poll<Result<(), PipeError>>
         ensures closed { IfReady result (λ r.
             OnOk r (IsClosed W.flushed W.saw (lines_below self.new))) }

@@ -21,7 +21,7 @@ use piper::{OutOfMemory, Reader, Writer};
 use std::io;
 
 impl CompatReader {
-    /// Takes the reader, so that a drop closes the pipe and wakes the writer.
+    /// Takes the reader.
     pub fn new(reader: Reader) -> CompatReader
         ensures reader { handle_of result ≡ reader }
         ensures shown { shown_by result ≡ [] }
@@ -29,14 +29,15 @@ impl CompatReader {
         CompatReader { reader, shown: 0 }
     }
 
-    /// The handle.
+    /// Lends the handle.
     pub fn reader(&self) -> &Reader
         ensures { result.now ≡ handle_of self.now }
     {
         &self.reader
     }
 
-    /// The handle, which has to be spent now. What was shown and not consumed is unread still.
+    /// Gives the handle, which has to be spent by its call `drop`. What was shown and not consumed
+    /// is still unread.
     pub fn into_inner(self) -> Reader
         ensures { result ≡ handle_of self }
     {
@@ -59,6 +60,14 @@ impl tokio::io::AsyncRead for CompatReader {
     ghost reads_in_order = { λ a xs b ys c p q.
         took_in_order (handle_of a) xs (handle_of b) ys (handle_of c) p q };
 
+    /// Moves known bytes into the front of `buf`, as many as fit. After it `buffer` shows nothing.
+    ///
+    /// Returns: how many bytes. 0 is the end, for good, if `buf` has room.
+    /// Pending: no byte is known and the pipe was not seen closed; or the call yields. `buf` stays
+    /// as it was.
+    /// Errors: one of the kind `OutOfMemory`, for the reason for which `Reader::poll` fails. No
+    /// byte is taken, and `buf` stays as it was.
+    /// Wakes: the writer, if it waits and a byte was moved.
     fn poll_read(&mut self, cx: &mut Context<'_>, buf: &mut [u8]) -> Poll<io::Result<usize>>
         ensures bound { count_moved result ≤ length buf.new }
         ensures bytes { Took (handle_of self.old) (bytes_moved result buf.new)
@@ -84,6 +93,11 @@ impl tokio::io::AsyncRead for CompatReader {
 impl tokio::io::AsyncBufRead for CompatReader {
     ghost buffered = { shown_by };
 
+    /// Waits for a byte; then `buffer` shows the known bytes that are contiguous. If it shows none,
+    /// that is the end, for good.
+    ///
+    /// Pending: no byte is known, and the pipe was not seen closed.
+    /// Errors: one of the kind `OutOfMemory`, for the reason for which `Reader::poll` fails.
     fn poll_fill_buf(&mut self, cx: &mut Context<'_>) -> Poll<io::Result<()>>
         ensures bytes { Took (handle_of self.old) [] (handle_of self.new) }
         ensures looked { Looks (handle_of self.old) (handle_of self.new)
@@ -112,6 +126,10 @@ impl tokio::io::AsyncBufRead for CompatReader {
         &self.reader.peek_buf()[..self.shown]
     }
 
+    /// Takes the first `amount` bytes of what `buffer` shows.
+    ///
+    /// Requires: `amount` is at most the length of what `buffer` shows.
+    /// Wakes: the writer, if it waits.
     fn consume(&mut self, amount: usize)
         requires { amount ≤ length (shown_by self.old) }
         ensures bytes { Took (handle_of self.old) (take amount (shown_by self.old))
@@ -128,21 +146,21 @@ impl tokio::io::AsyncBufRead for CompatReader {
 }
 
 impl CompatWriter {
-    /// Takes the writer, so that a drop closes the pipe and wakes the reader.
+    /// Takes the writer.
     pub fn new(writer: Writer) -> CompatWriter
         ensures { writing result ≡ writer }
     {
         CompatWriter { writer }
     }
 
-    /// The handle.
+    /// Lends the handle.
     pub fn writer(&self) -> &Writer
         ensures { result.now ≡ writing self.now }
     {
         &self.writer
     }
 
-    /// The handle, which has to be spent now.
+    /// Gives the handle, which has to be spent by its call `drop`. No pipe is closed.
     pub fn into_inner(self) -> Writer
         ensures { result ≡ writing self }
     {
@@ -167,6 +185,14 @@ impl tokio::io::AsyncWrite for CompatWriter {
     ghost writes_in_order = { λ a xs b ys c p q.
         gave_in_order (writing a) xs (writing b) ys (writing c) p q };
 
+    /// Publishes bytes from the front of `buf`, as many as there is known room for.
+    ///
+    /// Returns: how many bytes it took. 0 says that the pipe is closed, for good, if `buf` has
+    /// bytes. In the call that sees it closed counted bytes may be lost.
+    /// Pending: there is no room and the pipe was not seen closed; or the call yields.
+    /// Errors: one of the kind `OutOfMemory`, for the reason for which `Writer::poll` fails. No
+    /// byte is published.
+    /// Wakes: the reader, if it waits and a byte was published.
     fn poll_write(&mut self, cx: &mut Context<'_>, buf: &[u8]) -> Poll<io::Result<usize>>
         ensures bound { count_moved result ≤ length buf.now }
         ensures bytes { Gave (writing self.old) (bytes_moved result buf.now) (writing self.new) }
@@ -186,6 +212,7 @@ impl tokio::io::AsyncWrite for CompatWriter {
         }
     }
 
+    /// Ready at once, always with `Ok(())`: what was written is published.
     fn poll_flush(&mut self, cx: &mut Context<'_>) -> Poll<io::Result<()>>
         ensures answer { result ≡ Poll.Ready (Ok (record {})) }
         ensures bytes { Gave (writing self.old) [] (writing self.new) }
@@ -197,6 +224,10 @@ impl tokio::io::AsyncWrite for CompatWriter {
         Poll::Ready(Ok(()))
     }
 
+    /// Closes the pipe for good.
+    ///
+    /// Returns: `Ok(())`, at once and always.
+    /// Wakes: the reader, if it waits, and a task that waits here for room.
     fn poll_shutdown(&mut self, cx: &mut Context<'_>) -> Poll<io::Result<()>>
         ensures answer { result ≡ Poll.Ready (Ok (record {})) }
         ensures bytes { Gave (writing self.old) [] (writing self.new) }

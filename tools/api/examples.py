@@ -1,0 +1,97 @@
+"""Excerpts of crates whose tests the gate runs: some lines of use for a call or a type."""
+import re
+from functools import cache
+
+from .sources import TOP
+
+# For each crate, where its examples are, in the order in which they are looked at.
+FILES = {
+    "piper": ["piper_examples/src/handles", "piper_examples/src/ends", "piper_examples/src/streams",
+              "piper_tests/src/marks"],
+    "piper_lines": ["piper_examples/src/lines", "piper_examples/src/frames"],
+    "piper_futures": ["piper_futures_streams_tests/src/methods",
+                      "piper_futures_streams_tests/src/owning",
+                      "piper_futures_streams_tests/src/threads",
+                      "piper_futures_streams_tests/src/joined",
+                      "piper_futures_streams_tests/src/crossing",
+                      "piper_futures_streams_tests/src/texts"],
+    "piper_streams": ["piper_futures_streams_tests/src/owning",
+                      "piper_futures_streams_tests/src/running",
+                      "piper_futures_streams_tests/src/crossing", "example_lines/src/main"],
+    "piper_duplex": ["piper_examples/src/duplex", "piper_lines_duplex_replay_tests/src/duplex/ends"],
+    "piper_transfer": ["piper_transfer_tests/src/faults", "piper_transfer_tests/src/waits",
+                       "piper_transfer_tests/src/sizes"],
+    "piper_tokio": ["piper_tokio_tests/src/ends", "piper_tokio_tests/src/copies",
+                    "piper_tokio_tests/src/codecs"],
+}
+# Where calls of a trait are made on any type that has it.
+OF_TRAITS = ["piper_examples/src/streams"]
+# What a value of a type is called there, if calls of two types have the same name.
+CALLED = {"Reader": "reader", "Writer": "writer", "OwnedReader": r"(?:reader|OwnedReader)(?:\.\w+\(\))?",
+          "OwnedWriter": r"(?:writer|OwnedWriter)(?:\.\w+\(\))?", "End": r"(?:near|far|end|second|duplex)",
+          "OwnedEnd": r"(?:near|far|OwnedEnd)", "Lines": r"(?:lines|lists|Lines)", "Frames": r"(?:frames|Frames)",
+          "WriteLine": r"(?:line|WriteLine)", "WriteFrame": r"(?:frame|WriteFrame)"}
+LEAST, MOST = 3, 14
+
+
+@cache
+def functions(path):
+    """The functions of a file: each its name, the number of its first line, and its lines."""
+    lines, found = (TOP / path).read_text().splitlines(), []
+    for start, line in enumerate(lines):
+        head = re.match(r"(?:pub(?:\(crate\))? )?fn (\w+)", line)
+        if head:
+            end = next(i for i in range(start, len(lines)) if lines[i] == "}")
+            found.append((head[1], start, lines[start:end + 1]))
+    return found
+
+
+def statements(lines):
+    """The statements of a function's body, each from a line to before another."""
+    first = next(i for i, line in enumerate(lines) if line == "{" or line.endswith(" {"))
+    starts = [i for i in range(first + 1, len(lines) - 1)
+              if re.match(r"    [^\s})\].]", lines[i])]
+    return list(zip(starts, [*starts[1:], len(lines) - 1]))
+
+
+def window(lines, word):
+    """The statement that has the word, with neighbours until there are some lines."""
+    parts = statements(lines)
+    at = next((i for i, (a, b) in enumerate(parts) if word.search("\n".join(lines[a:b]))), None)
+    if at is None:
+        return None
+    low = high = at
+    while parts[high][1] - parts[low][0] < LEAST and (low > 0 or high + 1 < len(parts)):
+        if low > 0 and (high + 1 == len(parts) or low == at):
+            low -= 1
+        else:
+            high += 1
+    return parts[low][0], parts[high][1]
+
+
+def excerpt(crate, owner, name):
+    """Lines of use of a call, or of a type if there is no owner, and where they stand."""
+    before = CALLED.get(owner, r"(?:\b\w+|\))")
+    pattern = rf"{before}(?:\.|::){name}\(" if owner else rf"(?:(?<![\w.:])|\.){name}\b ?[({{:]"
+    return search(FILES.get(crate, []), name, re.compile(pattern)) or (
+        search(OF_TRAITS, name, re.compile(rf"\.{name}\(")) if owner else None)
+
+
+def search(files, name, word):
+    """The best lines of some files: of a function with this name, or else the first."""
+    found = []
+    for order, file in enumerate(files):
+        path = f"crates/{file}.rt"
+        for called, start, lines in functions(path):
+            part = window(lines, word)
+            if part and part[1] - part[0] <= MOST:
+                kept = [line[4:] for line in lines[part[0]:part[1]]]
+                if len([line for line in kept if line]) < LEAST:
+                    part, kept = (0, 0), lines
+                found.append((name not in called, order, start, path, kept, part[0]))
+    if not found:
+        return None
+    _named, _order, start, path, lines, first = min(found)
+    while lines and not lines[-1]:
+        lines.pop()
+    return lines, f"{path}#L{start + first + 1}"
