@@ -17,3 +17,4 @@ pub mod Calling
 mod Pending
 mod RoomOrNone
 mod StaysRegistered
+mod AtOnce

@@ -1,13 +1,24 @@
 -- A fill's look, after which nothing was moved.
-use Rattle.std.proofs.Common.{◌≡◌, ℕ, ◌<◌, ◌⊎◌, [], length, true, Result, refl, sym, ap, ◌∙◌, append-nil, arith}
+use Rattle.std.proofs.Common.{◌≡◌, ℕ, ◌<◌, ◌⊎◌, [], ◌++◌, length, true, Result, refl, sym, subst, ap, ◌∙◌, append-nil, arith}
 use Rattle.futures.specs.declared.task.Poll.{Poll}
-use Rattle.piper_ring.specs.WriteView.{WriteView}
+use Rattle.piper_ring.specs.Loads.{FoundConsumed}
+use Rattle.piper_ring.specs.Shared.{Ring}
+use Rattle.piper_ring.specs.WriteView.{SameWriteEnd, WriteView}
+use Rattle.piper.proofs.Pending.{not_set}
+use Rattle.piper.specs.Copies.{IsReplaced}
 use Rattle.piper.specs.CopyAnswers.{Copies}
-use Rattle.piper.specs.Fills.{Fills}
+use Rattle.piper.specs.Fills.{FillRounds, Fills}
 use Rattle.piper.specs.Like.{Passes}
-use Rattle.piper_ring.specs.Looks.{WriterLooked}
+use Rattle.piper_ring.specs.Looks.{WriterIsUpToDate, WriterLooked}
 use Rattle.piper.specs.Polls.{IfReadyOk}
 use Rattle.piper.specs.declared.error.Inner.{Inner}
+
+-- what a load of the head showed stays so while bytes are published into that room
+up_to_date : (a b : WriteView) → SameWriteEnd a b → IsReplaced a b → WriterIsUpToDate a → WriterIsUpToDate b
+up_to_date a b same room now = (
+  omega (arith, now.0, same.told, same.capacity, room),
+  (now.1.0, subst (λ (ring : Ring). FoundConsumed ring.names now.1.0) (sym same.ring) now.1.1, omega (arith, now.1.2, same.capacity, room)),
+)
 
 module _ {S E : Type 0} (gives : Passes S) (is_dry : S → Type 0) (fails : S → E → S → Type 0) where
   -- nothing was moved after the look
@@ -25,6 +36,27 @@ module _ {S E : Type 0} (gives : Passes S) (is_dry : S → Type 0) (fails : S �
     most = most;
     end = record { end = looked.end; shut = looked.shut; saw = looked.saw };
   }
+
+  -- rounds moved bytes after the look
+  pub fills_rounds : (r : Poll (Result ℕ (Inner E))) (a w m b : WriteView) (s t : S) → WriterLooked a w → m ≡ w → FillRounds gives is_dry fails r m b s t
+      → Fills gives is_dry fails r a b s t
+  fills_rounds r a w m b s t looked same rounds =
+      let d : FillRounds gives is_dry fails r w b s t = subst (λ v. FillRounds gives is_dry fails r v b s t) same rounds in record {
+        published = d.published;
+        lost = d.lost;
+        sent = d.sent ∙ ap (λ l. l ++ d.published) looked.sent;
+        all = d.all;
+        last = d.last;
+        room = λ some. omega (arith, d.room, ap length looked.sent, looked.known some);
+        fresh = λ none unseen. up_to_date w b d.end.end d.room (looked.fresh none (not_set w.saw b.saw d.end.saw unseen));
+        copied = d.copied;
+        most = d.most;
+        end = record {
+          end = record { ring = d.end.end.ring ∙ looked.end.ring; capacity = d.end.end.capacity ∙ looked.end.capacity; told = d.end.end.told ∙ looked.end.told };
+          shut = d.end.shut ∙ looked.shut;
+          saw = omega (arith, looked.saw, d.end.saw);
+        };
+      }
 
 -- a look that goes on where it found no room is one look
 pub looked_on : (a b c : WriteView) → WriterLooked a b → b.room ≡ 0 → WriterLooked b c → WriterLooked a c

@@ -1,5 +1,6 @@
 -- A drain's look, after which nothing was moved, or rounds moved what it found.
 use Rattle.std.proofs.Common.{◌≡◌, ℕ, ◌<◌, ◌⊎◌, [], ◌++◌, length, Result, sym, ap, ◌∙◌, subst, append-nil, length-append, arith}
+use Rattle.std.proofs.lemmas.List.{nil_from_length}
 use Rattle.futures.specs.declared.task.Poll.{Poll}
 use Rattle.piper_ring.specs.Shared.{flag}
 use Rattle.piper_ring.specs.ReadView.{ReadView}
@@ -53,3 +54,13 @@ module _ {S E : Type 0} (takes : Passes S) (is_full : S → Type 0) (fails : S �
     -- which found some
     pub found_some : 0 < length w.known → 0 < found_len a b
     found_some some = omega (arith, some, ap length looked.taken, ap length d.taken, ap length d.known, length-append w.taken d.moved, length-append d.moved b.known)
+
+-- a look that goes on where it found no byte is one look
+pub looked_on : (a b c : ReadView) → ReaderLooked a b → length b.known ≡ 0 → ReaderLooked b c → ReaderLooked a c
+looked_on a b c p none q = record {
+  end = record { ring = q.end.ring ∙ p.end.ring; capacity = q.end.capacity ∙ p.end.capacity; told = q.end.told ∙ p.end.told; told_shut = q.end.told_shut ∙ p.end.told_shut };
+  taken = q.taken ∙ p.taken;
+  known = λ some. absurd (omega (arith, some, ap (λ (r : ReadView). length r.known) (p.known some), none));
+  fresh = λ empty. q.fresh (nil_from_length b.known none);
+  saw = omega (arith, p.saw, q.saw);
+}

@@ -13,7 +13,7 @@ use Rattle.piper.specs.Waits.{ReaderPends, WriterPends}
 use Rattle.piper.specs.declared.handles.Reader.{Reader}
 use Rattle.piper.specs.declared.handles.Writer.{Writer}
 
-not_set : (a b : Bool) → flag a ≤ flag b → b ≡ false → a ≡ false
+pub not_set : (a b : Bool) → flag a ≤ flag b → b ≡ false → a ≡ false
 not_set false b le none = refl
 not_set true b le none = absurd (omega (arith, le, ap flag none))
 

@@ -87,11 +87,13 @@ impl Reader {
         ensures context { Keeps cx.old cx.new }
         ensures rest { SameReaderButWaits self.old self.new }
     {
-        match self.look(Purpose::Poll, cx) {
-            Ok(Look::Ready) => {}
-            Ok(Look::Closed) => return Poll::Ready(Ok(false)),
-            Ok(Look::NotReady) => return Poll::Pending,
-            Err(OutOfMemory) => return Poll::Ready(Err(OutOfMemory)),
+        if !self.side.look_first(Purpose::Poll) {
+            match self.look_waiting(Purpose::Poll, cx) {
+                Ok(Look::Ready) => {}
+                Ok(Look::Closed) => return Poll::Ready(Ok(false)),
+                Ok(Look::NotReady) => return Poll::Pending,
+                Err(OutOfMemory) => return Poll::Ready(Err(OutOfMemory)),
+            }
         }
         take_own(&mut self.side);
         Poll::Ready(Ok(true))
@@ -241,11 +243,15 @@ impl Writer {
         ensures context { Keeps cx.old cx.new }
         ensures rest { SameWriterButWaits self.old self.new }
     {
-        match self.look(Purpose::Poll, cx) {
-            Ok(Look::Ready) => {}
-            Ok(Look::Closed) => return Poll::Ready(Ok(false)),
-            Ok(Look::NotReady) => return Poll::Pending,
-            Err(OutOfMemory) => return Poll::Ready(Err(OutOfMemory)),
+        match self.side.look_first(Purpose::Poll) {
+            Look::Ready => {}
+            Look::Closed => return Poll::Ready(Ok(false)),
+            Look::NotReady => match self.look_waiting(Purpose::Poll, cx) {
+                Ok(Look::Ready) => {}
+                Ok(Look::Closed) => return Poll::Ready(Ok(false)),
+                Ok(Look::NotReady) => return Poll::Pending,
+                Err(OutOfMemory) => return Poll::Ready(Err(OutOfMemory)),
+            },
         }
         take_own(&mut self.side);
         Poll::Ready(Ok(true))

@@ -18,34 +18,13 @@ impl Reader {
     ghost use Rattle.piper.specs.Handles.{SameReaderButWaits};
     ghost use Rattle.piper.specs.Waits.{ReaderIsRefused, ReaderPends};
 
-    /// Looks for a byte or the end, and waits for one.
-    #[inline(always)]
-    pub(crate) fn look(
+    /// The rest of a look that waits, if no byte was found.
+    #[inline(never)]
+    pub(crate) fn look_waiting(
         &mut self,
         purpose: Purpose,
         cx: &mut Context<'_>,
     ) -> Result<Look, OutOfMemory>
-        requires { reader_found_none purpose ≡ ReadPoint.LookRegister purpose }
-        ensures log { Opened (looks_at self.old.side.end purpose)
-            (wait_next result purpose (Point.Reader (reader_found purpose)))
-            self.old.side.log self.new.side.log }
-        ensures answer { ReaderWaited result self.new.side.end }
-        ensures pending { IfPending result (ReaderPends self.old self.new cx.new) }
-        ensures refused { OnErr result (ReaderIsRefused self.new cx.new) }
-        ensures looked { ReaderLooked self.old.side.end self.new.side.end }
-        ensures all { KnowsEnd self.old.side.end → self.new.side.end.all ≡ self.old.side.end.all }
-        ensures stays { IsEnded self.old.side.end → IsEnded self.new.side.end }
-        ensures rest { SameReaderButWaits self.old self.new }
-        ensures kept { Keeps cx.old cx.new }
-    {
-        if self.side.look_first(purpose) {
-            return Ok(Look::Ready);
-        }
-        self.look_waiting(purpose, cx)
-    }
-
-    /// The rest of `look`, where no byte was found.
-    fn look_waiting(&mut self, purpose: Purpose, cx: &mut Context<'_>) -> Result<Look, OutOfMemory>
         requires at { now self.old.side.log
             ≡ goes_on (Point.Reader (ReadPoint.LookRegister purpose)) }
         requires none { length self.old.side.end.known ≡ 0 }
@@ -72,33 +51,13 @@ impl Writer {
     ghost use Rattle.piper.specs.Handles.{SameWriterButWaits};
     ghost use Rattle.piper.specs.Waits.{WriterIsRefused, WriterPends};
 
-    /// Looks for room or the end, and waits for one.
-    #[inline(always)]
-    pub(crate) fn look(
+    /// The rest of a look that waits, if the pipe is open and no room was found.
+    #[inline(never)]
+    pub(crate) fn look_waiting(
         &mut self,
         purpose: Purpose,
         cx: &mut Context<'_>,
     ) -> Result<Look, OutOfMemory>
-        requires { writer_found_none purpose ≡ WritePoint.LookRegister purpose }
-        ensures log { Opened (Point.Writer (WritePoint.LookClosed purpose))
-            (wait_next result purpose (Point.Writer (writer_found purpose)))
-            self.old.side.log self.new.side.log }
-        ensures answer { WriterWaited result self.new.side.end }
-        ensures pending { IfPending result (WriterPends self.old self.new cx.new) }
-        ensures refused { OnErr result (WriterIsRefused self.new cx.new) }
-        ensures looked { WriterLooked self.old.side.end self.new.side.end }
-        ensures rest { SameWriterButWaits self.old self.new }
-        ensures kept { Keeps cx.old cx.new }
-    {
-        match self.side.look_first(purpose) {
-            Look::NotReady => self.look_waiting(purpose, cx),
-            found => Ok(found),
-        }
-    }
-
-    /// The rest of `look`, where the pipe is open and no room was found.
-    #[inline(never)]
-    fn look_waiting(&mut self, purpose: Purpose, cx: &mut Context<'_>) -> Result<Look, OutOfMemory>
         requires at { now self.old.side.log
             ≡ goes_on (Point.Writer (WritePoint.LookRegister purpose)) }
         requires none { self.old.side.end.room ≡ 0 }

@@ -138,11 +138,13 @@ impl Reader {
         ensures woken { WakesWriter self.old self.new }
         ensures rest { SameReaderButMoved self.old self.new }
     {
-        match self.look(Purpose::Copy(WAITING), cx) {
-            Ok(Look::Ready) => {}
-            Ok(Look::Closed) => return Poll::Ready(Ok(0)),
-            Ok(Look::NotReady) => return Poll::Pending,
-            Err(OutOfMemory) => return Poll::Ready(Err(Inner::Memory)),
+        if !self.side.look_first(Purpose::Copy(WAITING)) {
+            match self.look_waiting(Purpose::Copy(WAITING), cx) {
+                Ok(Look::Ready) => {}
+                Ok(Look::Closed) => return Poll::Ready(Ok(0)),
+                Ok(Look::NotReady) => return Poll::Pending,
+                Err(OutOfMemory) => return Poll::Ready(Err(Inner::Memory)),
+            }
         }
         if self.draw_and_take_own() {
             let _pending: Poll<()> = cx.yield_now();

@@ -188,11 +188,15 @@ impl Writer {
         ensures woken { WakesReader self.old self.new }
         ensures slots { SameWriterCells self.old self.new }
     {
-        match self.look(Purpose::Copy(WAITING), cx) {
-            Ok(Look::Ready) => {}
-            Ok(Look::Closed) => return Poll::Ready(Ok(0)),
-            Ok(Look::NotReady) => return Poll::Pending,
-            Err(OutOfMemory) => return Poll::Ready(Err(Inner::Memory)),
+        match self.side.look_first(Purpose::Copy(WAITING)) {
+            Look::Ready => {}
+            Look::Closed => return Poll::Ready(Ok(0)),
+            Look::NotReady => match self.look_waiting(Purpose::Copy(WAITING), cx) {
+                Ok(Look::Ready) => {}
+                Ok(Look::Closed) => return Poll::Ready(Ok(0)),
+                Ok(Look::NotReady) => return Poll::Pending,
+                Err(OutOfMemory) => return Poll::Ready(Err(Inner::Memory)),
+            },
         }
         if self.draw_and_take_own() {
             let _pending: Poll<()> = cx.yield_now();
