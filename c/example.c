@@ -122,7 +122,7 @@ int main(int argc, char **argv) {
         fprintf(stderr, "usage: example FILE\n");
         return 2;
     }
-    if (!piper_open(4096, &reader, &s.writer)) {
+    if (piper_open(4096, &reader, &s.writer) != PIPER_OPENED) {
         fprintf(stderr, "example: no memory\n");
         return 1;
     }

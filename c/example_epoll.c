@@ -88,7 +88,7 @@ int main(int argc, char **argv) {
         fprintf(stderr, "usage: example_epoll FILE\n");
         return 2;
     }
-    if (s.waiter == NULL || bell < 0 || !piper_open(4096, &reader, &s.writer) ||
+    if (s.waiter == NULL || bell < 0 || piper_open(4096, &reader, &s.writer) != PIPER_OPENED ||
         pthread_create(&thread, NULL, run_source, &s) != 0) {
         fprintf(stderr, "example_epoll: no memory, no descriptor or no thread\n");
         return 1;

@@ -32,14 +32,15 @@ def declare(name, result, *arguments):
 
 
 handle = ctypes.POINTER(Handle)
-pipe_open = declare("open_abi_1", ctypes.c_bool, size, handle, handle)
+pipe_open = declare("open_abi_2", ctypes.c_uint32, size, handle, handle)
 write = declare("writer_write", Moved, handle, ctypes.c_char_p, size)
 read = declare("reader_read", Moved, handle, ctypes.c_char_p, size)
 reader_drop = declare("reader_drop", Left, handle)
 writer_drop = declare("writer_drop", Left, handle)
 
 reader, writer = Handle(), Handle()
-if not pipe_open(1000, reader, writer):
+OPENED = 0
+if pipe_open(1000, reader, writer) != OPENED:
     sys.exit("no memory")
 line = b"hello from Python"
 sent = write(writer, line, len(line)).count

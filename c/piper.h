@@ -74,6 +74,12 @@ enum {
     PIPER_REFUSED = 4
 };
 
+/* Whether a consume, a publish or a next refused to take or publish so many bytes: it returned no words
+ * then, and `data` is PIPER_REFUSED. Where it was done and nobody is to be woken, `data` is 0. */
+static inline bool piper_is_refused(piper_words words) {
+    return words.vtable == 0 && words.data == PIPER_REFUSED;
+}
+
 /* The result of a poll. */
 typedef struct {
     /* One of the five above. */
@@ -96,7 +102,7 @@ typedef struct {
 
 /* The result of a publish that lends again. */
 typedef struct {
-    /* Who has to be woken now, if anyone, as below. */
+    /* Who has to be woken now, if anyone, as below, or that the publish was refused. */
     piper_words wake;
     /* How many bytes are lent. */
     size_t len;
@@ -126,7 +132,7 @@ typedef struct {
 
 /* The version of these declarations. A pipe is opened under a name that has it, so that a program
  * which was compiled with others does not link. */
-#define PIPER_ABI 1
+#define PIPER_ABI 2
 #define PIPER_NAME_OF(abi) piper_open_abi_##abi
 #define PIPER_NAME(abi) PIPER_NAME_OF(abi)
 #define piper_open PIPER_NAME(PIPER_ABI)
@@ -134,10 +140,19 @@ typedef struct {
 /* The largest capacity that there can be. */
 #define PIPER_MAX_CAPACITY (SIZE_MAX / 2)
 
+/* What an open came to. */
+enum {
+    /* Both handles are open. */
+    PIPER_OPENED = 0,
+    /* The capacity is 0 or more than PIPER_MAX_CAPACITY. Both handles are null. */
+    PIPER_BAD_CAPACITY = 1,
+    /* Memory was refused. Both handles are null. */
+    PIPER_NO_MEMORY = 2
+};
+
 /* Opens a pipe that holds `capacity` bytes. `*reader` and `*writer` are overwritten, whatever they
- * held. Returns false, and makes both null, where the capacity is 0 or more than PIPER_MAX_CAPACITY;
- * and for a capacity between these only where memory was refused. */
-bool piper_open(size_t capacity, piper_reader *reader, piper_writer *writer);
+ * held. Returns one of the three above. */
+uint32_t piper_open(size_t capacity, piper_reader *reader, piper_writer *writer);
 
 /* ---- The side that reads ---- */
 
@@ -159,8 +174,8 @@ piper_seen piper_reader_look(piper_reader *reader, const uint8_t **at);
 size_t piper_reader_peek(piper_reader *reader, const uint8_t **at);
 
 /* Takes the first `n` bytes of what `peek` gives, and gives their places back to the writer.
- * Returns who has to be woken now, if anyone, even where `n` is 0. An `n` over what `peek` gives is
- * refused: nothing is done, and nobody is returned. */
+ * Returns who has to be woken now, if anyone, even where `n` is 0. If `n` is more than `peek` gives,
+ * it does nothing, and returns a refusal (`piper_is_refused`). */
 piper_words piper_reader_consume(piper_reader *reader, size_t n);
 
 /* Copies bytes to `to`, at most `len`, and takes them. It never waits: `count` is 0 only where
@@ -169,13 +184,13 @@ piper_words piper_reader_consume(piper_reader *reader, size_t n);
 piper_moved piper_reader_read(piper_reader *reader, uint8_t *to, size_t len);
 
 /* How many bytes are unread now. The writer may publish more at any time. */
-size_t piper_reader_len(piper_reader *reader);
+size_t piper_reader_len(const piper_reader *reader);
 
 /* How many bytes the pipe can hold. */
-size_t piper_reader_capacity(piper_reader *reader);
+size_t piper_reader_capacity(const piper_reader *reader);
 
 /* Whether the pipe is closed now: a side was dropped, or the writer closed it. Once it is true it
- * stays so. Bytes may still be unread. */
+ * stays so, and the reader keeps that it was seen. Bytes may still be unread. */
 bool piper_reader_is_closed(piper_reader *reader);
 
 /* Closes the pipe, and drops this side; `reader->at` is null then. What is unread is lost. The
@@ -209,8 +224,8 @@ piper_seen piper_writer_offer(piper_writer *writer, size_t max, uint8_t **at);
 
 /* Ends the loan of the room at `at`, the address that the last lend, offer or next gave out:
  * publishes its first `n` bytes, as the caller wrote them, and takes all of it back. Returns who has
- * to be woken now, if anyone, even where `n` is 0. `n` is at most what was lent; that is not
- * tested. */
+ * to be woken now, if anyone, even where `n` is 0. If `n` is more than was lent, it takes the room
+ * back as `reclaim` does, and returns a refusal (`piper_is_refused`). */
 piper_words piper_writer_publish(piper_writer *writer, uint8_t *at, size_t n);
 
 /* Publishes as `publish` does, checks whether the pipe is closed, and lends as `lend` does, even
@@ -218,7 +233,7 @@ piper_words piper_writer_publish(piper_writer *writer, uint8_t *at, size_t n);
 piper_next piper_writer_next(piper_writer *writer, uint8_t *at, size_t n, size_t max,
                              uint8_t **next);
 
-/* Ends a loan as `publish` does, but publishes nothing, and there is nobody to be woken. */
+/* Ends a loan as `publish` does, but publishes nothing, and nobody is to be woken. */
 void piper_writer_reclaim(piper_writer *writer, uint8_t *at);
 
 /* Copies bytes from `from`, at most `len`, into the pipe, and publishes them. It never waits:
@@ -227,13 +242,13 @@ void piper_writer_reclaim(piper_writer *writer, uint8_t *at);
 piper_moved piper_writer_write(piper_writer *writer, const uint8_t *from, size_t len);
 
 /* How many bytes are unread now. The reader may consume some at any time. */
-size_t piper_writer_len(piper_writer *writer);
+size_t piper_writer_len(const piper_writer *writer);
 
 /* How many bytes the pipe can hold. */
-size_t piper_writer_capacity(piper_writer *writer);
+size_t piper_writer_capacity(const piper_writer *writer);
 
 /* Whether the pipe is closed now: a side was dropped, or this one closed it. Once it is true it
- * stays so. */
+ * stays so, and the writer keeps that it was seen. */
 bool piper_writer_is_closed(piper_writer *writer);
 
 /* Closes the pipe for good: the reader can still read what is unread. Nothing is lent or can be

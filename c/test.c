@@ -22,6 +22,11 @@ static bool is_none(piper_words words) {
     return words.vtable == 0;
 }
 
+/* A consume or a publish was done, and nobody is to be woken. */
+static bool is_done(piper_words words) {
+    return is_none(words) && !piper_is_refused(words);
+}
+
 static bool are(piper_words words, piper_words wanted) {
     return words.data == wanted.data && words.vtable == wanted.vtable;
 }
@@ -36,12 +41,16 @@ static void drop_both(piper_reader *reader, piper_writer *writer) {
 static void opens(void) {
     piper_reader reader;
     piper_writer writer;
-    CHECK(!piper_open(0, &reader, &writer) && reader.at == NULL && writer.at == NULL);
-    CHECK(!piper_open((size_t)1 << 63, &reader, &writer) && reader.at == NULL);
-    CHECK(!piper_open(SIZE_MAX, &reader, &writer) && writer.at == NULL);
+    CHECK(piper_open(0, &reader, &writer) == PIPER_BAD_CAPACITY);
+    CHECK(reader.at == NULL && writer.at == NULL);
+    CHECK(piper_open(PIPER_MAX_CAPACITY + 1, &reader, &writer) == PIPER_BAD_CAPACITY);
+    CHECK(piper_open(SIZE_MAX, &reader, &writer) == PIPER_BAD_CAPACITY && writer.at == NULL);
     /* No memory is that large. */
-    CHECK(!piper_open(((size_t)1 << 63) - 1, &reader, &writer) && reader.at == NULL);
-    CHECK(piper_open(3, &reader, &writer) && reader.at != NULL && writer.at != NULL);
+    CHECK(piper_open(PIPER_MAX_CAPACITY, &reader, &writer) == PIPER_NO_MEMORY);
+    CHECK(reader.at == NULL && writer.at == NULL);
+    CHECK(piper_open(3, &reader, &writer) == PIPER_OPENED && reader.at != NULL && writer.at != NULL);
+    const piper_reader *asked = &reader;
+    CHECK(piper_reader_capacity(asked) == 3 && piper_reader_len(asked) == 0 && asked->at != NULL);
     CHECK(piper_reader_capacity(&reader) == 3 && piper_writer_capacity(&writer) == 3);
     CHECK(piper_reader_len(&reader) == 0 && piper_writer_len(&writer) == 0);
     CHECK(!piper_reader_is_closed(&reader) && !piper_writer_is_closed(&writer));
@@ -52,7 +61,7 @@ static void copies(void) {
     piper_reader reader;
     piper_writer writer;
     uint8_t to[8] = "........";
-    CHECK(piper_open(4, &reader, &writer));
+    CHECK(piper_open(4, &reader, &writer) == PIPER_OPENED);
     CHECK(piper_reader_read(&reader, to, 8).count == 0);
     CHECK(piper_writer_write(&writer, (const uint8_t *)"abcdef", 6).count == 4);
     CHECK(piper_writer_write(&writer, (const uint8_t *)"ef", 2).count == 0);
@@ -72,26 +81,52 @@ static void in_place(void) {
     piper_writer writer;
     uint8_t *room;
     const uint8_t *bytes;
-    CHECK(piper_open(10, &reader, &writer));
+    CHECK(piper_open(10, &reader, &writer) == PIPER_OPENED);
     CHECK(piper_reader_peek(&reader, &bytes) == 0);
     CHECK(piper_writer_lend(&writer, 4, &room) == 4);
     memcpy(room, "wxyz", 4);
-    CHECK(is_none(piper_writer_publish(&writer, room, 3)));
+    CHECK(is_done(piper_writer_publish(&writer, room, 3)));
     CHECK(piper_writer_len(&writer) == 3);
     /* Given back with nothing published. */
     CHECK(piper_writer_lend(&writer, SIZE_MAX, &room) == 7);
     piper_writer_reclaim(&writer, room);
     CHECK(piper_writer_len(&writer) == 3);
     CHECK(piper_writer_lend(&writer, 0, &room) == 0);
-    CHECK(is_none(piper_writer_publish(&writer, room, 0)));
+    CHECK(is_done(piper_writer_publish(&writer, room, 0)));
     piper_seen seen = piper_reader_look(&reader, &bytes);
     CHECK(seen.outcome == PIPER_READY && seen.len == 3 && memcmp(bytes, "wxy", 3) == 0);
     CHECK(piper_reader_peek(&reader, &bytes) == 3 && memcmp(bytes, "wxy", 3) == 0);
     /* More than was peeked is refused. */
-    CHECK(is_none(piper_reader_consume(&reader, 4)) && piper_reader_len(&reader) == 3);
-    CHECK(is_none(piper_reader_consume(&reader, SIZE_MAX)) && piper_reader_len(&reader) == 3);
-    CHECK(is_none(piper_reader_consume(&reader, 2)) && piper_reader_len(&reader) == 1);
+    CHECK(piper_is_refused(piper_reader_consume(&reader, 4)) && piper_reader_len(&reader) == 3);
+    CHECK(piper_is_refused(piper_reader_consume(&reader, SIZE_MAX)) && piper_reader_len(&reader) == 3);
+    CHECK(is_done(piper_reader_consume(&reader, 0)) && piper_reader_len(&reader) == 3);
+    CHECK(is_done(piper_reader_consume(&reader, 2)) && piper_reader_len(&reader) == 1);
     CHECK(piper_reader_peek(&reader, &bytes) == 1 && bytes[0] == 'y');
+    drop_both(&reader, &writer);
+}
+
+/* More than was lent is not published, and nobody is woken: the bytes behind the room are nobody's. */
+static void publishes_no_more(void) {
+    piper_reader reader;
+    piper_writer writer;
+    uint8_t *room, *next;
+    uint8_t to[16];
+    CHECK(piper_open(10, &reader, &writer) == PIPER_OPENED);
+    CHECK(piper_reader_poll(&reader, READER).outcome == PIPER_PENDING);
+    for (size_t n = 5; n < 20; n++) {
+        CHECK(piper_writer_lend(&writer, 4, &room) == 4);
+        memcpy(room, "abcd", 4);
+        CHECK(piper_is_refused(piper_writer_publish(&writer, room, n)));
+        CHECK(piper_writer_len(&writer) == 0 && piper_reader_read(&reader, to, 16).count == 0);
+    }
+    CHECK(piper_writer_lend(&writer, 0, &room) == 0);
+    CHECK(piper_is_refused(piper_writer_publish(&writer, room, 1)));
+    /* So it is in a call that goes on: it has room again, and the reader is still to be woken. */
+    CHECK(piper_writer_offer(&writer, 4, &room).len == 4);
+    piper_next after = piper_writer_next(&writer, room, SIZE_MAX, 3, &next);
+    CHECK(piper_is_refused(after.wake) && after.len == 3 && !after.is_closed && next == room);
+    CHECK(are(piper_writer_publish(&writer, next, 3), READER));
+    CHECK(piper_reader_read(&reader, to, 16).count == 3 && memcmp(to, "abc", 3) == 0);
     drop_both(&reader, &writer);
 }
 
@@ -100,16 +135,16 @@ static void goes_on(void) {
     piper_reader reader;
     piper_writer writer;
     uint8_t *room, *next, to[8];
-    CHECK(piper_open(6, &reader, &writer));
+    CHECK(piper_open(6, &reader, &writer) == PIPER_OPENED);
     piper_seen seen = piper_writer_offer(&writer, 4, &room);
     CHECK(seen.outcome == PIPER_READY && seen.len == 4);
     memcpy(room, "abcd", 4);
     piper_next after = piper_writer_next(&writer, room, 3, SIZE_MAX, &next);
-    CHECK(is_none(after.wake) && after.len == 3 && !after.is_closed && next == room + 3);
+    CHECK(is_done(after.wake) && after.len == 3 && !after.is_closed && next == room + 3);
     CHECK(next[0] == 'd');
     memcpy(next, "efg", 3);
     after = piper_writer_next(&writer, next, 3, SIZE_MAX, &room);
-    CHECK(is_none(after.wake) && after.len == 0 && !after.is_closed);
+    CHECK(is_done(after.wake) && after.len == 0 && !after.is_closed);
     piper_writer_reclaim(&writer, room);
     room = NULL;
     seen = piper_writer_offer(&writer, 1, &room);
@@ -122,7 +157,7 @@ static void goes_on(void) {
     CHECK(are(after.wake, READER) && after.len == 2);
     CHECK(is_none(piper_reader_drop(&reader).wake));
     after = piper_writer_next(&writer, room, 2, 2, &room);
-    CHECK(is_none(after.wake) && after.is_closed);
+    CHECK(is_done(after.wake) && after.is_closed);
     piper_writer_reclaim(&writer, room);
     seen = piper_writer_offer(&writer, 1, &room);
     CHECK(seen.outcome == PIPER_END && seen.len == 0);
@@ -134,7 +169,7 @@ static void wakes_the_reader(void) {
     piper_writer writer;
     const uint8_t *bytes;
     uint8_t *room, to[4];
-    CHECK(piper_open(4, &reader, &writer));
+    CHECK(piper_open(4, &reader, &writer) == PIPER_OPENED);
     CHECK(piper_reader_look(&reader, &bytes).outcome == PIPER_PENDING);
     piper_polled polled = piper_reader_poll(&reader, READER);
     CHECK(polled.outcome == PIPER_PENDING && is_none(polled.before) && is_none(polled.mine));
@@ -169,15 +204,16 @@ static void wakes_the_writer(void) {
     piper_reader reader;
     piper_writer writer;
     const uint8_t *bytes;
-    CHECK(piper_open(2, &reader, &writer));
+    CHECK(piper_open(2, &reader, &writer) == PIPER_OPENED);
     CHECK(piper_writer_look(&writer) == PIPER_READY);
     CHECK(piper_writer_write(&writer, (const uint8_t *)"ab", 2).count == 2);
     CHECK(piper_writer_look(&writer) == PIPER_PENDING);
     piper_polled polled = piper_writer_poll(&writer, WRITER);
     CHECK(polled.outcome == PIPER_PENDING && is_none(polled.before) && is_none(polled.mine));
     CHECK(piper_reader_look(&reader, &bytes).outcome == PIPER_READY);
+    CHECK(piper_is_refused(piper_reader_consume(&reader, 3)));
     CHECK(are(piper_reader_consume(&reader, 1), WRITER));
-    CHECK(is_none(piper_reader_consume(&reader, 1)));
+    CHECK(is_done(piper_reader_consume(&reader, 1)));
     polled = piper_writer_poll(&writer, WRITER);
     CHECK(polled.outcome == PIPER_READY && are(polled.mine, WRITER));
     polled = piper_writer_poll(&writer, (piper_words){0, 0});
@@ -190,7 +226,7 @@ static void closes(void) {
     piper_writer writer;
     const uint8_t *bytes;
     uint8_t to[4];
-    CHECK(piper_open(4, &reader, &writer));
+    CHECK(piper_open(4, &reader, &writer) == PIPER_OPENED);
     CHECK(piper_reader_poll(&reader, READER).outcome == PIPER_PENDING);
     CHECK(are(piper_writer_write(&writer, (const uint8_t *)"ab", 2).wake, READER));
     CHECK(piper_reader_read(&reader, to, 1).count == 1);
@@ -215,27 +251,27 @@ static void closes(void) {
 static void leaving_wakes(void) {
     piper_reader reader;
     piper_writer writer;
-    CHECK(piper_open(1, &reader, &writer));
+    CHECK(piper_open(1, &reader, &writer) == PIPER_OPENED);
     CHECK(piper_reader_poll(&reader, READER).outcome == PIPER_PENDING);
     piper_left left = piper_writer_close(&writer);
     CHECK(are(left.wake, READER) && is_none(left.mine));
     drop_both(&reader, &writer);
 
-    CHECK(piper_open(1, &reader, &writer));
+    CHECK(piper_open(1, &reader, &writer) == PIPER_OPENED);
     CHECK(piper_writer_write(&writer, (const uint8_t *)"a", 1).count == 1);
     CHECK(piper_writer_poll(&writer, WRITER).outcome == PIPER_PENDING);
     left = piper_writer_close(&writer);
     CHECK(is_none(left.wake) && are(left.mine, WRITER));
     drop_both(&reader, &writer);
 
-    CHECK(piper_open(1, &reader, &writer));
+    CHECK(piper_open(1, &reader, &writer) == PIPER_OPENED);
     CHECK(piper_reader_poll(&reader, READER).outcome == PIPER_PENDING);
     left = piper_writer_drop(&writer);
     CHECK(are(left.wake, READER) && is_none(left.mine));
     left = piper_reader_drop(&reader);
     CHECK(is_none(left.wake) && is_none(left.mine));
 
-    CHECK(piper_open(1, &reader, &writer));
+    CHECK(piper_open(1, &reader, &writer) == PIPER_OPENED);
     CHECK(piper_writer_write(&writer, (const uint8_t *)"a", 1).count == 1);
     CHECK(piper_writer_poll(&writer, WRITER).outcome == PIPER_PENDING);
     left = piper_reader_drop(&reader);
@@ -304,7 +340,7 @@ static void two_threads(size_t capacity) {
     piper_writer writer;
     pthread_t thread;
     size_t came = 0;
-    CHECK(piper_open(capacity, &reader, &writer));
+    CHECK(piper_open(capacity, &reader, &writer) == PIPER_OPENED);
     CHECK(pthread_create(&thread, NULL, run_writer, &writer) == 0);
     for (;;) {
         piper_polled polled = piper_reader_poll(&reader, (piper_words){(uintptr_t)&bells[0], 1});
@@ -330,6 +366,7 @@ int main(void) {
     opens();
     copies();
     in_place();
+    publishes_no_more();
     goes_on();
     wakes_the_reader();
     wakes_the_writer();

@@ -43,7 +43,7 @@ static void two_threads(size_t capacity) {
     piper_waiter *mine = piper_waiter_new();
     uint8_t place[50];
     size_t came = 0, n;
-    CHECK(mine != NULL && piper_open(capacity, &reader, &writer));
+    CHECK(mine != NULL && piper_open(capacity, &reader, &writer) == PIPER_OPENED);
     CHECK(pthread_create(&thread, NULL, run_writer, &writer) == 0);
     while ((n = piper_reader_read_wait(&reader, mine, place, sizeof place)) > 0) {
         for (size_t i = 0; i < n; i++)
@@ -62,7 +62,7 @@ static void a_late_wake(void) {
     piper_writer writer;
     piper_waiter *mine = piper_waiter_new();
     uint8_t byte = 7;
-    CHECK(mine != NULL && piper_open(4, &reader, &writer));
+    CHECK(mine != NULL && piper_open(4, &reader, &writer) == PIPER_OPENED);
     CHECK(piper_reader_poll(&reader, piper_waiter_words(mine)).outcome == PIPER_PENDING);
     piper_words held = piper_writer_write(&writer, &byte, 1).wake;
     CHECK(held.data == (uintptr_t)mine);
@@ -85,7 +85,7 @@ static void a_closed_pipe(void) {
     piper_writer writer;
     pthread_t thread;
     piper_waiter *mine = piper_waiter_new();
-    CHECK(mine != NULL && piper_open(4, &reader, &writer));
+    CHECK(mine != NULL && piper_open(4, &reader, &writer) == PIPER_OPENED);
     CHECK(pthread_create(&thread, NULL, drop_reader, &reader) == 0);
     CHECK(piper_writer_write_wait(&writer, mine, (const uint8_t *)"abcdef", 6) <= 4);
     CHECK(piper_writer_write_wait(&writer, mine, (const uint8_t *)"a", 1) == 0);

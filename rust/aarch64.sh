@@ -5,11 +5,12 @@
 #
 # It downloads the packages (250 MB) and unpacks them in FOLDER, and installs none of them; what is there already is taken. It adds
 # the architecture arm64 to those that apt-get knows. It needs cargo, qemu-aarch64, aarch64-linux-gnu-gcc, and the sources of
-# other packages as for check.sh. The status is that of cargo, or 2 where something is missing.
+# other packages as for check.sh. The last line is 'aarch64-unknown-linux-gnu: N passed, M failed'. The status is 2 where something
+# is missing.
 set -euo pipefail
 cd "$(dirname "$0")"
 sources=${CARGO_SOURCES:-/usr/share/cargo/registry}
-[ $# -eq 1 ] || { sed -n 's/^# \?//; 2,9p' "$0" >&2; exit 2; }
+[ $# -eq 1 ] || { sed -n 's/^# \?//; 2,10p' "$0" >&2; exit 2; }
 for tool in cargo qemu-aarch64 taskset aarch64-linux-gnu-gcc dpkg; do
     command -v "$tool" > /dev/null || { echo "aarch64.sh: $tool is missing" >&2; exit 2; }
 done
@@ -49,5 +50,10 @@ for file in tests/*.rs; do
     [ "$file" = tests/examples.rs ] || suites+=(--test "$(basename "$file" .rs)")
 done
 # One test starts itself anew, which an emulator can't.
+status=0
 cargo --offline --config "source.crates-io.replace-with='here'" --config "source.here.directory='$sources'" test "${suites[@]}" \
-    --no-fail-fast --target aarch64-unknown-linux-gnu --target-dir "$root/target" -- --skip a_refusal_ends_the_program
+    --no-fail-fast --target aarch64-unknown-linux-gnu --target-dir "$root/target" -- --skip a_refusal_ends_the_program 2>&1 |
+    tee "$root/said" || status=1
+awk '/^test result: / { passed += $4; failed += $6 }
+    END { print "aarch64-unknown-linux-gnu: " passed + 0 " passed, " failed + 0 " failed" }' "$root/said"
+exit "$status"

@@ -128,7 +128,7 @@ int main(void) {
     piper_reader reader;
     piper_writer writer;
     uint8_t to;
-    if (one_carries(1) != 1 || !piper_open(4, &reader, &writer))
+    if (one_carries(1) != 1 || piper_open(4, &reader, &writer) != PIPER_OPENED)
         return 1;
     bool came = piper_writer_write(&writer, (const uint8_t *)"a", 1).count == 1 && piper_reader_read(&reader, &to, 1).count == 1;
     piper_writer_drop(&writer);

@@ -68,9 +68,10 @@ def rust_call(parameters, result, structs):
 
 
 def exported():
-    text = without_comments("\n".join(it.read_text() for it in sorted(EXPORTS.glob("*.rt"))))
-    # Those of words.rt stand in results of other files.
-    structs = rust_structs("\n".join(sorted(re.split(r"(?=#\[repr\(C\)\])", text), key=lambda it: "PiperWords {" not in it[:80])))
+    # The structs of words.rt are parts of those of other files.
+    files = sorted(EXPORTS.glob("*.rt"), key=lambda it: (it.name != "words.rt", it.name))
+    text = without_comments("\n".join(it.read_text() for it in files))
+    structs = rust_structs(text)
     calls = re.findall(
         r'extern "C" fn (\w+)\((.*?)\)\s*(?:->\s*(\w+))?\s*(?:requires|ensures|\{)', text, re.S
     )
@@ -114,10 +115,11 @@ def declared():
 
 
 def numbers_of_outcomes():
-    """By each of the three sources: the name of an outcome, and its number."""
-    code = re.findall(r"Outcome::(\w+) => (\d)", (EXPORTS / "outcome.rt").read_text())
+    """By each of the three sources: the name of what a call came to, and its number."""
+    code = re.findall(r"(?:Opening|Outcome)::(\w+) => (\d)", (EXPORTS / "outcome.rt").read_text())
     header = re.findall(r"PIPER_(\w+) = (\d)", HEADER.read_text())
     rust = re.findall(r"const (\w+): u32 = (\d);", REPEATED.read_text())
+    code = [(re.sub(r"(?<=[a-z])(?=[A-Z])", "_", name), number) for name, number in code]
     return [{name.upper(): int(number) for name, number in it} for it in (code, header, rust)]
 
 

@@ -63,10 +63,8 @@ SEALS = {
         [f"piper_ring/proofs/ring/seats/{seat}/leave" for seat in ("ReadSeat", "WriteSeat")],
     ),
     "as_lying": ("piper_ring/specs/Loads", ["piper_ring/proofs/ring/remains/Remains/into_parts"]),
-    "as_dropped": (
-        "piper/specs/Waits",
-        [f"piper/proofs/handles/{handle}/drop" for handle in ("Reader", "Writer")],
-    ),
+    "as_called": ("piper/specs/Called", ["piper/proofs/handles/waiting/call"]),
+    "as_let_go": ("piper/specs/Called", ["piper/proofs/handles/waiting/let_go"]),
     "just_registered": ("piper/specs/Contexts", ["piper/proofs/handles/waiting/grant"]),
     "as_read": ("piper/specs/StdEnds", ["piper/proofs/like/std_ends/std_read"]),
     "as_written": ("piper/specs/StdEnds", ["piper/proofs/like/std_ends/std_write"]),

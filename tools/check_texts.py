@@ -16,6 +16,9 @@ import re
 import sys
 from pathlib import Path
 
+sys.dont_write_bytecode = True  # nothing of ours beside the tools
+from texts import NOTE
+
 TOP = Path(__file__).resolve().parent.parent
 LIB = TOP / "rust/lib"
 MEMORY = TOP / "crates/piper_ring/src/ring/memory.rt"
@@ -29,8 +32,8 @@ class Refused(Exception):
 
 
 def instructions(text):
-    """The labels and instructions of a text, and its constants, without comments."""
-    for line in text.split("\n"):
+    """The labels and instructions of a text, and its constants, without comments and the note that Linux reads."""
+    for line in NOTE.sub("", text).split("\n"):
         line = re.sub(r"\s*(?:#\s.*|//.*)$", "", line)
         if LABEL.match(line) or re.match(r"\t(?:[a-z]|\.(?:word|long|quad|byte)\b)", line):
             yield line

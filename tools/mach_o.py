@@ -3,7 +3,7 @@ directives and names."""
 import re
 
 TEXT = "\t.section\t__TEXT,__text,regular,pure_instructions"
-SECTIONS = {8: "\t.section\t__TEXT,__literal8,8byte_literals", 16: "\t.section\t__TEXT,__literal16,16byte_literals"}
+SECTIONS = {size: f"\t.section\t__TEXT,__literal{size},{size}byte_literals" for size in (4, 8, 16)}
 # What only ELF has.
 LEFT_OUT = re.compile(r"^\t\.(type|size)\t.*\n|^\t\.section\t\"\.note\.GNU-stack\".*\n", re.M)
 SYMBOL = r"[A-Za-z_][\w.]*"

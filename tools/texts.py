@@ -29,6 +29,9 @@ LEFT_OUT = re.compile(r"^\t\.(addrsig|addrsig_sym|attribute|file|ident)\b.*\n", 
 TOKEN = re.compile(r'"[^"\n]*"|\.L\w+|(?<![\w.$%])[A-Za-z_]\w*(?![\w:.]*::)')
 GLOBAL = re.compile(r"^\t\.globl\t(\w+).*\n", re.M)
 LABEL = re.compile(r'^("[^"\n]*"|[A-Za-z_][\w.]*):', re.M)
+# By this flag LLVM notes that a program may have a shadow stack: each function returns to where it was called.
+SHADOW_STACK = '!llvm.module.flags = !{!9999}\n!9999 = !{i32 8, !"cf-protection-return", i32 1}\n'
+NOTE = re.compile(r'^\t\.section\t\.note\.gnu\.property,.*\n(?:\t\.(?:p2align|long|asciz)\t.*\n)+', re.M)
 # The heap's two functions get names of ours, so that no other library of the toolchain meets them.
 HEAP = {"rattle_alloc": "heap_alloc", "rattle_dealloc": "heap_dealloc"}
 
@@ -66,21 +69,29 @@ def with_tables(text, words):
                   lambda it: it[0] + ("uwtable " if it[1] in used else ""), text, flags=re.M), words
 
 
+def with_tables_and_note(text, words):
+    if "!llvm.module.flags" in text:
+        raise Failed("a module has flags of its own")
+    return with_tables(f"{text}\n{SHADOW_STACK}", words)
+
+
 def without_tables(text):
     return re.sub(r"^\t\.cfi_.*\n", "", text, flags=re.M)
 
 
 def linux(clang, target, module):
-    """The text with tables. Its instructions are those of the module as it is."""
+    """The text with tables, and on x86-64 the note of a shadow stack. Its instructions are those of the module as it is."""
     plain = compile_module(clang, module, "-S").decode()
     # On aarch64 LLVM orders instructions otherwise around its directives: there they are ours.
     if target.startswith("aarch64"):
-        text = frames.described(plain)
+        text, note = frames.described(plain), ""
     else:
-        text = compile_module(clang, module, "-S", with_tables).decode()
+        text = compile_module(clang, module, "-S", with_tables_and_note).decode()
+        note = NOTE.search(text)[0]
+        text = text.replace(f"{note}\t.text\n", "", 1)
     if without_tables(text) != plain:
         raise Failed(f"{target}: with tables the instructions are not those of the proved build")
-    return LEFT_OUT.sub("", text)
+    return LEFT_OUT.sub("", text), note
 
 
 def compiled(clang, module, changed):
@@ -89,11 +100,13 @@ def compiled(clang, module, changed):
 
 
 def raw_texts(clang, modules):
-    """The text of each target that clang writes, with the symbols that the module has."""
-    texts = {target: linux(clang, target, modules[target]) for target in LINUX}
+    """The text of each target that clang writes, with the symbols that the module has; and the notes of some."""
+    texts, notes = {}, {}
+    for target in LINUX:
+        texts[target], notes[target] = linux(clang, target, modules[target])
     texts[riscv64.TARGET] = LEFT_OUT.sub("", compiled(clang, modules[LINUX[0]], riscv64.changed))
     texts[WINDOWS] = LEFT_OUT.sub("", windows.without_features(compiled(clang, modules[LINUX[0]], windows.changed)))
-    return texts
+    return texts, notes
 
 
 def own_prefix(texts):
@@ -164,7 +177,7 @@ def exports_of(raw):
     return sorted(it.removeprefix("piper_") for it in GLOBAL.findall(raw))
 
 
-def linux_tail(exports, prefix):
+def linux_tail(exports, prefix, note):
     """Who sees the exports: the crate's objects under names of their own, or C."""
     own = "".join(f"\t.weak\t{prefix}{it}\n\t.hidden\t{prefix}{it}\n" for it in exports)
     for_c = "".join(f"\t.globl\tpiper_{it}\n\t.set\tpiper_{it}, {prefix}{it}\n" for it in exports)
@@ -176,17 +189,17 @@ def linux_tail(exports, prefix):
 	.else
 {for_c}	.ifndef	piper_exports
 {hidden}	.endif
-	.endif
+{note}	.endif
 	.endif
 """
 
 
-def linux_text(target, verdict, raw, prefix):
+def linux_text(target, verdict, raw, prefix, note):
     exports = exports_of(raw)
     heap = "".join(f"\t.set\t{prefix}{it}, piper_{it}\n" for it in HEAP.values())
     body = with_sources(named(GLOBAL.sub("", raw), prefix), prefix)
     return (f"{head(target, verdict, prefix)}\t.ifndef\tpiper_own_names\n{heap}\t.endif\n"
-            f"{body}{linux_tail(exports, prefix)}")
+            f"{body}{linux_tail(exports, prefix, note)}")
 
 
 def windows_text(verdict, raw, prefix):
@@ -214,11 +227,11 @@ macro_rules! own {{
 
 def texts_of(clang, modules):
     """Each file that is made of the modules: its place, and what is in it."""
-    raw = raw_texts(clang, modules)
+    raw, notes = raw_texts(clang, modules)
     prefix = own_prefix(raw)
     checks = {it: said(modules[it], "check") for it in LINUX}
-    made = {it: linux_text(it, checks[it], raw[it], prefix) for it in LINUX}
-    made[riscv64.TARGET] = linux_text(riscv64.TARGET, checks[LINUX[0]], raw[riscv64.TARGET], prefix)
+    made = {it: linux_text(it, checks[it], raw[it], prefix, notes[it]) for it in LINUX}
+    made[riscv64.TARGET] = linux_text(riscv64.TARGET, checks[LINUX[0]], raw[riscv64.TARGET], prefix, "")
     made[WINDOWS] = windows_text(checks[LINUX[0]], raw[WINDOWS], prefix)
     for target, of in MACOS.items():
         made[target] = macos_text(target, checks[of], raw[of], prefix)

@@ -1,9 +1,9 @@
 #!/usr/bin/env bash
 # Tries the packages for cargo and for C, on a PATH that has no `rt`: `rust/check.sh`, several copies in one program, the tests of
-# crates that stand on such a pipe by `rust/clients.sh`, `make -C c check`, and the same for aarch64 and riscv64 under qemu; that clang-22 makes
-# the same texts of the modules, where it is there; and `rust/windows.sh`, where it was run once with the folder that PIPER_PLATFORMS
-# names. The last line counts them. What can't be tried, since a tool or sources of Debian's are missing and can't be installed, it
-# says.
+# crates that stand on such a pipe by `rust/clients.sh`, `make -C c check`, and the same for aarch64 and riscv64 under qemu; that clang-22
+# makes the same texts of the modules, where it is there; and the tests of Rust for other targets (`rust/run_for.sh`, `rust/aarch64.sh`,
+# `rust/targets.sh`), each where it was run once with the folder that PIPER_PLATFORMS names. The last line counts them. What can't be
+# tried, since a tool or sources of Debian's are missing and can't be installed, it says.
 set -u
 cd "$(dirname "$0")/.."
 room=$(mktemp -d)
@@ -95,13 +95,37 @@ modules() {
     tools/compile_modules clang-22
 }
 
-windows() {
-    local folder=${PIPER_PLATFORMS:-/var/tmp/piper-platforms}
-    [ -d "$folder/target/x86_64-pc-windows-gnu" ] || { echo 'windows: not tried'; return 2; }
-    rust/windows.sh "$folder"
+platforms=${PIPER_PLATFORMS:-/var/tmp/piper-platforms}
+
+# The tests of Rust for another target, where its std was built before: else that would take minutes.
+rust_for() { # TARGET
+    [ -d "$platforms/target/$1" ] || { echo "rust for $1: not tried"; return 2; }
+    rust/run_for.sh "$platforms" "$1"
 }
 
-names=(rust one_program clients c aarch64 riscv64 modules windows)
+windows() {
+    rust_for x86_64-pc-windows-gnu
+}
+
+musl() {
+    rust_for x86_64-unknown-linux-musl
+}
+
+rust_riscv64() {
+    rust_for riscv64gc-unknown-linux-gnu
+}
+
+rust_aarch64() {
+    [ -d "$platforms/aarch64" ] || { echo 'rust for aarch64: not tried'; return 2; }
+    rust/aarch64.sh "$platforms/aarch64"
+}
+
+targets() {
+    [ -d "$platforms/checked" ] || { echo 'targets: not tried'; return 2; }
+    rust/targets.sh "$platforms"
+}
+
+names=(rust one_program clients c aarch64 riscv64 modules windows musl rust_aarch64 rust_riscv64 targets)
 line=
 for name in "${names[@]}"; do
     try "$name" "$name"

@@ -26,7 +26,8 @@ pub(crate) fn open(capacity: usize) -> (ReadEnd, WriteEnd) {
         at: ptr::null_mut(),
     };
     // SAFETY: both pointers are to values of ours.
-    if !unsafe { sys::open_abi_1(capacity, &mut reader, &mut writer) } {
+    let opened = unsafe { sys::open_abi_2(capacity, &mut reader, &mut writer) };
+    if opened != sys::OPENED {
         heap::end_for_want_of_memory();
     }
     (

@@ -48,6 +48,9 @@ pub(crate) struct RawWriter {
     pub(crate) at: *mut c_void,
 }
 
+/// What an open came to: both handles are open.
+pub(crate) const OPENED: u32 = 0;
+
 // Of the outcomes of a look or a poll 0 says that there is nothing to do yet. The words of a poll
 // are in the pipe then; a look leaves none.
 
@@ -142,11 +145,11 @@ macro_rules! library {
 }
 
 library! {
-    pub(crate) fn open_abi_1(
+    pub(crate) fn open_abi_2(
         capacity: usize,
         reader: *mut RawReader,
         writer: *mut RawWriter,
-    ) -> bool;
+    ) -> u32;
 
     pub(crate) fn reader_look(reader: *mut RawReader, at: *mut *const u8) -> Seen;
     pub(crate) fn reader_poll(reader: *mut RawReader, mine: Words) -> Polled;

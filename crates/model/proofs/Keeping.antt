@@ -15,6 +15,7 @@ use Rattle.model.proofs.Disjointness.{disjoint}
 use Rattle.model.proofs.Conserving.{capacity-kept, conserved-step}
 use Rattle.model.proofs.KnownRuns.{known_none, known_more, ready-run, counted-run, calls-counted}
 use Rattle.model.proofs.Honesty.{Honest, honest_none, honest_more}
+use Rattle.model.proofs.Waking.{awake}
 use Rattle.model.proofs.Remembering.{Remembers, remembers_none, remembers_more}
 use Rattle.model.proofs.Finality.{Final, final_none, final_more}
 use Rattle.model.proofs.Heeding.{Heeds, heeds_none, heeds_more}
@@ -41,6 +42,7 @@ laws cap ss p events runs sound conserved known honest final heeds remembers =
       finality = final.final;
       heeded = heeds.heeded;
       remembered = remembers.remembered;
+      awake = awake p events sound remembers.remembered;
       answered = answered-run cap ss p events runs;
       known = known;
       ready = ready-run cap ss p events plain;

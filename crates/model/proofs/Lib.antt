@@ -34,6 +34,7 @@ pub mod Watching
 pub mod ReaderWaits
 pub mod WriterWaits
 pub mod Remembering
+pub mod Waking
 pub mod Ends
 pub mod Causes
 pub mod After

@@ -15,6 +15,7 @@ use Rattle.model.specs.Honest.{IsHonest}
 use Rattle.model.specs.Final.{IsFinal}
 use Rattle.model.specs.Heed.{IsHeeded}
 use Rattle.model.specs.Remembered.{AreRemembered}
+use Rattle.model.specs.Awake.{IsAwake}
 use Rattle.model.specs.Answered.{AreAnswered}
 
 pub record IsLawful (capacity : ℕ) (steps : List Step) (p : Pipe)
@@ -31,6 +32,8 @@ pub record IsLawful (capacity : ℕ) (steps : List Step) (p : Pipe)
   pub heeded : IsHeeded events
   -- whoever was left pending is called, or has nothing to do and its waker in its slot
   pub remembered : AreRemembered p events
+  -- if both sides were left pending, the waker of one of them was called
+  pub awake : IsAwake p events
   -- a fill publishes what it was handed, a copy counts what it moved, a query returns what it found
   pub answered : AreAnswered capacity steps events
   -- the looks of a side show what it knows of the other

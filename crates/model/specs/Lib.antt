@@ -29,6 +29,7 @@ pub mod Honest
 pub mod Waiting
 pub mod Wait
 pub mod Remembered
+pub mod Awake
 pub mod End
 pub mod Final
 pub mod Heed

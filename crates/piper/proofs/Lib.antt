@@ -13,5 +13,7 @@ mod RoundsOut
 mod Wrote
 mod StaysNotified
 mod SamePlace
+pub mod Calling
+mod Pending
 mod RoomOrNone
 mod StaysRegistered

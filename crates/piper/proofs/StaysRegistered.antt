@@ -28,6 +28,7 @@ still a b d cx end registrations (inl w) = inl (record {
     goes_on = rw registrations w.pending.goes_on;
   };
   calm = w.calm;
+  task = rw registrations w.task;
 })
 still a b d cx end registrations (inr away) = inr (away.0, (away.1.0, rw registrations away.1.1, away.1.2))
 
@@ -46,6 +47,6 @@ pub stays_waiting : {E : Type 0} (r : Poll (Result ℕ (Inner E))) (a b d : Writ
 stays_waiting r a b d old left end rest h = record {
   draws = draws r a b d end rest h.draws;
   pending = pending r a b d left end rest h.pending;
-  memory = h.memory;
+  memory = rw rest.registrations h.memory;
   context = h.context;
 }

@@ -6,6 +6,7 @@ pub mod Polls
 pub mod Like
 pub mod Written
 pub mod StdEnds
+pub mod Called
 pub mod Contexts
 pub mod Copies
 pub mod Counts

@@ -3,6 +3,7 @@ use Rattle.std.specs.Prelude.{ℕ, List, Bool}
 use Rattle.piper_ring.specs.ReadView.{ReadView, in_one_piece}
 use Rattle.piper_ring.specs.Shared.{Ring}
 use Rattle.piper_ring.specs.Log.{Log}
+use Rattle.piper_ring.specs.SlotsView.{SlotsView}
 use Rattle.piper.specs.declared.handles.Reader.{Reader}
 
 -- its end of the ring
@@ -44,6 +45,10 @@ told_shut reader = reader.side.end.told_shut
 -- all bytes that were ever published, once it knows that the pipe is closed
 abbrev pub all : Reader → List ℕ
 all reader = reader.side.end.all
+
+-- what it has of both slots: how it waits in its own, and whom it took out of the other's
+abbrev pub slots : Reader → SlotsView
+slots reader = reader.side.slots
 
 -- what it did, call by call
 abbrev pub log : Reader → Log

@@ -3,6 +3,7 @@ use Rattle.std.specs.Prelude.{ℕ, List, Bool}
 use Rattle.piper_ring.specs.Shared.{Ring}
 use Rattle.piper_ring.specs.WriteView.{WriteView}
 use Rattle.piper_ring.specs.Log.{Log}
+use Rattle.piper_ring.specs.SlotsView.{SlotsView}
 use Rattle.piper.specs.declared.handles.Writer.{Writer}
 
 -- its end of the ring
@@ -40,6 +41,10 @@ saw writer = writer.side.end.saw
 -- how many consumed bytes marks reported to it
 abbrev pub told : Writer → ℕ
 told writer = writer.side.end.told
+
+-- what it has of both slots: how it waits in its own, and whom it took out of the other's
+abbrev pub slots : Writer → SlotsView
+slots writer = writer.side.slots
 
 -- what it did, call by call
 abbrev pub log : Writer → Log

@@ -1,5 +1,5 @@
 -- What the calls of a reader do: each definition is shared by all forms of a call.
-use Rattle.std.specs.Prelude.{◌≡◌, ℕ, ◌<◌, ◌≤◌, ◌++◌, true, false, Bool, List, [], length, take, drop, Option, Result, Ok}
+use Rattle.std.specs.Prelude.{◌≡◌, ℕ, ◌<◌, ◌≤◌, ◌++◌, ◌⊎◌, true, false, Bool, List, [], length, take, drop, Option, Result, Ok}
 use Rattle.futures.specs.Task.{Covers, Keeps}
 use Rattle.futures.specs.Poll.{OnPending}
 use Rattle.futures.specs.declared.task.context.Context.{Context}
@@ -9,6 +9,7 @@ use Rattle.std.specs.Io.{StartsWith}
 use denote.Ref.{Bor}
 use Rattle.piper_ring.specs.ReadView.{KnowsEnd, MayBeUnread as EndMayHave, SameButTold, in_one_piece}
 use Rattle.piper_ring.specs.SlotsView.{IsPending, IsWriterPending, SamePlace}
+use Rattle.piper.specs.Called.{CallsTaken}
 use Rattle.piper.specs.Contexts.{AsksAgain, WantsWaker}
 use Rattle.piper.specs.Copies.{ReaderCopied}
 use Rattle.piper.specs.CopyAnswers.{OnMemory}
@@ -20,7 +21,7 @@ use Rattle.piper.specs.Like.{Passes, appends_to}
 use Rattle.piper_ring.specs.Looks.{ReaderLooked}
 use Rattle.piper.specs.Looks.{ReaderFound}
 use Rattle.piper.specs.Polls.{After, Count, IfReadyErr, IfReadyOk, Lends, TakesNone}
-use Rattle.piper.specs.Waits.{ReaderIsRemembered, ReaderIsWaiting, ReaderPends, WriterIsRemembered, ReaderLeavesNone, ReaderRegistered}
+use Rattle.piper.specs.Waits.{ReaderIsRefused, ReaderIsRemembered, ReaderIsWaiting, ReaderPends, WriterIsRemembered, ReaderLeavesNone, ReaderRegistered}
 use Rattle.piper.specs.declared.error.Inner.{Inner}
 use Rattle.piper.specs.declared.error.PipeError.{PipeError}
 use Rattle.piper_ring.specs.declared.ends.finished.FinishedWriter.{FinishedWriter}
@@ -145,7 +146,7 @@ pub record DrainsWaiting {E : Type 0} (r : Poll (Result ℕ (Inner E)))
     (a b : Reader) (old left : Context) : Type 0 where
   pub draws : DrawsToYield r a b
   pub pending : OnPending r (DrainPends a b left)
-  pub memory : OnMemory r (left.lacks_waker ≡ true)
+  pub memory : OnMemory r (ReaderIsRefused b left)
   pub context : Keeps old left
 
 -- without one it doesn't draw, is pending only where it found no byte and the pipe open, is refused
@@ -156,9 +157,11 @@ pub record DrainsAtOnce {E : Type 0} (r : Poll (Result ℕ (Inner E))) (a b : Re
   pub memory : OnMemory r ⊥
   pub place : SamePlace a.side.slots b.side.slots
 
--- who was woken after all that the reader had consumed, was so after all that it consumed since
-abbrev pub WakesWriter : Reader → Reader → Type 0
-WakesWriter a b = NotifiesWriter a → NotifiesWriter b
+-- each waker of the writer's that was taken was called; and if the writer's slot had been checked
+-- after all that was consumed, it was so after all that was consumed since
+pub record WakesWriter (a b : Reader) : Type 0 where
+  pub called : CallsTaken a.side.slots b.side.slots
+  pub notifies : NotifiesWriter a → NotifiesWriter b
 
 -- the same reader of the same pipe, but for bytes that it took and knows of, for how it waits, and
 -- for what its generator draws next: it may have seen closed now
@@ -174,6 +177,8 @@ pub record ReadsAsDrain (a b : Reader) (r : Count) (old new : List ℕ)
   pub end : DrainsEnd r a b
   pub draws : DrawsToYield r a b
   pub pending : OnPending r (DrainPends a b cx)
+  pub refused : IfReadyErr r (λ _. ReaderIsRefused b cx)
+  pub woken : WakesWriter a b
   pub rest : SameReaderButMoved a b
 
 -- and it waits as it did, and draws the same numbers next
@@ -227,6 +232,20 @@ MeetReader a b writer =
 abbrev pub MeetWriter : Writer → Writer → Reader → Type 0
 MeetWriter a b reader =
     IsWriterPending a.side.end a.side.slots → NotifiesWriter reader → WriterIsRemembered a b reader
+
+-- nor do both sleep: if both were pending, and each had checked the other's slot after its last
+-- store, then one took and called the other's waker since
+abbrev pub MeetAwake : Reader → Writer → Type 0
+MeetAwake a c =
+    IsPending a.side.end a.side.slots → NotifiesWriter a
+    → IsWriterPending c.side.end c.side.slots → NotifiesReader c
+    → (c.side.slots.taken ≡ a.side.slots.tickets) ⊎ (a.side.slots.taken ≡ c.side.slots.tickets)
+
+-- where two handles met: nobody who waits is forgotten
+pub record MeetWoken (a b : Reader) (c d : Writer) : Type 0 where
+  pub reader : MeetReader a b c
+  pub writer : MeetWriter c d a
+  pub awake : MeetAwake a c
 
 -- and both are else as they were
 pub record MeetSame (a b : Reader) (c d : Writer) : Type 0 where

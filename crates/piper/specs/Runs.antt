@@ -1,5 +1,5 @@
 -- What the calls of the handles return, in the words of the call table, and where their looks lead.
-use Rattle.std.specs.Prelude.{◌≡◌, ℕ, Bool, true, false, Result, Ok, Err}
+use Rattle.std.specs.Prelude.{ℕ, Bool, Result, Ok, Err}
 use Rattle.futures.specs.declared.task.Poll.{Poll}
 use Rattle.futures.specs.declared.task.Poll.TheVariants.{Ready, Pending}
 use Rattle.piper_protocol.specs.Table.{Next, count_answer, ends, failed_answer, look_answer}
@@ -8,7 +8,6 @@ use Rattle.piper_protocol.specs.declared.answer.Polled.TheVariants as polled
 use Rattle.piper_protocol.specs.declared.answer.Answer.TheVariants as answers
 use Rattle.piper_protocol.specs.declared.table.Form.{Form}
 use Rattle.piper_protocol.specs.declared.table.Point.{Point}
-use Rattle.piper_protocol.specs.declared.table.Point.TheVariants as point
 use Rattle.piper_protocol.specs.declared.table.Purpose.{Purpose}
 use Rattle.piper_protocol.specs.declared.table.Purpose.TheVariants.{Copy}
 use Rattle.piper_ring.specs.Log.{idle}

@@ -1,9 +1,10 @@
 -- What a handle is that waits in its slot, and that it is not forgotten there.
-use Rattle.std.specs.Prelude.{⊤, ◌≡◌, ◌+◌, ◌⊎◌, true, false, [], length}
+use Rattle.std.specs.Prelude.{◌≡◌, ◌+◌, ◌⊎◌, true, false, [], length}
 use Rattle.futures.specs.Task.{Covers}
 use Rattle.futures.specs.declared.task.context.Context.{Context}
 use Rattle.piper_ring.specs.Loads.{IsAway}
 use Rattle.piper_ring.specs.SlotsView.{IsPending, IsWriterPending}
+use Rattle.piper.specs.Called.{CallsTaken, RegistersTask}
 use Rattle.piper.specs.Contexts.{AsksAgain, IsCalm}
 use Rattle.piper.specs.Handles.{read_source, write_source}
 use Rattle.piper_ring.specs.Looks.{NothingYet}
@@ -18,12 +19,14 @@ pub record ReaderWaits (a b : Reader) (cx : Context) : Type 0 where
   pub ticket : b.side.slots.tickets ≡ a.side.slots.tickets + 1
   pub pending : IsPending b.side.end b.side.slots
   pub calm : IsCalm a.side.slots.owns cx
+  pub task : RegistersTask b.side.slots cx
 
 -- the writer waits
 pub record WriterWaits (a b : Writer) (cx : Context) : Type 0 where
   pub ticket : b.side.slots.tickets ≡ a.side.slots.tickets + 1
   pub pending : IsWriterPending b.side.end b.side.slots
   pub calm : IsCalm a.side.slots.owns cx
+  pub task : RegistersTask b.side.slots cx
 
 -- the place of the side's waker is with the other side, or on its way back, before and after the
 -- call, which looked for it: so no waker could be left there
@@ -50,6 +53,13 @@ ReaderRegistered a b cx = ReaderWaits a b cx ⊎ (AsksAgain cx × ReaderIsAway a
 
 abbrev pub WriterRegistered : Writer → Writer → Context → Type 0
 WriterRegistered a b cx = WriterWaits a b cx ⊎ (AsksAgain cx × WriterIsAway a b)
+
+-- the reader was refused a waker, and none of its own is left in its slot
+abbrev pub ReaderIsRefused : Reader → Context → Type 0
+ReaderIsRefused reader cx = (cx.lacks_waker ≡ true) × ReaderLeavesNone reader
+
+abbrev pub WriterIsRefused : Writer → Context → Type 0
+WriterIsRefused writer cx = (cx.lacks_waker ≡ true) × WriterLeavesNone writer
 
 -- a reader whose poll is pending: there is nothing to do yet; its task is armed at the reader's
 -- source, and is registered there, or asked for another poll itself since its place is away
@@ -84,21 +94,14 @@ WriterIsRemembered a b reader =
     (reader.side.slots.taken ≡ a.side.slots.tickets)
     ⊎ ((b.side.end.room ≡ 0) × (b.side.end.shut ≡ false))
 
--- after the close by which it left, the reader checked the writer's slot
+-- after the close by which it left, the reader checked the writer's slot, and called whom it took
 pub record ReaderWokeLast (reader : Reader) (left : FinishedReader) : Type 0 where
   pub count : left.slots.stored.count ≡ length reader.side.end.taken
   pub over : left.slots.stored.closed ≡ true
+  pub called : CallsTaken reader.side.slots left.slots
 
--- after the close by which it left, the writer checked the reader's slot
+-- after the close by which it left, the writer checked the reader's slot, and called whom it took
 pub record WriterWokeLast (writer : Writer) (left : FinishedWriter) : Type 0 where
   pub bytes : left.slots.stored.bytes ≡ writer.side.end.sent
   pub shut : left.slots.stored.closed ≡ true
-
--- `drop` of this handle was called. It is sealed: no proof looks into it, and only those of the two
--- `leave` use the lemma. So what a clause says of it came from such a call
-pub HasDropped : {H : Type 0} → H → Type 0
-HasDropped handle = ⊤
-
-pub as_dropped : {H : Type 0} (handle : H) → HasDropped handle
-unfolding HasDropped
-as_dropped handle = tt
+  pub called : CallsTaken writer.side.slots left.slots

@@ -8,6 +8,7 @@ use Rattle.futures.specs.declared.task.Poll.{Poll}
 use Rattle.futures.specs.declared.task.Poll.TheVariants.{Ready}
 use Rattle.piper_ring.specs.SlotsView.{IsWriterPending, SamePlace}
 use Rattle.piper_ring.specs.WriteView.{Lendable, MayBeUnread as EndMayHave}
+use Rattle.piper.specs.Called.{CallsTaken}
 use Rattle.piper.specs.Contexts.{AsksAgain}
 use Rattle.piper.specs.Copies.{IsReplaced, WriterCopied}
 use Rattle.piper.specs.CopyAnswers.{OnMemory, inner_of}
@@ -18,8 +19,8 @@ use Rattle.piper.specs.Handles.{NotifiesReader, SameWriter, SameWriterButSlots, 
 use Rattle.piper.specs.Like.{Passes, consumes_of}
 use Rattle.piper_ring.specs.Looks.{WriterLooked}
 use Rattle.piper.specs.Looks.{WriterFound}
-use Rattle.piper.specs.Polls.{Count, IfReadyOk}
-use Rattle.piper.specs.Waits.{WriterLeavesNone, WriterRegistered}
+use Rattle.piper.specs.Polls.{Count, IfReadyErr, IfReadyOk}
+use Rattle.piper.specs.Waits.{WriterIsRefused, WriterLeavesNone, WriterRegistered}
 use Rattle.piper.specs.declared.error.Inner.{Inner}
 use Rattle.piper_ring.specs.declared.ends.finished.FinishedReader.{FinishedReader}
 use Rattle.piper.specs.declared.handles.Writer.{Writer}
@@ -108,7 +109,7 @@ pub record FillsWaiting {E : Type 0} (r : Poll (Result ℕ (Inner E)))
     (a b : Writer) (old left : Context) : Type 0 where
   pub draws : DrawsToYield r a b
   pub pending : OnPending r (FillPends a b left)
-  pub memory : OnMemory r (left.lacks_waker ≡ true)
+  pub memory : OnMemory r (WriterIsRefused b left)
   pub context : Keeps old left
 
 -- without one it doesn't draw, is pending only where it found no room, is refused no memory, and
@@ -118,9 +119,11 @@ pub record FillsAtOnce {E : Type 0} (r : Poll (Result ℕ (Inner E))) (a b : Wri
   pub memory : OnMemory r ⊥
   pub place : SamePlace a.side.slots b.side.slots
 
--- who was woken after all that the writer had published, was so after all that it published since
-abbrev pub WakesReader : Writer → Writer → Type 0
-WakesReader a b = NotifiesReader a → NotifiesReader b
+-- each waker of the reader's that was taken was called; and if the reader's slot had been checked
+-- after all that was published, it was so after all that was published since
+pub record WakesReader (a b : Writer) : Type 0 where
+  pub called : CallsTaken a.side.slots b.side.slots
+  pub notifies : NotifiesReader a → NotifiesReader b
 
 -- the same writer of the same pipe, but for bytes that it published and its room, for how it waits,
 -- and for what its generator draws next: it may have seen closed now, and lends nothing
@@ -136,6 +139,8 @@ pub record WritesAsFill (a b : Writer) (r : Count) (bytes : List ℕ)
   pub end : FillsEnd r a b
   pub draws : DrawsToYield (inner_of r) a b
   pub pending : OnPending r (FillPends a b cx)
+  pub refused : IfReadyErr r (λ _. WriterIsRefused b cx)
+  pub woken : WakesReader a b
   pub rest : SameWriterButMoved a b
 
 -- and it waits as it did, and draws the same numbers next

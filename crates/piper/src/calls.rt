@@ -5,10 +5,11 @@ ghost use Rattle.futures.specs.Task.{Keeps};
 ghost use Rattle.futures.specs.Poll.{OnPending};
 ghost use Rattle.piper_protocol.specs.Table.{ends};
 ghost use Rattle.piper_ring.specs.Log.{Opened, Ran};
+ghost use Rattle.piper.specs.Called.{CallsTaken, HasDropped};
 ghost use Rattle.piper.specs.Looks.{OnRefused};
 ghost use Rattle.piper.specs.Runs.{poll_answer};
 
-use crate::handles::waiting::{take_own, wake_other, wake_own, wake_waiting};
+use crate::handles::waiting::{call, let_left_go, take_own, wake_other, wake_own, wake_waiting};
 use crate::handles::{Reader, Writer};
 use futures::task::{Context, Poll};
 use piper_protocol::answer::Answer;
@@ -21,10 +22,10 @@ impl Reader {
     ghost use Rattle.piper_ring.specs.Loads.{FoundClosed};
     ghost use Rattle.piper.specs.Counts.{ReaderCompares};
     ghost use Rattle.piper.specs.Handles.{NotifiesWriter, SameReaderButWaits};
-    ghost use Rattle.piper.specs.OfReader.{ring, capacity, taken, known, end_of, front, log, saw, told_shut};
+    ghost use Rattle.piper.specs.OfReader.{ring, capacity, taken, known, end_of, front, log, saw, slots, told_shut};
     ghost use Rattle.piper.specs.ReaderCalls.{AtEnd, MayBeUnread, Polled, PollsEnd, SameReaderButConsumed};
     ghost use Rattle.piper_ring.specs.Looks.{looks_at};
-    ghost use Rattle.piper.specs.Waits.{HasDropped, ReaderPends, ReaderWokeLast};
+    ghost use Rattle.piper.specs.Waits.{ReaderIsRefused, ReaderPends, ReaderWokeLast};
 
     /// How many bytes are unread now.
     ///
@@ -83,7 +84,7 @@ impl Reader {
         ensures found { Polled result self.old self.new }
         ensures end { PollsEnd result self.old self.new }
         ensures pending { OnPending result (ReaderPends self.old self.new cx.new) }
-        ensures memory { OnRefused result (cx.new.lacks_waker ≡ true) }
+        ensures memory { OnRefused result (ReaderIsRefused self.new cx.new) }
         ensures context { Keeps cx.old cx.new }
         ensures rest { SameReaderButWaits self.old self.new }
     {
@@ -123,6 +124,7 @@ impl Reader {
         ensures known { known self.new ≡ drop amt (known self.old) }
         ensures end { AtEnd self.old → AtEnd self.new }
         ensures woken { NotifiesWriter self.new }
+        ensures called { CallsTaken (slots self.old) (slots self.new) }
         ensures rest { SameReaderButConsumed self.old self.new }
     {
         self.side.begin(Point::Reader(ReadPoint::StoreHead(amt, AfterRead::Answer)));
@@ -151,7 +153,7 @@ impl Reader {
         ensures ring { result.told.consumed.names ≡ (ring self).names }
         ensures count { result.told.consumed.count ≡ length (taken self) }
         ensures woken { ReaderWokeLast self result }
-        ensures left { HasDropped self }
+        ensures left { HasDropped (ring self).names }
     {
         let Reader {
             mut side,
@@ -166,9 +168,9 @@ impl Reader {
             taken,
             left,
         } = side.finish();
-        drop(left);
+        let_left_go(left);
         if let Some(waker) = taken {
-            waker.wake();
+            call(waker);
             side.log.woke();
         }
         side
@@ -179,8 +181,8 @@ impl Writer {
     ghost use Rattle.piper_ring.specs.Loads.{FoundClosed};
     ghost use Rattle.piper.specs.Counts.{WriterCompares};
     ghost use Rattle.piper.specs.Handles.{NotifiesReader, SameWriterButWaits};
-    ghost use Rattle.piper.specs.OfWriter.{ring, capacity, sent, room, lent, log, shut, saw};
-    ghost use Rattle.piper.specs.Waits.{HasDropped, WriterLeavesNone, WriterPends, WriterWokeLast};
+    ghost use Rattle.piper.specs.OfWriter.{ring, capacity, sent, room, lent, log, shut, saw, slots};
+    ghost use Rattle.piper.specs.Waits.{WriterIsRefused, WriterLeavesNone, WriterPends, WriterWokeLast};
     ghost use Rattle.piper.specs.WriterCalls.{MayBeUnread, Polled, SameWriterButPublished, SameWriterButShut};
 
     /// How many bytes are unread now.
@@ -237,7 +239,7 @@ impl Writer {
             (log self.old) (log self.new) }
         ensures found { Polled result self.old self.new }
         ensures pending { OnPending result (WriterPends self.old self.new cx.new) }
-        ensures memory { OnRefused result (cx.new.lacks_waker ≡ true) }
+        ensures memory { OnRefused result (WriterIsRefused self.new cx.new) }
         ensures context { Keeps cx.old cx.new }
         ensures rest { SameWriterButWaits self.old self.new }
     {
@@ -267,6 +269,7 @@ impl Writer {
         ensures lent { lent self.new ≡ drop n (lent self.old) }
         ensures room { room self.new + n ≡ room self.old }
         ensures woken { NotifiesReader self.new }
+        ensures called { CallsTaken (slots self.old) (slots self.new) }
         ensures rest { SameWriterButPublished self.old self.new }
     {
         self.side.begin(Point::Writer(WritePoint::StoreTail(n, AfterWrite::Answer)));
@@ -284,6 +287,7 @@ impl Writer {
             (log self.old) (log self.new) }
         ensures answer { result ≡ Poll.Ready (Ok (record {})) }
         ensures woken { NotifiesReader self.new }
+        ensures called { CallsTaken (slots self.old) (slots self.new) }
         ensures leaves { WriterLeavesNone self.new }
         ensures context { Keeps cx.old cx.new }
         ensures rest { SameWriterButShut self.old self.new }
@@ -319,7 +323,7 @@ impl Writer {
         ensures bytes { result.told.bytes ≡ sent self }
         ensures shut { result.told.shut ≡ true }
         ensures woken { WriterWokeLast self result }
-        ensures left { HasDropped self }
+        ensures left { HasDropped (ring self).names }
     {
         let Writer {
             mut side,
@@ -333,9 +337,9 @@ impl Writer {
             taken,
             left,
         } = side.finish();
-        drop(left);
+        let_left_go(left);
         if let Some(waker) = taken {
-            waker.wake();
+            call(waker);
             side.log.woke();
         }
         side

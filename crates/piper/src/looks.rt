@@ -16,7 +16,7 @@ use piper_ring::{Look, OutOfMemory};
 
 impl Reader {
     ghost use Rattle.piper.specs.Handles.{SameReaderButWaits};
-    ghost use Rattle.piper.specs.Waits.{ReaderPends};
+    ghost use Rattle.piper.specs.Waits.{ReaderIsRefused, ReaderPends};
 
     /// Looks for a byte or the end, and waits for one.
     #[inline(always)]
@@ -31,7 +31,7 @@ impl Reader {
             self.old.side.log self.new.side.log }
         ensures answer { ReaderWaited result self.new.side.end }
         ensures pending { IfPending result (ReaderPends self.old self.new cx.new) }
-        ensures refused { OnErr result (cx.new.lacks_waker ≡ true) }
+        ensures refused { OnErr result (ReaderIsRefused self.new cx.new) }
         ensures looked { ReaderLooked self.old.side.end self.new.side.end }
         ensures all { KnowsEnd self.old.side.end → self.new.side.end.all ≡ self.old.side.end.all }
         ensures stays { IsEnded self.old.side.end → IsEnded self.new.side.end }
@@ -54,7 +54,7 @@ impl Reader {
             self.old.side.log self.new.side.log }
         ensures answer { ReaderWaited result self.new.side.end }
         ensures pending { IfPending result (ReaderPends self.old self.new cx.new) }
-        ensures refused { OnErr result (cx.new.lacks_waker ≡ true) }
+        ensures refused { OnErr result (ReaderIsRefused self.new cx.new) }
         ensures looked { ReaderLooked self.old.side.end self.new.side.end }
         ensures all { KnowsEnd self.old.side.end → self.new.side.end.all ≡ self.old.side.end.all }
         ensures stays { IsEnded self.old.side.end → IsEnded self.new.side.end }
@@ -70,7 +70,7 @@ impl Reader {
 
 impl Writer {
     ghost use Rattle.piper.specs.Handles.{SameWriterButWaits};
-    ghost use Rattle.piper.specs.Waits.{WriterPends};
+    ghost use Rattle.piper.specs.Waits.{WriterIsRefused, WriterPends};
 
     /// Looks for room or the end, and waits for one.
     #[inline(always)]
@@ -85,7 +85,7 @@ impl Writer {
             self.old.side.log self.new.side.log }
         ensures answer { WriterWaited result self.new.side.end }
         ensures pending { IfPending result (WriterPends self.old self.new cx.new) }
-        ensures refused { OnErr result (cx.new.lacks_waker ≡ true) }
+        ensures refused { OnErr result (WriterIsRefused self.new cx.new) }
         ensures looked { WriterLooked self.old.side.end self.new.side.end }
         ensures rest { SameWriterButWaits self.old self.new }
         ensures kept { Keeps cx.old cx.new }
@@ -108,7 +108,7 @@ impl Writer {
             self.old.side.log self.new.side.log }
         ensures answer { WriterWaited result self.new.side.end }
         ensures pending { IfPending result (WriterPends self.old self.new cx.new) }
-        ensures refused { OnErr result (cx.new.lacks_waker ≡ true) }
+        ensures refused { OnErr result (WriterIsRefused self.new cx.new) }
         ensures looked { WriterLooked self.old.side.end self.new.side.end }
         ensures rest { SameWriterButWaits self.old self.new }
         ensures kept { Keeps cx.old cx.new }

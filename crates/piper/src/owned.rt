@@ -2,11 +2,11 @@
 ghost use Rattle.std.specs.Prelude.{◌≡◌, ◌*◌, ◌^◌, ◌<◌, ◌≤◌, ◌++◌, take, drop, IfErr, IfOk, Ok};
 ghost use Rattle.std.specs.Borrow.{sem};
 ghost use Rattle.std.specs.Io.BufRead.{Rests};
-ghost use Rattle.futures.specs.Poll.{OnPending};
 ghost use Rattle.futures.specs.Task.{Keeps};
+ghost use Rattle.piper.specs.Called.{CallsTaken, HasDropped};
 ghost use Rattle.piper.specs.Contexts.{WantsWaker};
 ghost use Rattle.piper.specs.Ends.{IsEnded};
-ghost use Rattle.piper.specs.Waits.{HasDropped, ReaderIsWaiting, WriterIsWaiting, WriterLeavesNone};
+ghost use Rattle.piper.specs.Waits.{ReaderIsWaiting, WriterIsWaiting, WriterLeavesNone};
 ghost use Rattle.piper.specs.Handles.{AreFresh, ArePair, DrawFrom};
 ghost use Rattle.piper_protocol.specs.Reported.{HasFailed};
 
@@ -188,9 +188,11 @@ impl DerefMut for OwnedWriter {
 }
 
 impl Drop for OwnedReader {
+    ghost use Rattle.piper.specs.OfReader.{ring};
+
     /// As `Reader::drop`, whose evidence is dropped.
     fn drop(self)
-        ensures { HasDropped self }
+        ensures { HasDropped (ring self).names }
     {
         let OwnedReader { reader } = self;
         reader.drop();
@@ -198,9 +200,11 @@ impl Drop for OwnedReader {
 }
 
 impl Drop for OwnedWriter {
+    ghost use Rattle.piper.specs.OfWriter.{ring};
+
     /// As `Writer::drop`, whose evidence is dropped.
     fn drop(self)
-        ensures { HasDropped self }
+        ensures { HasDropped (ring self).names }
     {
         let OwnedWriter { writer } = self;
         writer.drop();
@@ -209,8 +213,7 @@ impl Drop for OwnedWriter {
 
 impl AsyncRead for OwnedReader {
     ghost use Rattle.piper.specs.Handles.{NotifiesWriter, read_source};
-    ghost use Rattle.piper.specs.Polls.{IfReadyErr};
-    ghost use Rattle.piper.specs.ReaderCalls.{DrainPends, DrainsEnd, DrainsSlice, DrawsToYield, ReadsAsDrain, SameReaderButMoved, WakesWriter};
+    ghost use Rattle.piper.specs.ReaderCalls.{ReadsAsDrain};
 
     ghost taken = { λ owned. owned.side.end.taken };
 
@@ -230,16 +233,11 @@ impl AsyncRead for OwnedReader {
 
     ghost says = { ReadsAsDrain };
 
-    fn poll_read(&mut self, cx: &mut Context<'_>, dest: &mut [u8]) -> Poll<Result<usize, PipeError>>
-        ensures drained { DrainsSlice result self.old self.new dest.old dest.new }
-        ensures end { DrainsEnd result self.old self.new }
-        ensures draws { DrawsToYield result self.old self.new }
-        ensures pending { OnPending result (DrainPends self.old self.new cx.new) }
-        ensures error { IfReadyErr result (WantsWaker cx.new) }
-        ensures woken { WakesWriter self.old self.new }
-        ensures context { Keeps cx.old cx.new }
-        ensures rest { SameReaderButMoved self.old self.new }
-    {
+    fn poll_read(
+        &mut self,
+        cx: &mut Context<'_>,
+        dest: &mut [u8],
+    ) -> Poll<Result<usize, PipeError>> {
         self.reader.poll_read(cx, dest)
     }
 }
@@ -247,7 +245,7 @@ impl AsyncRead for OwnedReader {
 impl AsyncBufRead for OwnedReader {
     ghost use Rattle.piper_ring.specs.ReadView.{in_one_piece};
     ghost use Rattle.piper.specs.Handles.{NotifiesWriter, read_source};
-    ghost use Rattle.piper.specs.OfReader.{front, known, taken};
+    ghost use Rattle.piper.specs.OfReader.{front, known, slots, taken};
     ghost use Rattle.piper.specs.ReaderCalls.{AtEnd, LendsPiece, PollsPiece, SameReaderButConsumed};
     ghost use Rattle.piper.specs.contracts.owned.OwnedReader.{the_row};
 
@@ -287,6 +285,7 @@ impl AsyncBufRead for OwnedReader {
         ensures known { known self.new ≡ drop amt (known self.old) }
         ensures end { AtEnd self.old → AtEnd self.new }
         ensures woken { NotifiesWriter self.new }
+        ensures called { CallsTaken (slots self.old) (slots self.new) }
         ensures rest { SameReaderButConsumed self.old self.new }
     {
         AsyncBufRead::consume(&mut self.reader, amt);
@@ -294,10 +293,9 @@ impl AsyncBufRead for OwnedReader {
 }
 
 impl AsyncWrite for OwnedWriter {
+    ghost use Rattle.piper.specs.OfWriter.{slots};
     ghost use Rattle.piper.specs.Handles.{NotifiesReader, write_source};
-    ghost use Rattle.piper.specs.Polls.{IfReadyErr};
-    ghost use Rattle.piper.specs.CopyAnswers.{inner_of};
-    ghost use Rattle.piper.specs.WriterCalls.{DrawsToYield, FillPends, FillsEnd, FillsSlice, SameWriterButMoved, SameWriterButShut, WakesReader, WritesAsFill};
+    ghost use Rattle.piper.specs.WriterCalls.{SameWriterButShut, WritesAsFill};
 
     ghost sent = { λ owned. owned.side.end.sent };
 
@@ -313,16 +311,11 @@ impl AsyncWrite for OwnedWriter {
 
     ghost says = { WritesAsFill };
 
-    fn poll_write(&mut self, cx: &mut Context<'_>, source: &[u8]) -> Poll<Result<usize, PipeError>>
-        ensures filled { FillsSlice result self.old self.new source.now }
-        ensures end { FillsEnd result self.old self.new }
-        ensures draws { DrawsToYield (inner_of result) self.old self.new }
-        ensures pending { OnPending result (FillPends self.old self.new cx.new) }
-        ensures error { IfReadyErr result (WantsWaker cx.new) }
-        ensures woken { WakesReader self.old self.new }
-        ensures context { Keeps cx.old cx.new }
-        ensures rest { SameWriterButMoved self.old self.new }
-    {
+    fn poll_write(
+        &mut self,
+        cx: &mut Context<'_>,
+        source: &[u8],
+    ) -> Poll<Result<usize, PipeError>> {
         self.writer.poll_write(cx, source)
     }
 
@@ -337,6 +330,7 @@ impl AsyncWrite for OwnedWriter {
     fn poll_close(&mut self, cx: &mut Context<'_>) -> Poll<Result<(), PipeError>>
         ensures answer { result ≡ Poll.Ready (Ok (record {})) }
         ensures woken { NotifiesReader self.new }
+        ensures called { CallsTaken (slots self.old) (slots self.new) }
         ensures leaves { WriterLeavesNone self.new }
         ensures context { Keeps cx.old cx.new }
         ensures rest { SameWriterButShut self.old self.new }

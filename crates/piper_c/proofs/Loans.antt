@@ -3,8 +3,8 @@ use Rattle.std.proofs.Common.{◌≡◌, ◌≢◌, ℕ, List, refl}
 use Rattle.std.specs.Prelude.{Option, None, Some}
 use denote.RawPtr.{Ptr}
 use Rattle.piper_c.specs.Handles.{Holds, HoldsOn, IsWholeWriter}
-use Rattle.piper_c.specs.Lending.{LendsOut, WriterOffers, WriterGoesOn}
-use Rattle.piper_c.specs.Writing.{WriterSeen, WriterAsked, WriterEnds}
+use Rattle.piper_c.specs.Lending.{LendsOut, EndsLoan, WriterOffers, WriterGoesOn}
+use Rattle.piper_c.specs.Writing.{WriterSeen, WriterAsked}
 use Rattle.piper_c.specs.declared.halves.WriteHalf.{WriteHalf}
 use Rattle.piper_c.specs.declared.handles.PiperRoom.{PiperRoom}
 use Rattle.piper_c.specs.declared.handles.PiperWriter.{PiperWriter}
@@ -33,7 +33,7 @@ offers_none None looked max seen writer before looks other none half whole = abs
 
 -- a publish, a look at the pipe's end, and a loan
 pub goes_on : (old published looked : Option WriteHalf) (bytes : Option (List ℕ)) (n max : ℕ) (next : PiperNext) (writer : PiperWriter) (room : PiperRoom)
-    → HoldsOn old published (λ a b. WriterEnds bytes n next.wake a b) → HoldsOn published looked (λ a b. WriterAsked next.is_closed a b)
+    → HoldsOn old published (λ a b. EndsLoan bytes n next.wake a b) → HoldsOn published looked (λ a b. WriterAsked next.is_closed a b)
     → Holds looked (λ b. LendsOut b max next.len writer room) → Holds old (λ a. WriterGoesOn bytes n max next a writer room)
 goes_on (Some a) (Some b) (Some c) bytes n max next writer room publishes looks lends = record { published = b; looked = c; publishes = publishes; looks = looks; lends = lends }
 goes_on (Some a) (Some b) None bytes n max next writer room publishes looks lends = absurd looks

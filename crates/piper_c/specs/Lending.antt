@@ -11,7 +11,9 @@ use Rattle.piper_c.specs.declared.handles.PiperWriter.{PiperWriter}
 use Rattle.piper_c.specs.declared.handles.PiperRoom.{PiperRoom}
 use Rattle.piper_c.specs.declared.outcome.PiperNext.{PiperNext}
 use Rattle.piper_c.specs.declared.outcome.PiperSeen.{PiperSeen}
-use Rattle.piper_c.specs.Writing.{WriterSeen, WriterAsked, WriterEnds}
+use Rattle.piper_c.specs.declared.words.PiperWords.{PiperWords}
+use Rattle.piper_c.specs.Waiting.{IsRefusal}
+use Rattle.piper_c.specs.Writing.{WriterSeen, WriterAsked, WriterPublishes}
 use Rattle.piper_c.specs.contracts.halves.WriteHalf.{the_row}
 
 -- the side, once a `&mut` into the slice that it lent has ended
@@ -43,15 +45,20 @@ abbrev pub IsLoanOf : Option WriteHalf → Option Ptr → Ptr → Option (List �
 IsLoanOf (Some w) (Some at) p (Some ws) = (at ≡ p) × (length ws ≡ length w.side.end.lent)
 IsLoanOf w at p ws = ⊥
 
--- n bytes are no more than the room has
-abbrev pub IsWithin : ℕ → Option (List ℕ) → Type 0
-IsWithin n None = ⊥
-IsWithin n (Some ws) = n ≤ length ws
-
 -- the writer has what is in the room as the bytes that it lent
 abbrev pub IsWhole : Option WriteHalf → Option (List ℕ) → WriteHalf → Type 0
 IsWhole (Some w) (Some ws) b = b ≡ with_room w ws
 IsWhole w ws b = ⊥
+
+-- the loan of these bytes is over: the first n were published, or none where these are fewer
+pub record EndsLoanOf (bytes : List ℕ) (n : ℕ) (wake : PiperWords) (a b : WriteHalf) : Type 0 where
+  pub published : n ≤ length bytes → WriterPublishes bytes n wake a b
+  pub refused : length bytes < n → (b ≡ with_room a bytes) × IsRefusal wake
+
+-- the same, of what a room holds
+abbrev pub EndsLoan : Option (List ℕ) → ℕ → PiperWords → WriteHalf → WriteHalf → Type 0
+EndsLoan None n wake a b = ⊥
+EndsLoan (Some ws) n wake a b = EndsLoanOf ws n wake a b
 
 -- a look and what came of it: where it found room, that was lent, and else nothing was
 pub record WriterOffers (max : ℕ) (seen : PiperSeen) (a : WriteHalf) (writer : PiperWriter)
@@ -61,11 +68,11 @@ pub record WriterOffers (max : ℕ) (seen : PiperSeen) (a : WriteHalf) (writer :
   pub lends : seen.outcome ≡ 1 → LendsOut looked max seen.len writer after
   pub keeps : seen.outcome ≢ 1 → IsKept looked seen.len writer before after
 
--- a publish of the first n bytes that C left in the room, a look at the pipe's end, and a loan
+-- the end of a loan with a publish of the first n bytes, a look at the pipe's end, and another loan
 pub record WriterGoesOn (bytes : Option (List ℕ)) (n max : ℕ) (next : PiperNext) (a : WriteHalf)
     (writer : PiperWriter) (room : PiperRoom) : Type 0 where
   pub published : WriteHalf
   pub looked : WriteHalf
-  pub publishes : WriterEnds bytes n next.wake a published
+  pub publishes : EndsLoan bytes n next.wake a published
   pub looks : WriterAsked next.is_closed published looked
   pub lends : LendsOut looked max next.len writer room

@@ -1,12 +1,19 @@
--- What a poll finds.
+-- What an open comes to, and what a poll finds.
 use Rattle.std.specs.Prelude.{ℕ, true, false}
 use Rattle.piper_protocol.specs.declared.answer.Answer.{Answer}
 use Rattle.piper_protocol.specs.declared.answer.Answer.TheVariants.{Poll, Done}
 use Rattle.piper_protocol.specs.declared.answer.Polled.TheVariants as polled
+use Rattle.piper_c.specs.declared.outcome.Opening.{Opening}
+use Rattle.piper_c.specs.declared.outcome.Opening.TheVariants.{Opened, BadCapacity, NoMemory}
 use Rattle.piper_c.specs.declared.outcome.Outcome.{Outcome}
 use Rattle.piper_c.specs.declared.outcome.Outcome.TheVariants.{Pending, Ready, End, Again, Refused}
 
--- its number for C, as c/piper.h has it
+-- the numbers for C, as c/piper.h has them
+abbrev pub opening_code : Opening → ℕ
+opening_code Opened = 0
+opening_code BadCapacity = 1
+opening_code NoMemory = 2
+
 abbrev pub code : Outcome → ℕ
 code Pending = 0
 code Ready = 1

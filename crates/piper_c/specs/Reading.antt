@@ -14,7 +14,7 @@ use Rattle.piper_c.specs.declared.words.Waiter.{Waiter}
 use Rattle.piper_c.specs.declared.words.PiperMoved.{PiperMoved}
 use Rattle.piper_c.specs.declared.words.PiperWords.{PiperWords}
 use Rattle.piper_c.specs.Outcome.{code}
-use Rattle.piper_c.specs.Waiting.{GotBack, IsTold, Took, HandedOut}
+use Rattle.piper_c.specs.Waiting.{GotBack, IsRefusal, IsTold, Took, HandedOut}
 
 -- the pipe was seen closed, and all that was ever published has been taken
 pub record IsEnded (r : ReadView) : Type 0 where
@@ -126,14 +126,9 @@ pub record ReaderTook (n : ℕ) (wake : PiperWords) (a b : ReadHalf) : Type 0 wh
   pub woke : WakesWriter wake a.side.slots b
   pub places : b.side.cells ≡ a.side.cells
 
--- nothing was done, and nobody is to be woken
-pub record ReaderRefused (wake : PiperWords) (a b : ReadHalf) : Type 0 where
-  pub side : b ≡ a
-  pub nobody : wake.vtable ≡ 0
-
 pub record ReaderConsumes (n : ℕ) (wake : PiperWords) (a b : ReadHalf) : Type 0 where
   pub taken : n ≤ in_one_piece a.side.end → ReaderTook n wake a b
-  pub refused : in_one_piece a.side.end < n → ReaderRefused wake a b
+  pub refused : in_one_piece a.side.end < n → (b ≡ a) × IsRefusal wake
 
 pub record ReaderReads (old new : List ℕ) (moved : PiperMoved) (a b : ReadHalf) : Type 0 where
   pub read : ReadsInto old new moved.count a b

@@ -11,9 +11,17 @@ use Rattle.piper_c.specs.declared.words.PiperWords.{PiperWords}
 use Rattle.piper_c.specs.Outcome.{code}
 use Rattle.piper_ring.specs.Loads.{WasTakenBack, WasPut, WasTaken}
 
+-- no words, from a call that did what it was asked for
+abbrev pub IsNobody : PiperWords → Type 0
+IsNobody out = (out.vtable ≡ 0) × (out.data ≡ 0)
+
+-- no words, from a call that did nothing: `data` has the number of `Refused`
+abbrev pub IsRefusal : PiperWords → Type 0
+IsRefusal out = (out.vtable ≡ 0) × (out.data ≡ 4)
+
 -- C got these words of a waiter, or none
 abbrev pub IsOut : Option Waiter → PiperWords → Type 0
-IsOut None out = out.vtable ≡ 0
+IsOut None out = IsNobody out
 IsOut (Some waiter) out = out ≡ waiter.words
 
 -- a poll gives back the words that it took out of its slot in this ring, and those that it didn't

@@ -1,8 +1,8 @@
 -- What the calls of the writing side find, and what they leave of it.
-use Rattle.std.specs.Prelude.{◌≡◌, ℕ, ◌<◌, ◌≤◌, ◌+◌, ◌-◌, ◌++◌, ◌⊎◌, take, drop, Bool, true, false, List, [], length, Option, Some, None}
+use Rattle.std.specs.Prelude.{◌≡◌, ℕ, ◌<◌, ◌≤◌, ◌+◌, ◌-◌, ◌++◌, ◌⊎◌, take, drop, Bool, true, false, List, [], length, Option}
 use Rattle.piper_ring.specs.Shared.{flag}
 use Rattle.piper_ring.specs.Loads.{FoundClosed, IsAway}
-use Rattle.piper_ring.specs.WriteView.{HasLoadedHead, Lendable, WriteView, SameWriteEnd, SameButSaw}
+use Rattle.piper_ring.specs.WriteView.{HasLoadedHead, Lendable, SameWriteEnd, SameButSaw}
 use Rattle.piper_ring.specs.SlotsView.{SlotsView, IsWriterPending, IsAtRest, SameLooks, SamePlace}
 use Rattle.piper_c.specs.declared.halves.WriteHalf.{WriteHalf}
 use Rattle.piper_c.specs.declared.outcome.Outcome.{Outcome}
@@ -157,8 +157,3 @@ pub record WriterPublishes (bytes : List ℕ) (n : ℕ) (wake : PiperWords) (a b
   }
   pub woke : WakesReader wake a.side.slots b
   pub places : b.side.cells ≡ a.side.cells
-
--- the same, of what a room holds
-abbrev pub WriterEnds : Option (List ℕ) → ℕ → PiperWords → WriteHalf → WriteHalf → Type 0
-WriterEnds None n wake a b = ⊥
-WriterEnds (Some ws) n wake a b = WriterPublishes ws n wake a b

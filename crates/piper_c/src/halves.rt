@@ -81,7 +81,7 @@ pub(crate) fn take_own<E: SlotEnd>(side: &mut Side<E, Waiter>) -> Option<Waiter>
     } else {
         None
     };
-    side.own_taken(Found::Nothing);
+    side.own_emptied();
     own
 }
 
@@ -130,10 +130,8 @@ pub(crate) fn wake_own<E: SlotEnd>(side: &mut Side<E, Waiter>) -> Option<Waiter>
         { owns = side.new.slots.owns; maybe_registered = false } }
     ensures rest { (side.new.end ≡ side.old.end) × (side.new.cells ≡ side.old.cells) }
 {
-    let own = side.cancel();
-    let is_found = own.is_some();
-    side.own_taken(Found::Waker(is_found));
-    if is_found {
+    let own = side.take_own();
+    if own.is_some() {
         side.note(Action::Wake, Found::Nothing);
     }
     own

@@ -1,47 +1,48 @@
 //! A pipe is opened.
-ghost use Rattle.std.specs.Prelude.{◌≡◌, ◌*◌, ◌^◌, ◌<◌, ◌⊎◌, IfErr, IfOk, IsTrue, IsFalse, None};
+ghost use Rattle.std.specs.Prelude.{◌≡◌, ◌*◌, ◌^◌, ◌<◌, ◌≤◌, ◌↔◌, IfErr, IfOk, None};
 ghost use Rattle.piper_protocol.specs.Reported.{HasFailed};
 ghost use Rattle.piper_c.specs.Handles.{Holds, IsWholeWriter};
 ghost use Rattle.piper_c.specs.Opened.{ArePair, IsFreshReader, IsFreshWriter, IsNoCapacity, MemoryIsRefused};
 
 use crate::halves::{ReadHalf, WriteHalf};
 use crate::handles::{PiperReader, PiperWriter};
+use crate::outcome::Opening;
 use piper_ring::{OutOfMemory, open_with_slots};
 use std::alloc::{AllocError, Global};
 
 /// The most bytes that a pipe can hold.
 const MOST: usize = (1 << 63) - 1;
 
-/// Opens a pipe that holds `capacity` bytes. Where it returns false, the capacity is none or
-/// memory was refused, and both handles are null.
+/// Opens a pipe that holds `capacity` bytes. Both handles are null where it fails.
 #[unsafe(no_mangle)]
-pub extern "C" fn piper_open_abi_1(
+pub extern "C" fn piper_open_abi_2(
     alloc: Global,
     capacity: usize,
     reader: &mut PiperReader,
     writer: &mut PiperWriter,
-) -> bool
-    ensures capacity { IsTrue result → (0 < capacity) × (2 * capacity < 2 ^ 64) }
-    ensures reader { IsTrue result → Holds reader.new.half (IsFreshReader capacity) }
-    ensures writer { IsTrue result → Holds writer.new.half (IsFreshWriter capacity) }
-    ensures whole { IsTrue result → IsWholeWriter writer.new.half writer.new.lent }
-    ensures pair { IsTrue result →
+) -> u32
+    ensures reader { result ≡ 0 → Holds reader.new.half (IsFreshReader capacity) }
+    ensures writer { result ≡ 0 → Holds writer.new.half (IsFreshWriter capacity)
+        × IsWholeWriter writer.new.half writer.new.lent }
+    ensures pair { result ≡ 0 →
         Holds reader.new.half (λ r. Holds writer.new.half (λ w. ArePair r w)) }
-    ensures refused { IsFalse result → (reader.new.half ≡ None) × (writer.new.half ≡ None) }
-    ensures why { IsFalse result → IsNoCapacity capacity ⊎ MemoryIsRefused }
+    ensures capacity { result ≡ 1 ↔ IsNoCapacity capacity }
+    ensures memory { result ≡ 2 → MemoryIsRefused }
+    ensures failed { 0 < result → (reader.new.half ≡ None) × (writer.new.half ≡ None) }
+    ensures only { result ≤ 2 }
 {
     *reader = PiperReader::none();
     *writer = PiperWriter::none();
     if capacity == 0 || capacity > MOST {
-        return false;
+        return Opening::BadCapacity.code();
     }
     match open_boxed(alloc, capacity) {
         Ok((read, write)) => {
             reader.put(read);
             writer.put(write);
-            true
+            Opening::Opened.code()
         }
-        Err(OutOfMemory) => false,
+        Err(OutOfMemory) => Opening::NoMemory.code(),
     }
 }
 

@@ -1,7 +1,29 @@
-//! What a poll finds, and the words that it gives back.
+//! What an open comes to; what a poll finds, and the words that it gives back.
 ghost use Rattle.std.specs.Prelude.{◌≡◌};
 
 use crate::words::{PiperWords, Waiter};
+
+/// What an open came to. `code` is its number for C.
+#[derive(Clone, Copy)]
+pub enum Opening {
+    Opened,
+    BadCapacity,
+    NoMemory,
+}
+
+impl Opening {
+    ghost use Rattle.piper_c.specs.Outcome.{opening_code};
+
+    pub(crate) fn code(self) -> u32
+        ensures { result ≡ opening_code self }
+    {
+        match self {
+            Opening::Opened => 0,
+            Opening::BadCapacity => 1,
+            Opening::NoMemory => 2,
+        }
+    }
+}
 
 /// What a poll found. `code` is its number for C.
 #[derive(Clone, Copy)]
@@ -50,7 +72,7 @@ pub struct PiperSeen {
 #[repr(C)]
 #[derive(Drop)]
 pub struct PiperNext {
-    /// Who has to be woken, if anyone.
+    /// Who has to be woken, if anyone, or that the publish was refused.
     pub wake: PiperWords,
     /// How many bytes are lent.
     pub len: usize,

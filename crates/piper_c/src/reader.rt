@@ -81,7 +81,7 @@ pub extern "C" fn piper_reader_look(
     }
 }
 
-/// Takes the first `n` bytes of what `peek` gives.
+/// Takes the first `n` bytes of what `peek` gives, or none where these are fewer.
 #[unsafe(no_mangle)]
 pub extern "C" fn piper_reader_consume(
     alloc: Global,
@@ -95,7 +95,7 @@ pub extern "C" fn piper_reader_consume(
     let wake = if n <= half.peek_len() {
         Waiter::hand_out(half.consume(n))
     } else {
-        Waiter::hand_out(None)
+        PiperWords::refused()
     };
     reader.put(half);
     wake

@@ -1,6 +1,7 @@
 //! The two words that a side leaves while it waits.
 ghost use Rattle.std.specs.Prelude.{◌≡◌, ◌<◌, ◌↔◌, IsSome, true, false};
 
+use crate::outcome::Outcome;
 use piper_ring::LeftWakers;
 
 /// Two words that a waiting side leaves, or none where `vtable` is 0.
@@ -9,6 +10,20 @@ use piper_ring::LeftWakers;
 pub struct PiperWords {
     pub data: usize,
     pub vtable: usize,
+}
+
+impl PiperWords {
+    ghost use Rattle.piper_c.specs.Waiting.{IsRefusal};
+
+    /// No words, and C can tell that the call did nothing.
+    pub(crate) fn refused() -> PiperWords
+        ensures { IsRefusal result }
+    {
+        PiperWords {
+            data: Outcome::Refused.code() as usize,
+            vtable: 0,
+        }
+    }
 }
 
 /// The result of a call that moves bytes.

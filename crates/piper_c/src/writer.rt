@@ -6,8 +6,8 @@ ghost use Rattle.piper_ring.specs.Loads.{FoundWaiter};
 ghost use Rattle.piper_c.specs.Leaving.{Leaves};
 ghost use Rattle.piper_c.specs.Waiting.{HandedBack};
 ghost use Rattle.piper_c.specs.Handles.{Holds, HoldsOn, IsWholeWriter};
-ghost use Rattle.piper_c.specs.Writing.{LeftWriting, WriterTold, WriterSeen, WriterAsked, WriterWrites, WriterCloses, WriterEnds};
-ghost use Rattle.piper_c.specs.Lending.{LendsOut, IsLoanOf, IsWithin, IsWhole, WriterOffers, WriterGoesOn};
+ghost use Rattle.piper_c.specs.Writing.{LeftWriting, WriterTold, WriterSeen, WriterAsked, WriterWrites, WriterCloses};
+ghost use Rattle.piper_c.specs.Lending.{LendsOut, IsLoanOf, IsWhole, EndsLoan, WriterOffers, WriterGoesOn};
 
 use crate::halves::Left;
 use crate::handles::{PiperRoom, PiperWriter};
@@ -214,7 +214,7 @@ pub extern "C" fn piper_writer_reclaim(_alloc: Global, writer: &mut PiperWriter,
     *writer = reclaim_room(lent, room);
 }
 
-/// Publishes as `piper_writer_publish` does, checks whether the pipe is closed, and lends room
+/// Ends a loan as `piper_writer_publish` does, checks whether the pipe is closed, and lends room
 /// again.
 #[unsafe(no_mangle)]
 pub extern "C" fn piper_writer_next(
@@ -225,8 +225,7 @@ pub extern "C" fn piper_writer_next(
     max: usize,
     at: &mut PiperRoom,
 ) -> PiperNext
-    requires loan { IsLoanOf writer.old.half writer.old.lent room.at room.bytes }
-    requires within { IsWithin n room.bytes }
+    requires { IsLoanOf writer.old.half writer.old.lent room.at room.bytes }
     ensures { Holds writer.old.half (λ a.
         WriterGoesOn room.bytes n max result a writer.new at.new) }
 {
@@ -240,7 +239,8 @@ pub extern "C" fn piper_writer_next(
     }
 }
 
-/// Takes the room back that was lent, and publishes its first `n` bytes, as C left them.
+/// Takes the room back that was lent, and publishes its first `n` bytes, as C left them, or none
+/// where these are fewer.
 #[unsafe(no_mangle)]
 pub extern "C" fn piper_writer_publish(
     alloc: Global,
@@ -248,15 +248,18 @@ pub extern "C" fn piper_writer_publish(
     room: PiperRoom,
     n: usize,
 ) -> PiperWords
-    requires loan { IsLoanOf writer.old.half writer.old.lent room.at room.bytes }
-    requires within { IsWithin n room.bytes }
+    requires { IsLoanOf writer.old.half writer.old.lent room.at room.bytes }
     ensures ended { HoldsOn writer.old.half writer.new.half (λ a b.
-        WriterEnds room.bytes n result a b) }
+        EndsLoan room.bytes n result a b) }
     ensures whole { IsWholeWriter writer.new.half writer.new.lent }
 {
     let lent = replace(writer, PiperWriter::none());
     let mut half = reclaim_room(lent, room).into_box(alloc);
-    let wake = half.publish(n);
+    let wake = if n <= half.side.end().lent() {
+        Waiter::hand_out(half.publish(n))
+    } else {
+        PiperWords::refused()
+    };
     writer.put(half);
-    Waiter::hand_out(wake)
+    wake
 }

@@ -1,7 +1,7 @@
 -- Two pipes between the same two ends, one for each way.
 use Rattle.std.specs.Prelude.{◌≡◌, ℕ, ◌+◌, ◌++◌, length}
 use Rattle.piper.specs.Handles.{AreFresh, ArePair, DrawFrom}
-use Rattle.piper.specs.ReaderCalls.{MeetClosed, MeetMore, MeetReader, MeetSame, MeetWriter}
+use Rattle.piper.specs.ReaderCalls.{MeetClosed, MeetMore, MeetSame, MeetWoken}
 use Rattle.piper.specs.declared.handles.Reader.{Reader}
 use Rattle.piper.specs.declared.handles.Writer.{Writer}
 use Rattle.piper_duplex.specs.declared.end.End.{End}
@@ -27,6 +27,5 @@ pub record HaveMet (r0 r1 : Reader) (w0 w1 : Writer) : Type 0 where
   pub room : w1.side.end.room + length r1.side.end.known ≡ r1.side.end.capacity
   pub more : MeetMore r0 r1 w0 w1
   pub closed : MeetClosed r1 w1
-  pub reader_woken : MeetReader r0 r1 w0
-  pub writer_woken : MeetWriter w0 w1 r0
+  pub woken : MeetWoken r0 r1 w0 w1
   pub rest : MeetSame r0 r1 w0 w1

@@ -1,7 +1,6 @@
 -- What is read and written once files are opened.
-use Rattle.std.proofs.Common.{◌≡◌, ◌≢◌, refl, sym, subst, ℕ, List, Option, Some, None, codes}
+use Rattle.std.proofs.Common.{◌≡◌, ◌≢◌, refl, sym, subst, ℕ, List, Option, Some, None, codes, false}
 use Rattle.std.specs.Prelude.{IfSome, Result}
-use Rattle.std.specs.declared.fs.Metadata.{Metadata}
 use Rattle.std.specs.declared.io.Error.{Error}
 use Rattle.piper_pump.specs.Ended.{IsEarly, IsOfOption, IsUnopened}
 use Rattle.piper_pump.specs.Opening.{IsDrainOf, IsFoundInlet, IsFoundOpen, IsInletOf, IsInputFound, OpensNamed, ReadsNamed, WritesNamed}
@@ -11,6 +10,7 @@ use Rattle.piper_pump.specs.declared.ends.Drain.{Drain}
 use Rattle.piper_pump.specs.declared.ends.Drain.TheVariants as drain
 use Rattle.piper_pump.specs.declared.ends.Inlet.{Inlet}
 use Rattle.piper_pump.specs.declared.ends.Inlet.TheVariants as inlet
+use Rattle.pump_files.specs.declared.attributes.Attributes.{Attributes}
 use Rattle.pump_files.specs.declared.found.Found.{Found}
 use Rattle.pump_files.specs.declared.sinks.Sink.{Sink}
 
@@ -43,9 +43,9 @@ writes_named {D} {F} name word (Some s) found old new opens none some is = recor
 
 -- the output that is named held no byte
 pub none_held : {F : Type 0} (name : F → Option (List ℕ)) (word : Option (List ℕ)) (opened : Option (Sink F)) (found : Found) → OpensNamed (λ sink. name sink.file) word opened
-    → IfSome opened (λ s. s.found ≡ found) → IfSome opened (λ s. s.found.held ≡ 0) → (t : List ℕ) → word ≡ Some t → t ≢ codes "-" → found.held ≡ 0
+    → IfSome opened (λ s. s.found ≡ found) → IfSome opened (λ s. s.found.holds ≡ false) → (t : List ℕ) → word ≡ Some t → t ≢ codes "-" → found.holds ≡ false
 none_held name word None found opens is none t p q = absurd (opens.file t p q)
-none_held name word (Some s) found opens is none t p q = subst (λ (x : Found). x.held ≡ 0) is none
+none_held name word (Some s) found opens is none t p q = subst (λ (x : Found). x.holds ≡ false) is none
 
 -- what files that can't be opened end, ends early
 pub early_unopened : (e : Ended) → IsUnopened e → IsEarly e
@@ -61,7 +61,7 @@ early_option option text ended.Memory told = told
 early_option option text other told = absurd told
 
 -- what was found of the input is that of the file that was opened, or of standard input
-pub input_found : {S F : Type 0} (name : F → Option (List ℕ)) (answers : F → Result Metadata Error → Type 0) (word : Option (List ℕ)) (opened : Option F) (found : Found)
+pub input_found : {S F : Type 0} (name : F → Option (List ℕ)) (answers : F → Result Attributes Error → Type 0) (word : Option (List ℕ)) (opened : Option F) (found : Found)
     (new : Inlet S F) → OpensNamed name word opened → IsFoundOpen answers opened found → IfSome opened (λ f. new ≡ inlet.File f)
     → IsInputFound answers word found new
 input_found name answers word None found new opens is some = record {

@@ -19,13 +19,13 @@ named_more before after sink names i d inside items named name =
     ∙ ap (map (λ (n : Bor (List ℕ)). n.now)) (sym (take_more names i d inside))
 
 -- one more file among those that are known
-pub known_more : {F : Type 0} (input output : Found) (sinks : List (Sink F)) (i : ℕ) (sink : Sink F) → i < length sinks → get_or sinks i sink ≡ sink
-    → (before after : List FileId) → before ≡ ids_of (input ∷ output ∷ founds_of (take i sinks)) → after ≡ before ++ ids_of (sink.found ∷ [])
-    → after ≡ ids_of (input ∷ output ∷ founds_of (take (i + 1) sinks))
-known_more {F} input output sinks i sink inside at before after is added =
+pub known_more : {F : Type 0} (input reports output : Found) (sinks : List (Sink F)) (i : ℕ) (sink : Sink F) → i < length sinks → get_or sinks i sink ≡ sink
+    → (before after : List FileId) → before ≡ ids_of (input ∷ reports ∷ output ∷ founds_of (take i sinks)) → after ≡ before ++ ids_of (sink.found ∷ [])
+    → after ≡ ids_of (input ∷ reports ∷ output ∷ founds_of (take (i + 1) sinks))
+known_more {F} input reports output sinks i sink inside at before after is added =
     let more : founds_of (take (i + 1) sinks) ≡ founds_of (take i sinks) ++ sink.found ∷ [] =
     ap founds_of (take_more sinks i sink inside) ∙ map-append (λ (s : Sink F). s.found) (take i sinks) (get_or sinks i sink ∷ [])
     ∙ ap (λ (s : Sink F). founds_of (take i sinks) ++ s.found ∷ []) at in
     added ∙ ap (λ (ids : List FileId). ids ++ ids_of (sink.found ∷ [])) is
-    ∙ sym (filter_map-append (λ (f : Found). f.id) (input ∷ output ∷ founds_of (take i sinks)) (sink.found ∷ []))
-    ∙ ap (λ (founds : List Found). ids_of (input ∷ output ∷ founds)) (sym more)
+    ∙ sym (filter_map-append (λ (f : Found). f.id) (input ∷ reports ∷ output ∷ founds_of (take i sinks)) (sink.found ∷ []))
+    ∙ ap (λ (founds : List Found). ids_of (input ∷ reports ∷ output ∷ founds)) (sym more)

@@ -13,18 +13,18 @@ use Rattle.piper_pump.specs.declared.ended.Ended.{Ended}
 use Rattle.piper_pump.specs.declared.ended.Ended.TheVariants as ended
 
 -- a transfer with this answer ends the program so. Where all was moved, a file that did not get its
--- copy is reported. A write that fails with a broken pipe says that the program which read the
+-- copy is reported, and a sum that was not said. A write that fails with a broken pipe says that the program which read the
 -- output has ended
 abbrev pub EndsAs : {A : Type 0} → Result A TransferError → Bool → Ended → Type 0
-EndsAs (Ok moved) has_copy_failed e =
-    (has_copy_failed ≡ false → e ≡ ended.Moved) × (has_copy_failed ≡ true → e ≡ ended.Copies)
-EndsAs (Err (Read failed)) has_copy_failed e = e ≡ ended.Input (Read failed)
-EndsAs (Err (Write failed)) has_copy_failed e =
+EndsAs (Ok moved) lacks_some e =
+    (lacks_some ≡ false → e ≡ ended.Moved) × (lacks_some ≡ true → e ≡ ended.Copies)
+EndsAs (Err (Read failed)) lacks_some e = e ≡ ended.Input (Read failed)
+EndsAs (Err (Write failed)) lacks_some e =
     (error_kind failed ≡ BrokenPipe → e ≡ ended.Closed)
     × (error_kind failed ≢ BrokenPipe → e ≡ ended.Output (Write failed))
-EndsAs (Err Full) has_copy_failed e = e ≡ ended.Output Full
-EndsAs (Err Memory) has_copy_failed e = e ≡ ended.Memory
-EndsAs (Err (Turns failed)) has_copy_failed e = e ≡ ended.Memory
+EndsAs (Err Full) lacks_some e = e ≡ ended.Output Full
+EndsAs (Err Memory) lacks_some e = e ≡ ended.Memory
+EndsAs (Err (Turns failed)) lacks_some e = e ≡ ended.Memory
 
 -- the words on the command line can't be had: one is no text, or memory was refused
 abbrev pub IsOfWords : Ended → Type 0
@@ -97,6 +97,6 @@ HasStatus (ended.NoInput file) n = n ≡ 3
 HasStatus (ended.NoOutput file) n = n ≡ 4
 HasStatus (ended.Input failed) n = n ≡ 3
 HasStatus (ended.Output failed) n = n ≡ 4
-HasStatus ended.Closed n = n ≡ 5
+HasStatus ended.Closed n = n ≡ 141
 HasStatus ended.Copies n = n ≡ 7
 HasStatus ended.Memory n = n ≡ 6

@@ -1,21 +1,24 @@
 -- The files that are opened: by which names, that no two are one file, and that none holds bytes.
-use Rattle.std.specs.Prelude.{◌≡◌, ◌≢◌, ◌≤◌, ℕ, List, ◌∷◌, Option, Some, None, IsSomeAnd, Result, Ok, Err, codes, map, string_bytes}
-use Rattle.std.specs.Fs.{IsFile, file_type, metadata_len}
+use Rattle.std.specs.Prelude.{◌≡◌, ◌≢◌, ◌≤◌, ◌⊎◌, ℕ, List, length, ◌∷◌, Option, Some, None, IsSomeAnd, Result, Ok, Err, codes, false, map, string_bytes}
 use Rattle.std.specs.List.{All, AllPairs, filter_map}
-use Rattle.std.specs.declared.fs.Metadata.{Metadata}
 use Rattle.std.specs.declared.io.Error.{Error}
 use Rattle.pump_files.specs.Files.{IsJust}
-use Rattle.pump_files.specs.Found.{IsFound}
+use Rattle.pump_files.specs.Found.{IsFound, IsFoundAtStream, IsFoundOfReports}
 use Rattle.pump_files.specs.Handle.{IsAnswerFor}
 use Rattle.pump_words.specs.Plan.{IsOfStream}
 use Rattle.piper_pump.specs.declared.ends.Drain.{Drain}
 use Rattle.piper_pump.specs.declared.ends.Drain.TheVariants as drain
 use Rattle.piper_pump.specs.declared.ends.Inlet.{Inlet}
 use Rattle.piper_pump.specs.declared.ends.Inlet.TheVariants as inlet
+use Rattle.pump_files.specs.declared.attributes.Attributes.{Attributes}
+use Rattle.pump_files.specs.declared.attributes.Kind.TheVariants.{Regular}
 use Rattle.pump_files.specs.declared.found.FileId.{FileId}
+use Rattle.pump_files.specs.declared.found.FileId.TheVariants.{Untold}
 use Rattle.pump_files.specs.declared.found.Found.{Found}
 use Rattle.piper_pump.specs.declared.opening.Places.{Places}
 use Rattle.pump_files.specs.declared.sinks.Sink.{Sink}
+use Rattle.pump_files.specs.declared.streams.Stream.{Stream}
+use Rattle.pump_files.specs.declared.streams.Stream.TheVariants as stream
 
 -- the file that this word names was opened, which has that name, where its name is known; none was
 -- where the word is left out or is `-`
@@ -60,7 +63,7 @@ pub record WritesNamed {D F : Type 0}
 abbrev pub founds_of : {F : Type 0} → List (Sink F) → List Found
 founds_of sinks = map (λ sink. sink.found) sinks
 
--- which of them are regular files
+-- which of them are files that are told from others
 abbrev pub ids_of : List Found → List FileId
 ids_of founds = filter_map (λ found. found.id) founds
 
@@ -68,61 +71,65 @@ ids_of founds = filter_map (λ found. found.id) founds
 abbrev pub AreDistinct : List FileId → Type 0
 AreDistinct ids = AllPairs (λ x y. x ≢ y) ids
 
--- no two of them are one regular file
+-- it is known of each which one it is, if there are two
+abbrev pub AreTold : List FileId → Type 0
+AreTold ids = (length ids ≤ 1) ⊎ All (λ id. id ≢ Untold) ids
+
+-- no two of them are one file
 abbrev pub AreApart : List Found → Type 0
-AreApart founds = AreDistinct (ids_of founds)
+AreApart founds = AreDistinct (ids_of founds) × AreTold (ids_of founds)
 
 -- this was found where the system was asked of the file that this word names; or, where that is left
--- out or is `-`, of the standard stream that has this name
-pub record IsFoundAt (word : Option (List ℕ)) (stream : List ℕ) (found : Found) : Type 0 where
-  pub unnamed : IsOfStream word → IsFound (IsAnswerFor stream) found
+-- out or is `-`, of this standard stream
+pub record IsFoundAt (word : Option (List ℕ)) (s : Stream) (found : Found) : Type 0 where
+  pub unnamed : IsOfStream word → IsFoundAtStream s found
   pub named : (t : List ℕ) → word ≡ Some t → t ≢ codes "-" → IsFound (IsAnswerFor t) found
 
 -- the same where the file was opened, of the open file
-abbrev pub IsFoundOpen : {F : Type 0} → (F → Result Metadata Error → Type 0) → Option F → Found → Type 0
-IsFoundOpen answers None found = IsFound (IsAnswerFor (codes "/proc/self/fd/0")) found
+abbrev pub IsFoundOpen : {F : Type 0} → (F → Result Attributes Error → Type 0) → Option F → Found → Type 0
+IsFoundOpen answers None found = IsFoundAtStream stream.Input found
 IsFoundOpen answers (Some file) found = IsFound (answers file) found
 
-abbrev pub IsFoundInlet : {S F : Type 0} → (F → Result Metadata Error → Type 0) → Found → Inlet S F → Type 0
+abbrev pub IsFoundInlet : {S F : Type 0} → (F → Result Attributes Error → Type 0) → Found → Inlet S F → Type 0
 IsFoundInlet answers found (inlet.Standard s) = ⊥
 IsFoundInlet answers found (inlet.File file) = IsFound (answers file) found
 
 pub record IsInputFound {S F : Type 0}
-    (answers : F → Result Metadata Error → Type 0)
+    (answers : F → Result Attributes Error → Type 0)
     (word : Option (List ℕ))
     (found : Found)
     (input : Inlet S F) : Type 0 where
-  pub unnamed : IsOfStream word → IsFound (IsAnswerFor (codes "/proc/self/fd/0")) found
+  pub unnamed : IsOfStream word → IsFoundAtStream stream.Input found
   pub named : (t : List ℕ) → word ≡ Some t → t ≢ codes "-" → IsFoundInlet answers found input
 
 -- this was found where the system was asked of the file by its name
 abbrev pub IsFoundByName : {F : Type 0} → Sink F → Type 0
 IsFoundByName sink = IsFound (IsAnswerFor (string_bytes sink.name)) sink.found
 
--- the system was asked of all that is read and written, and no two of them are one regular file
+-- the system was asked of all that is read, reported to and written, and no two of them are one file
 pub record AreFoundApart {S F : Type 0}
-    (answers : F → Result Metadata Error → Type 0)
+    (answers : F → Result Attributes Error → Type 0)
     (input_word output_word : Option (List ℕ))
     (places : Places)
     (input : Inlet S F)
     (tees : List (Sink F)) : Type 0 where
   pub read : IsInputFound answers input_word places.input input
-  pub written : IsFoundAt output_word (codes "/proc/self/fd/1") places.output
+  pub reported : IsFoundOfReports places.reports
+  pub written : IsFoundAt output_word stream.Output places.output
   pub copied : All IsFoundByName tees
-  pub apart : AreApart (places.input ∷ places.output ∷ founds_of tees)
+  pub apart : AreApart (places.input ∷ places.reports ∷ places.output ∷ founds_of tees)
 
 -- the file that this word names held no byte where it was opened, and neither did these
 pub record HoldNothing {F : Type 0}
     (word : Option (List ℕ))
     (found : Found)
     (sinks : List (Sink F)) : Type 0 where
-  pub named : (t : List ℕ) → word ≡ Some t → t ≢ codes "-" → found.held ≡ 0
-  pub others : All (λ sink. sink.found.held ≡ 0) sinks
+  pub named : (t : List ℕ) → word ≡ Some t → t ≢ codes "-" → found.holds ≡ false
+  pub others : All (λ sink. sink.found.holds ≡ false) sinks
 
 -- what the system reported of the input tells how many bytes it has: a regular file at most those
 -- that it holds, and of another none are known
-abbrev pub TellsSize : Result Metadata Error → Option ℕ → Type 0
-TellsSize (Ok m) size =
-    (IsFile (file_type m) → IsSomeAnd size (λ n. n ≤ metadata_len m))
-    × (¬ IsFile (file_type m) → size ≡ None)
+abbrev pub TellsSize : Result Attributes Error → Option ℕ → Type 0
+TellsSize (Ok a) size =
+    (a.kind ≡ Regular → IsSomeAnd size (λ n. n ≤ a.len)) × (a.kind ≢ Regular → size ≡ None)
 TellsSize (Err e) size = size ≡ None

@@ -1,6 +1,5 @@
 -- The plan of a run: the numbers that the words ask for, and the files that they name.
 use Rattle.std.specs.Prelude.{◌≡◌, [], ℕ, true, false, List, Option, Some, None, Result, IfSome, codes}
-use Rattle.std.specs.declared.fs.Metadata.{Metadata}
 use Rattle.std.specs.declared.io.Error.{Error}
 use Rattle.piper_transfer.specs.declared.both_sides.Sizes.{Sizes}
 use Rattle.clap.specs.Words.{Text, fault_of, first_of, one_of}
@@ -9,6 +8,7 @@ use Rattle.piper_pump.specs.Asked.{HaveGot}
 use Rattle.piper_pump.specs.Ends.{Awaits, IsAwaited}
 use Rattle.piper_pump.specs.Opening.{AreFoundApart, HoldNothing, ReadsNamed, WritesNamed}
 use Rattle.pump_files.specs.Pace.{HasRate}
+use Rattle.pump_files.specs.declared.attributes.Attributes.{Attributes}
 use Rattle.pump_words.specs.Plan.{IsLevelOf, IsOfStream, IsRead, KnowsTotal}
 use Rattle.piper_pump.specs.declared.ends.Inlet.{Inlet}
 use Rattle.piper_pump.specs.declared.ends.Outlet.{Outlet}
@@ -41,7 +41,7 @@ pub record HasNumbers (words : List Text) (streams : Streams) (plan : Plan) : Ty
 -- asked of each, and no two are one file; and none that is written held a byte, if those are spared
 pub record HasFiles {R S D F : Type 0}
     (name : F → Option (List ℕ))
-    (answers : F → Result Metadata Error → Type 0)
+    (answers : F → Result Attributes Error → Type 0)
     (words : List Text)
     (streams : Streams)
     (plan : Plan)
@@ -61,7 +61,7 @@ pub record HasFiles {R S D F : Type 0}
 pub record IsPlanned {R S D F : Type 0}
     (name written : F → Option (List ℕ))
     (fails : F → Error → Type 0)
-    (answers : F → Result Metadata Error → Type 0)
+    (answers : F → Result Attributes Error → Type 0)
     (words : List Text)
     (streams : Streams)
     (i : Inlet S F)

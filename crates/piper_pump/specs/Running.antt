@@ -11,8 +11,8 @@ use Rattle.piper_pump.specs.declared.running.Plan.{Plan}
 
 -- it ended as a transfer did, unless a file that is to be written could not be opened
 abbrev pub EndsSo : Type 0 → Result Unit TransferError → Bool → Ended → Type 0
-EndsSo is_refused answer has_copy_failed e =
-    (¬ is_refused → EndsAs answer has_copy_failed e) × (is_refused → IsUnopened e)
+EndsSo is_refused answer lacks_some e =
+    (¬ is_refused → EndsAs answer lacks_some e) × (is_refused → IsUnopened e)
 
 -- it ended as a transfer did, or since a file could not be opened: what was written is a front of
 -- what the input gave, and all of it where the transfer wrote all; then it was flushed, as were the
@@ -24,10 +24,10 @@ pub record EndsWithTransfer
     (IsCopied : List ℕ → Type 0)
     (is_flushed is_open is_refused : Type 0)
     (IsFailed : TransferError → Type 0)
-    (has_copy_failed : Bool)
+    (lacks_some : Bool)
     (e : Ended) : Type 0 where
   pub answer : Result Unit TransferError
-  pub ends : EndsSo is_refused answer has_copy_failed e
+  pub ends : EndsSo is_refused answer lacks_some e
   pub written : List ℕ
   pub left : List ℕ
   pub given : Consumes input_old input_new (written ++ left)

@@ -3,10 +3,11 @@ ghost use Rattle.std.specs.Prelude.{◌≡◌, IfErr, IfOk, string_bytes};
 ghost use Rattle.std.specs.Process.{exit_status};
 ghost use Rattle.piper_protocol.specs.Reported.{HasFailed};
 ghost use Rattle.piper_pump.specs.Ended.{EndsAs, HasStatus, IsOfOption, IsOfPrint, IsOfRange, IsShown, IsUnopened};
-ghost use Rattle.piper_pump.specs.Why.{IsWhySaid, SaysWhy, why_text};
+ghost use Rattle.piper_pump.specs.Why.{IsWhySaid, SaysWhy, is_printable, why_text};
 
 use piper_protocol::reported::reported;
 use piper_transfer::TransferError;
+use pump_files::names::{Shown, Tamed};
 use pump_files::saying::say;
 use pump_words::plan::Untaken;
 use std::alloc::{AllocGlobal, Global};
@@ -89,21 +90,24 @@ pub enum Ended {
     Input(TransferError),
     /// The output failed.
     Output(TransferError),
-    /// The program that reads the output has ended.
+    /// The program that reads the output has ended. Nothing is said, as where the system's signal ends
+    /// a program for that.
     Closed,
-    /// All bytes were moved, and a file did not get its copy, which was reported.
+    /// All bytes were moved, and a file did not get its copy, which was reported; or their sum could
+    /// not be reported.
     Copies,
     /// Memory was refused.
     Memory,
 }
 
 impl Ended {
-    /// How a run ends whose transfer ended so, and which may have failed to make a copy.
-    pub fn of(moved: Result<(), TransferError>, has_copy_failed: bool) -> Ended
-        ensures { EndsAs moved has_copy_failed result }
+    /// How a run ends whose transfer ended so, and which may have failed to make a copy, or to report
+    /// the sum.
+    pub fn of(moved: Result<(), TransferError>, lacks_some: bool) -> Ended
+        ensures { EndsAs moved lacks_some result }
     {
         match moved {
-            Ok(()) if has_copy_failed => Ended::Copies,
+            Ok(()) if lacks_some => Ended::Copies,
             Ok(()) => Ended::Moved,
             Err(TransferError::Read(error)) => Ended::Input(TransferError::Read(error)),
             Err(TransferError::Write(error)) if error.kind() == ErrorKind::BrokenPipe => {
@@ -133,7 +137,7 @@ impl Ended {
     }
 
     /// Says why it ended early, if it did, and returns the status.
-    pub fn report(&self, rt: &(impl Print + Eprint + AllocGlobal)) -> ExitCode
+    pub fn report(&self, rt: &(impl Print + Eprint + AllocGlobal), names: &EndNames) -> ExitCode
         ensures status { HasStatus self.now (exit_status result) }
         ensures said { SaysWhy self.now }
     {
@@ -141,20 +145,38 @@ impl Ended {
             Ended::Moved => ExitCode::from(0),
             Ended::Copies => ExitCode::from(7),
             Ended::Words(error) => ExitCode::from(report_words(rt, error)),
-            Ended::NotText | Ended::Value(_) => self.say_why(rt, 2),
-            Ended::NoInput(_) | Ended::Input(_) => self.say_why(rt, 3),
-            Ended::NoOutput(_) | Ended::Output(_) => self.say_why(rt, 4),
-            Ended::Closed => self.say_why(rt, 5),
-            Ended::Memory => self.say_why(rt, 6),
+            Ended::NotText | Ended::Value(_) => self.say_why(rt, names, 2),
+            Ended::NoInput(_) | Ended::Input(_) => self.say_why(rt, names, 3),
+            Ended::NoOutput(_) | Ended::Output(_) => self.say_why(rt, names, 4),
+            Ended::Closed => ExitCode::from(141),
+            Ended::Memory => self.say_why(rt, names, 6),
         }
     }
 
-    fn say_why(&self, rt: &impl Eprint, status: u8) -> ExitCode
+    fn say_why(&self, rt: &impl Eprint, names: &EndNames, status: u8) -> ExitCode
         ensures status { exit_status result ≡ status }
         ensures said { IsWhySaid self.now }
     {
-        say(rt, Why { ended: self });
+        let _ = say(rt, Why { ended: self, names });
         ExitCode::from(status)
+    }
+}
+
+/// The names of the files that are read and written in place of the standard streams, where memory
+/// was granted for them.
+#[derive(Drop)]
+pub struct EndNames {
+    pub input: Option<String>,
+    pub output: Option<String>,
+}
+
+impl EndNames {
+    /// No file is known by its name.
+    pub fn none() -> EndNames {
+        EndNames {
+            input: None,
+            output: None,
+        }
     }
 }
 
@@ -162,6 +184,33 @@ impl Ended {
 #[derive(Clone, Copy)]
 pub struct Why<'a> {
     ended: &'a Ended,
+    names: &'a EndNames,
+}
+
+/// What comes before an error of a file: its name.
+#[derive(Clone, Copy)]
+struct Prefix<'a>(Option<&'a str>);
+
+impl Display for Prefix<'_> {
+    fn fmt<W: fmt::Write>(&self, f: &mut Formatter<W>) -> fmt::Result {
+        match self.0 {
+            Some(name) => write!(f, "{}: ", Shown(name)),
+            None => Ok(()),
+        }
+    }
+}
+
+fn name_in(name: &Option<String>) -> Option<&str> {
+    name.as_ref().map(|name| name.as_str())
+}
+
+// Whether a text is shown as it is: it has printable characters of ASCII alone.
+fn is_printable(text: &str) -> bool
+    ensures { result ≡ is_printable text.now }
+{
+    text.as_bytes()
+        .iter()
+        .all(|byte| 32 <= *byte && *byte < 127)
 }
 
 impl Display for Why<'_> {
@@ -169,18 +218,40 @@ impl Display for Why<'_> {
 
     fn fmt<W: fmt::Write>(&self, f: &mut Formatter<W>) -> fmt::Result {
         match self.ended {
-            Ended::Moved | Ended::Copies | Ended::Words(_) => Ok(()),
+            Ended::Moved | Ended::Copies | Ended::Closed | Ended::Words(_) => Ok(()),
             Ended::NotText => f.write_str("piper_pump: an argument is not UTF-8"),
-            Ended::Value(word) => write!(
+            Ended::Value(word) if is_printable(word.text.as_str()) => write!(
                 f,
                 "piper_pump: invalid value '{}' for '{}': {}\n\nFor more information, try '--help'.",
                 word.text, word.option, word.range
             ),
-            Ended::NoInput(file) | Ended::NoOutput(file) => {
-                write!(f, "piper_pump: {}: {}", file.name, file.error)
+            Ended::Value(word) => write!(
+                f,
+                "piper_pump: invalid value {} for '{}': {}\n\nFor more information, try '--help'.",
+                Shown(word.text.as_str()),
+                word.option,
+                word.range
+            ),
+            Ended::NoInput(file) | Ended::NoOutput(file) => write!(
+                f,
+                "piper_pump: {}: {}",
+                Shown(file.name.as_str()),
+                file.error
+            ),
+            Ended::Input(error) => {
+                write!(
+                    f,
+                    "piper_pump: {}{error}",
+                    Prefix(name_in(&self.names.input))
+                )
             }
-            Ended::Input(error) | Ended::Output(error) => write!(f, "piper_pump: {error}"),
-            Ended::Closed => f.write_str("piper_pump: the output was closed"),
+            Ended::Output(error) => {
+                write!(
+                    f,
+                    "piper_pump: {}{error}",
+                    Prefix(name_in(&self.names.output))
+                )
+            }
             Ended::Memory => f.write_str("piper_pump: out of memory"),
         }
     }
@@ -218,6 +289,6 @@ where
     let text = text.as_str();
     eprint!(rt;
         "piper_pump: {}",
-        text.strip_prefix("error: ").unwrap_or(text)
+        Tamed(text.strip_prefix("error: ").unwrap_or(text))
     )
 }

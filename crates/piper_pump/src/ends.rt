@@ -3,7 +3,7 @@ ghost use Rattle.std.specs.Prelude.{◌≡◌, ◌↔◌, [], ℕ, List, IfErr, 
 ghost use Rattle.std.specs.Io.KnownBytes.{Keeps};
 ghost use Rattle.piper_transfer.specs.Taken.{StaysTaken};
 ghost use Rattle.piper_transfer.specs.Transfer.{IsLasting, IsOfDestination, WritesAll};
-ghost use Rattle.pump_files.specs.Copies.{HavePassed, has_failed};
+ghost use Rattle.pump_files.specs.Copies.{HavePassed, lacks_some};
 ghost use Rattle.piper_pump.specs.Ended.{EndsAs, IsUnopened};
 ghost use Rattle.piper_pump.specs.Ends.{drain_bytes, inlet_bytes, AreAllFlushed, DrainFails};
 ghost use Rattle.piper_pump.specs.Ends.{HaveTaken, InletFails, IsAnswered, IsAwaited, IsDone, IsFlushed, IsFull};
@@ -139,13 +139,13 @@ where
     /// How the run ends that has moved the bytes so.
     pub(crate) fn ended(&self, moved: Result<(), TransferError>) -> Ended
         ensures opened { ¬ IsRefused self.now.opening
-            → EndsAs moved (has_failed self.now.copies.tees.items) result }
+            → EndsAs moved (lacks_some self.now.copies) result }
         ensures refused { IsRefused self.now.opening → IsAnswered self.now.opening
             → IsUnopened result }
     {
         match &self.opening {
             Opening::Refused(ended) => ended.try_clone(self.rt.alloc()),
-            _ => Ended::of(moved, self.copies.has_failed()),
+            _ => Ended::of(moved, self.copies.lacks_some()),
         }
     }
 

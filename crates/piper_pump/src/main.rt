@@ -15,11 +15,13 @@ mod running;
 mod streams;
 
 use crate::command_line::CommandLine;
+use crate::ended::EndNames;
 use crate::outcome::Outcome;
 use crate::program::{Nothing, STACK, run_and_report};
 use crate::streams::{Streams, is_open};
 use piper_transfer::Plain;
 use pump_files::files::SystemFile;
+use std::env;
 use std::io::IsTerminal;
 use std::process::ExitCode;
 use std::thread::Builder;
@@ -29,19 +31,19 @@ fn main(rt: HostRuntime) -> ExitCode {
         has_input: is_open(&rt.stdin()),
         has_output: is_open(&rt.stdout()),
         has_error: is_open(&rt.stderr()),
-        redraws: rt.stderr().is_terminal(),
+        redraws: rt.stderr().is_terminal() && !is_dumb(&rt),
     };
     let _fillers = match streams.fill(&rt) {
         Ok(fillers) => fillers,
-        Err(ended) => return ended.report(&rt),
+        Err(ended) => return ended.report(&rt, &EndNames::none()),
     };
     let line = match CommandLine::read(&rt) {
         Ok(line) => line,
-        Err(ended) => return ended.report(&rt),
+        Err(ended) => return ended.report(&rt, &EndNames::none()),
     };
     let (outcome, theirs) = match Outcome::for_two(rt.alloc()) {
         Ok(outcomes) => outcomes,
-        Err(ended) => return ended.report(&rt),
+        Err(ended) => return ended.report(&rt, &EndNames::none()),
     };
     let (source, dest) = (Plain(rt.stdin()), Plain(rt.stdout()));
     let started = Builder::new()
@@ -53,4 +55,12 @@ fn main(rt: HostRuntime) -> ExitCode {
         (refused.value)();
     }
     outcome.report(&rt)
+}
+
+// Whether the terminal is said to know no control sequences.
+fn is_dumb(rt: &HostRuntime) -> bool {
+    match env::var(rt, "TERM") {
+        Ok(term) => term.as_str() == "dumb",
+        Err(_) => false,
+    }
 }

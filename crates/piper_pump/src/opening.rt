@@ -1,20 +1,21 @@
 //! The files that are named: the input is opened, and those that are to be written are looked at.
 //! Those that may not be written are refused, before one of them is opened.
-ghost use Rattle.std.specs.Prelude.{◌≡◌, ◌++◌, ◌∷◌, [], None, Ok, OnErr, OnOk, IfErr, IfOk, IfSome, IsSomeAnd, Result, Some, codes, false, map, string_bytes};
-ghost use Rattle.std.specs.Fs.{IsFile, file_type, metadata_len};
+ghost use Rattle.std.specs.Prelude.{◌≡◌, ◌≢◌, ◌++◌, ◌∷◌, [], None, Ok, OnErr, OnOk, IfErr, IfOk, IfSome, IsSomeAnd, Result, Some, codes, false, map, string_bytes};
 ghost use Rattle.std.specs.List.{All};
-ghost use Rattle.std.specs.declared.fs.Metadata.{Metadata};
 ghost use Rattle.std.specs.declared.io.Error.{Error};
-ghost use Rattle.piper_protocol.specs.Reported.{IsOfStd};
+ghost use Rattle.piper_protocol.specs.Reported.{HasFailed, IsOfStd};
 ghost use Rattle.pump_words.specs.Arguments.{text_in};
 ghost use Rattle.pump_files.specs.Copies.{HavePassed, IsCopy, names_of};
 ghost use Rattle.piper_pump.specs.Asked.{parts_wanted};
 ghost use Rattle.piper_pump.specs.Ended.{IsOfFailure, IsToldOf, IsUnopened};
 ghost use Rattle.piper_pump.specs.Ends.{Awaits};
 ghost use Rattle.pump_files.specs.Files.{IsJust};
-ghost use Rattle.pump_files.specs.Found.{IsFound};
+ghost use Rattle.pump_files.specs.Found.{IsFound, IsFoundAtStream, IsFoundOfReports};
 ghost use Rattle.pump_files.specs.Handle.{IsAnswerFor};
-ghost use Rattle.piper_pump.specs.Opening.{AreApart, AreDistinct, AreFoundApart, HoldNothing};
+ghost use Rattle.pump_files.specs.declared.attributes.Attributes.{Attributes};
+ghost use Rattle.pump_files.specs.declared.attributes.Kind.TheVariants.{Regular};
+ghost use Rattle.pump_files.specs.declared.streams.Stream.TheVariants as stream;
+ghost use Rattle.piper_pump.specs.Opening.{AreApart, AreDistinct, AreFoundApart, AreTold, HoldNothing};
 ghost use Rattle.piper_pump.specs.Opening.{IsFoundAt, IsFoundByName, IsFoundOpen, OpensNamed};
 ghost use Rattle.piper_pump.specs.Opening.{ReadsNamed, TellsSize, WritesNamed, founds_of, ids_of};
 ghost use Rattle.pump_files.specs.Pace.{HasRate};
@@ -23,22 +24,32 @@ use crate::ended::{Ended, Unopened};
 use crate::ends::{Drain, Inlet, Opening, Outlet};
 use piper_protocol::reported::reported;
 use piper_transfer::{Destination, Source};
+use pump_files::attributes::{Attributes, Kind};
 use pump_files::files::{NamedFile, Opens};
-use pump_files::found::{FileId, Found, STANDARD_INPUT};
+use pump_files::found::{FileId, Found};
 use pump_files::handle::ask;
-use pump_files::sinks::{HOLDS_BYTES, Sink};
+use pump_files::sinks::{FOLDER, HOLDS_BYTES, Sink};
+use pump_files::streams::Stream;
 use pump_words::arguments::Arguments;
 use pump_words::plan::named;
 use std::alloc::{AllocGlobal, Global};
-use std::fs::{Files, Metadata};
+use std::fs::Files;
+use std::io;
 use std::sync::Wait;
 use std::time::Clock;
-use std::{fs, io};
 
-/// What was found of what is read, and of what is written: files, or the standard streams.
+/// What is said of a file that is named twice.
+const SHARED: &str = "it is the input, another output or standard error, too";
+
+/// What is said of a standard stream whose file the system does not tell.
+const UNTOLD: &str = "it can't be told from the other files without /proc";
+
+/// What was found of what is read, of what is reported to, and of what is written: files, or the
+/// standard streams.
 #[derive(Clone, Copy)]
 pub struct Places {
     pub input: Found,
+    pub reports: Found,
     pub output: Found,
 }
 
@@ -53,8 +64,9 @@ struct Opened<F: NamedFile> {
 }
 
 /// Opens the input that is named, looks at the files that are to be written, and takes them in place
-/// of what represents them. Where one is refused, both stay. A regular file is refused that is the
-/// input or another output, too; and one that holds bytes, unless those are to be overwritten.
+/// of what represents them. Where one is refused, both stay. A file is refused that is the input,
+/// standard error or another output, too; and one that holds bytes, unless those are to be
+/// overwritten. So are files that can't be told from one another.
 /// Returns what the system reports of what is read, and of what is written.
 pub fn open_files<R, F, S, D>(
     rt: &R,
@@ -143,8 +155,9 @@ where
         (λ sink. sink.found ≡ opened.places.output)) }
     ensures input_found { IfOk result (λ opened.
         IsFoundOpen F.answers opened.input opened.places.input) }
+    ensures reports_found { IfOk result (λ opened. IsFoundOfReports opened.places.reports) }
     ensures output_found { IfOk result (λ opened. IsFoundAt
-        (text_in arguments.now.texts.output) (codes "/proc/self/fd/1") opened.places.output) }
+        (text_in arguments.now.texts.output) stream.Output opened.places.output) }
     ensures tees_found { IfOk result (λ opened. All IsFoundByName opened.tees.items) }
     ensures names { IfOk result (λ opened. names_of opened.tees.items
         ≡ map (λ name. name.now) arguments.now.tees.items) }
@@ -155,7 +168,8 @@ where
     let output = look_at_output(rt, rt.alloc(), named(arguments.texts.output))?;
     let tees = look_at_tees(rt, rt.alloc(), arguments.tees.as_slice())?;
     let places = Places {
-        input: found_of_input(rt, &input),
+        input: found_of_input(rt, &input)?,
+        reports: Found::of_reports(rt),
         output: found_of_output(rt, &output),
     };
     Ok(Opened {
@@ -166,22 +180,30 @@ where
     })
 }
 
-fn found_of_input<F: NamedFile>(files: &impl Files, input: &Option<F>) -> Found
-    ensures { IsFoundOpen F.answers input.now result }
+fn found_of_input<R, F>(rt: &R, input: &Option<F>) -> Result<Found, Ended>
+where
+    R: Files + AllocGlobal,
+    F: NamedFile,
+    ensures early { IfErr result IsUnopened }
+    ensures found { IfOk result (IsFoundOpen F.answers input.now) }
+    ensures failed { IfErr result IsOfFailure }
 {
-    match input {
-        Some(file) => Found::of_input(file),
-        None => Found::at_input(files),
+    let Some(file) = input else {
+        return Ok(Found::of_stream(rt, Stream::Input));
+    };
+    match Found::of_open(file) {
+        Ok(found) => Ok(found),
+        Err(error) => Err(Ended::NoInput(Unopened::new(rt.alloc(), "the input", error)?)),
     }
 }
 
 fn found_of_output<F: NamedFile>(files: &impl Files, output: &Option<Sink<F>>) -> Found
     ensures file { IfSome output.now (λ sink. sink.found ≡ result) }
-    ensures stream { output.now ≡ None → IsFound (IsAnswerFor (codes "/proc/self/fd/1")) result }
+    ensures stream { output.now ≡ None → IsFoundAtStream stream.Output result }
 {
     match output {
         Some(sink) => sink.found,
-        None => Found::at_output(files),
+        None => Found::of_stream(files, Stream::Output),
     }
 }
 
@@ -199,11 +221,26 @@ where
 {
     match name {
         None => Ok(None),
-        Some(name) => match rt.open(name) {
+        Some(name) => match open_to_read(rt, name) {
             Ok(file) => Ok(Some(file)),
             Err(error) => Err(Ended::NoInput(Unopened::new(alloc, name, error)?)),
         },
     }
+}
+
+// Opens the file that is read, unless it is a folder.
+fn open_to_read<R, F>(rt: &R, name: &str) -> io::Result<F>
+where
+    R: Opens<F>,
+    F: NamedFile,
+    ensures name { IfOk result (λ file. IsJust (F.name file) name.now) }
+    ensures failed { IfErr result HasFailed }
+{
+    let file = rt.open(name)?;
+    if file.attributes()?.kind == Kind::Folder {
+        return reported(Err(io::Error::other(FOLDER)));
+    }
+    Ok(file)
 }
 
 // Looks at the file that is written in place of standard output, if one is named.
@@ -270,11 +307,12 @@ fn add_tee<F: NamedFile>(tees: &mut Vec<Sink<F>>, sink: Sink<F>) -> Result<(), E
     reported(tees.push(sink).map_err(|_| Ended::Memory))
 }
 
-// Refuses a regular file that is the input or another output, too.
+// Refuses a file that is the input, standard error or another output, too, and files that can't be
+// told from one another.
 fn refuse_shared<F: NamedFile>(alloc: Global, opened: &Opened<F>) -> Result<(), Ended>
     ensures early { IfErr result IsUnopened }
-    ensures apart { OnOk result (AreApart (opened.now.places.input ∷ opened.now.places.output
-        ∷ founds_of opened.now.tees.items)) }
+    ensures apart { OnOk result (AreApart (opened.now.places.input ∷ opened.now.places.reports
+        ∷ opened.now.places.output ∷ founds_of opened.now.tees.items)) }
 {
     let mut known = Vec::new(alloc);
     let name = match &opened.output {
@@ -282,11 +320,24 @@ fn refuse_shared<F: NamedFile>(alloc: Global, opened: &Opened<F>) -> Result<(), 
         None => "standard output",
     };
     add(&mut known, "the input", opened.places.input)?;
+    add(&mut known, "standard error", opened.places.reports)?;
     add(&mut known, name, opened.places.output)?;
     for tee in opened.tees.iter() {
         add(&mut known, tee.name.as_str(), tee.found)?;
     }
-    Ok(())
+    refuse_untold(alloc, known.as_slice())
+}
+
+// Refuses files of which one can't be told from the others.
+fn refuse_untold(alloc: Global, known: &[FileId]) -> Result<(), Ended>
+    ensures early { IfErr result IsUnopened }
+    ensures told { OnOk result (AreTold known.now) }
+{
+    if known.len() <= 1 || !known.contains(&FileId::Untold) {
+        return Ok(());
+    }
+    let error = io::Error::other(UNTOLD);
+    Err(Ended::NoOutput(Unopened::new(alloc, "a standard stream", error)?))
 }
 
 // Adds a file to those that are known, unless it is one of them.
@@ -300,7 +351,7 @@ fn add(known: &mut Vec<FileId>, name: &str, found: Found) -> Result<(), Ended>
         return Ok(());
     };
     if known.contains(&id) {
-        let error = io::Error::other("it is the input or another output, too");
+        let error = io::Error::other(if id == FileId::Untold { UNTOLD } else { SHARED });
         return Err(Ended::NoOutput(Unopened::new(*known.allocator(), name, error)?));
     }
     reported(known.push(id).map_err(|_| Ended::Memory))
@@ -312,9 +363,9 @@ where
     F: NamedFile,
     ensures early { IfErr result IsUnopened }
     ensures output { overwrites ≡ false → OnOk result (IfSome opened.now.output
-        (λ sink. sink.found.held ≡ 0)) }
+        (λ sink. sink.found.holds ≡ false)) }
     ensures tees { overwrites ≡ false → OnOk result
-        (All (λ sink. sink.found.held ≡ 0) opened.now.tees.items) }
+        (All (λ sink. sink.found.holds ≡ false) opened.now.tees.items) }
 {
     if overwrites {
         return Ok(());
@@ -331,9 +382,9 @@ where
 fn refuse_held<F: NamedFile>(alloc: Global, sink: &Sink<F>) -> Result<(), Ended>
     ensures early { IfErr result IsUnopened }
     ensures named { IfErr result (IsToldOf (string_bytes sink.now.name)) }
-    ensures none { OnOk result (sink.now.found.held ≡ 0) }
+    ensures none { OnOk result (sink.now.found.holds ≡ false) }
 {
-    if sink.found.held == 0 {
+    if !sink.found.holds {
         return Ok(());
     }
     let error = io::Error::other(HOLDS_BYTES);
@@ -343,36 +394,26 @@ fn refuse_held<F: NamedFile>(alloc: Global, sink: &Sink<F>) -> Result<(), Ended>
 /// How many bytes the input has, from where it is read on, if it is a regular file.
 pub fn size_of<R, F, S>(rt: &R, input: &Inlet<S, F>) -> Option<u64>
 where
-    R: Files + AllocGlobal,
+    R: Files,
     F: NamedFile,
     S: Source + Drop,
-    ensures { (read : Result Metadata Error) × IsOfStd read × TellsSize read result }
+    ensures { (read : Result Attributes Error) × IsOfStd read × TellsSize read result }
 {
     match input {
         Inlet::File(file) => len_of(&file.attributes().ok()?),
         Inlet::Standard(_) => {
-            let len = len_of(&ask(rt, STANDARD_INPUT).ok()?)?;
-            Some(len.saturating_sub(position(rt).unwrap_or(0)))
+            let len = len_of(&ask(rt, Stream::Input.name()).ok()?)?;
+            Some(len.saturating_sub(Stream::Input.position().unwrap_or(0)))
         }
     }
 }
 
-fn len_of(attributes: &Metadata) -> Option<u64>
-    ensures file { IsFile (file_type attributes.now)
-        → result ≡ Some (metadata_len attributes.now) }
-    ensures other { ¬ IsFile (file_type attributes.now) → result ≡ None }
+fn len_of(attributes: &Attributes) -> Option<u64>
+    ensures file { attributes.now.kind ≡ Regular → result ≡ Some attributes.now.len }
+    ensures other { attributes.now.kind ≢ Regular → result ≡ None }
 {
-    if attributes.is_file() {
-        Some(attributes.len())
-    } else {
-        None
+    match attributes.kind {
+        Kind::Regular => Some(attributes.len),
+        _ => None,
     }
-}
-
-// How many bytes of standard input were read before, as the system reports in its first line:
-// `pos:` and a number.
-fn position<R: Files + AllocGlobal>(rt: &R) -> Option<u64> {
-    let reported = fs::read_to_string(rt, "/proc/self/fdinfo/0").ok()?;
-    let line = reported.as_str().lines().next()?;
-    line.strip_prefix("pos:")?.trim().parse::<u64>().ok()
 }

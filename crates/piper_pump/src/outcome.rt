@@ -5,7 +5,7 @@ ghost use Rattle.std.specs.Process.{exit_status};
 ghost use Rattle.piper_pump.specs.Ended.{IsOfFailure};
 ghost use Rattle.piper_pump.specs.Outcome.{EndsBy, IsOfRun, IsTold, OutputFailed, ReportsRun};
 
-use crate::ended::Ended;
+use crate::ended::{EndNames, Ended};
 use piper_protocol::reported::reported;
 use piper_transfer::TransferError;
 use std::alloc::{AllocGlobal, Global};
@@ -55,6 +55,7 @@ enum Told {
 pub struct Outcome {
     reported: Mutex<Told>,
     changed: Condvar,
+    names: Mutex<EndNames>,
 }
 
 impl Failure {
@@ -107,7 +108,13 @@ impl Outcome {
         Outcome {
             reported: Mutex::new(Told::Nothing),
             changed: Condvar::new(),
+            names: Mutex::new(EndNames::none()),
         }
+    }
+
+    /// What is read and written is named so, where an error of it is said.
+    pub(crate) fn name(&self, rt: &impl Wait, names: EndNames) {
+        *self.names.lock(rt) = names;
     }
 
     /// The same, for two threads.
@@ -144,7 +151,9 @@ impl Outcome {
         R: Wait + Clock + Print + Eprint + AllocGlobal,
         ensures { ReportsRun (exit_status result) }
     {
-        self.wait(rt).report(rt)
+        let ended = self.wait(rt);
+        let names = self.names.lock(rt);
+        ended.report(rt, &names)
     }
 
     // How the program ends.

@@ -8,6 +8,7 @@ ghost use Rattle.pump_files.specs.Pace.{IsOfClock};
 
 use piper_protocol::reported::reported;
 use piper_transfer::{Meter, is_lasting};
+use pump_files::saying::takes_a_line;
 use pump_words::lines::{Done, Line};
 use std::io;
 use std::sync::{Condvar, Mutex, Wait};
@@ -92,7 +93,8 @@ pub struct Progress {
 }
 
 /// Prints a line four times a second until the transfer is over, and then one of the whole. Where
-/// nobody reads them any more, it prints no more.
+/// nobody reads them any more, it prints no more. A line that standard error does not take at once is
+/// left out: the end of the program does not wait for who reads it.
 pub fn watch<R>(rt: &R, meter: &Meter, watched: Watched, over: &EndSignal)
 where
     R: Wait + Clock + Eprint,
@@ -200,7 +202,8 @@ fn elapsed(clock: &impl Clock, since: Option<Instant>) -> Duration {
     }
 }
 
-// Prints a line, or draws it over the one before: then a terminal that is too narrow cuts it off.
+// Prints a line, or draws it over the one before: then a terminal that is too narrow cuts it off. One
+// that would wait for who reads it is left out.
 fn print(
     rt: &impl Eprint,
     line: &Line,
@@ -210,6 +213,9 @@ fn print(
 ) -> io::Result<()>
     ensures { IsOfStd result }
 {
+    if !takes_a_line() {
+        return reported(Ok(()));
+    }
     let (before, after) = match (redraws, is_last) {
         (false, _) => ("", "\n"),
         (true, false) => ("\r\u{1b}[?7l", "\u{1b}[K\u{1b}[?7h"),

@@ -3,8 +3,9 @@ ghost use Rattle.std.specs.Prelude.{◌≡◌, ◌≢◌, [], None, OnErr, OnOk,
 ghost use Rattle.clap.specs.Words.{fault_of};
 ghost use Rattle.piper_transfer.specs.Transfer.{IsOfSide, Transfers, WritesAll};
 ghost use Rattle.pump_words.specs.Arguments.{IsSizeOf, ShowsAsAsked, pump_command};
+ghost use Rattle.piper_protocol.specs.Reported.{HasFailed};
 ghost use Rattle.piper_pump.specs.Asked.{HaveGot};
-ghost use Rattle.pump_files.specs.Copies.{has_failed};
+ghost use Rattle.pump_files.specs.Copies.{lacks_some};
 ghost use Rattle.piper_pump.specs.Ended.{IsEarly};
 ghost use Rattle.piper_pump.specs.Ends.{drain_bytes, inlet_bytes, AreAllFlushed, Awaits, HaveTaken};
 ghost use Rattle.piper_pump.specs.Ends.{InletFails, IsAwaited, IsDone, IsFull, IsRefused};
@@ -17,15 +18,18 @@ ghost use Rattle.piper_pump.specs.Planned.{AreSizedBy, IsPlanned, SparesBytes, a
 ghost use Rattle.piper_pump.specs.Running.{EndsWithTransfer, Runs};
 
 use crate::accepting::accept;
-use crate::ended::Ended;
+use crate::ended::{EndNames, Ended};
 use crate::ends::{Inlet, Outlet};
 use crate::opening::{Places, open_files, size_of};
 use crate::progress::{EndSignal, Watched, watch};
 use crate::streams::Streams;
+use clap::error::ErrorKind;
+use piper_protocol::reported::reported;
 use piper_transfer::{Destination, Meter, Sizes, Source, TransferError, transfer};
 use pump_files::files::{NamedFile, Opens};
 use pump_words::arguments::read_words;
-use std::alloc::AllocGlobal;
+use pump_words::plan::named;
+use std::alloc::{AllocGlobal, Global};
 use std::fs::Files;
 use std::marker::Send;
 use std::random::RandomSource;
@@ -48,7 +52,8 @@ pub struct Plan {
 /// named. One that was closed, and would be used, ends it.
 ///
 /// Words that are refused end it before a byte is moved. Else it ends as the transfer does: with
-/// success only where all that the input gave was written and flushed, and each copy, too.
+/// success only where all that the input gave was written and flushed, and each copy, too, and their
+/// sum was reported, if that is wanted.
 /// Progress, told or not, changes neither.
 pub fn run<R, F, S, D>(
     rt: &R,
@@ -81,7 +86,7 @@ where
         (IsOfSide (InletFails S.fails F.fails input.new)
         (OutletFails D.fails F.fails output.new.opening output.new.drain)
         (IsFull D.full F.full output.new.drain))
-        (has_failed output.new.copies.tees.items) result) result }
+        (lacks_some output.new.copies) result) result }
 {
     let plan = match prepare(rt, words, input, output, streams) {
         Ok(plan) => plan,
@@ -179,10 +184,15 @@ where
 {
     let arguments = match read_words(rt.alloc(), words) {
         Ok(arguments) => arguments,
-        Err(error) => return Err(Ended::Words(error)),
+        Err(error) => return Err(refused_words(error)),
     };
     let numbers = accept(rt.alloc(), &arguments, streams)?;
     let places = open_files(rt, &arguments, numbers.rate, input, output)?;
+    let names = EndNames {
+        input: copy_of(rt.alloc(), named(arguments.texts.input)),
+        output: copy_of(rt.alloc(), named(arguments.texts.output)),
+    };
+    output.outcome.name(rt, names);
     let watched = Watched {
         capacity: numbers.sizes.capacity,
         total: numbers.total.or(size_of(rt, input)),
@@ -195,6 +205,31 @@ where
         rate: numbers.rate,
         asked: if shows_progress { Some(watched) } else { None },
     })
+}
+
+// How words end the program that are refused, or that memory was refused for.
+fn refused_words(error: clap::Error) -> Ended
+    ensures { IsEarly result }
+{
+    if error.kind() == ErrorKind::OutOfMemory {
+        return lacking_memory();
+    }
+    Ended::Words(error)
+}
+
+fn lacking_memory() -> Ended
+    ensures is { result ≡ Ended.Memory }
+    ensures refused { HasFailed result }
+{
+    match reported::<(), Ended>(Err(Ended::Memory)) {
+        Ok(()) => unreachable!(),
+        Err(refused) => refused,
+    }
+}
+
+// The name again, if memory is granted for it.
+fn copy_of(alloc: Global, name: Option<&str>) -> Option<String> {
+    String::from_str(alloc, name?).ok()
 }
 
 /// Moves all bytes, and reports meanwhile how far it is where that is asked for. Told or not, the

@@ -12,8 +12,8 @@ use std::alloc::AllocGlobal;
 use std::fs::{File, Files, OpenOptions};
 use std::os::fd::AsFd;
 
-/// The device that is opened in place of a stream that is closed.
-const NULL: &str = "/dev/null";
+/// The folder that is opened in place of a stream that is closed. No folder can be read or written.
+const ROOT: &str = "/";
 
 /// The system's error where a number is that of no open file.
 const NOT_OPEN: i32 = 9;
@@ -50,9 +50,10 @@ pub fn is_open(stream: &impl AsFd) -> bool
 }
 
 impl Streams {
-    /// Opens a file in place of each stream that was closed, so that no file that is opened later
-    /// gets its number, and with it what is read from or written to the stream. The first is open
-    /// for writing and the others for reading, so that what uses them fails.
+    /// Opens a folder in place of each stream that was closed, so that no file that is opened later
+    /// gets its number, and with it what is read from or written to the stream. A name that leads to
+    /// a closed stream, as `/dev/stdout`, then leads to a folder, and is refused like the names of
+    /// others.
     ///
     /// It is called before any other file is opened, and what it returns is kept to the end.
     pub fn fill<R>(&self, rt: &R) -> Result<Fillers, Ended>
@@ -65,9 +66,9 @@ impl Streams {
         ensures failed { IfErr result IsOfFailure }
     {
         // The system gives the lowest number that is free.
-        let _input = open_unless(rt, self.has_input, OpenOptions::new().write(true))?;
-        let _output = open_unless(rt, self.has_output, OpenOptions::new().read(true))?;
-        let _error = open_unless(rt, self.has_error, OpenOptions::new().read(true))?;
+        let _input = open_unless(rt, self.has_input)?;
+        let _output = open_unless(rt, self.has_output)?;
+        let _error = open_unless(rt, self.has_error)?;
         Ok(Fillers {
             _input,
             _output,
@@ -76,7 +77,7 @@ impl Streams {
     }
 }
 
-fn open_unless<R>(rt: &R, is_open: bool, how: &OpenOptions) -> Result<Option<File>, Ended>
+fn open_unless<R>(rt: &R, is_open: bool) -> Result<Option<File>, Ended>
 where
     R: Files<File = File> + AllocGlobal,
     ensures early { IfErr result IsEarly }
@@ -86,8 +87,8 @@ where
     if is_open {
         return Ok(None);
     }
-    match reported(how.open(rt, NULL)) {
+    match reported(OpenOptions::new().read(true).open(rt, ROOT)) {
         Ok(file) => Ok(Some(file)),
-        Err(error) => Err(Ended::NoOutput(Unopened::new(rt.alloc(), NULL, error)?)),
+        Err(error) => Err(Ended::NoOutput(Unopened::new(rt.alloc(), ROOT, error)?)),
     }
 }

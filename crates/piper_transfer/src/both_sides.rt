@@ -18,6 +18,7 @@ use crate::naming::{Naming, Unnamed};
 use crate::one_thread::{resume, take_turns};
 use crate::over::OutputOver;
 use crate::patience::flush_patiently;
+use crate::rises::Rises;
 use crate::start::{Start, grants_thread};
 use crate::threads::at_once;
 use crate::turns::{Input, Output, Turns};
@@ -186,7 +187,8 @@ where
     ) {
         (Some(filled), Some(drained)) => drained.and(Ok(filled)),
         (Some(filled), None) => {
-            drain_output(rt, output, dest, chunk, &meter.output).and(Ok(filled))
+            let rises = Rises::new(output.level.bytes());
+            drain_output(rt, output, dest, chunk, &rises, &meter.output).and(Ok(filled))
         }
         (None, Some(Err(error))) => Err(error),
         // Nothing has failed, so the input is read all the same.
@@ -248,7 +250,7 @@ where
     ensures drain_late { IfNone result.1 (IsLate N.name) }
     ensures at_once { WereAtOnce result.0 result.1 }
 {
-    let (start, mut second) = Start::new(OutputOver::<N>::new(name));
+    let (start, mut second) = Start::new(OutputOver::<N>::new(name, output.level.bytes()));
     let (start, second) = (&start, &mut second);
     at_once(
         rt,

@@ -18,6 +18,7 @@ use crate::meter::{Meter, OfOutput, Side};
 use crate::naming::Naming;
 use crate::over::OutputOver;
 use crate::patience::write_patiently;
+use crate::rises::Rises;
 use crate::start::Start;
 use crate::turns::{Output, end};
 use futures::task::{Context, Poll};
@@ -59,7 +60,8 @@ where
     if !start.wait(rt) {
         return None;
     }
-    let ended = drain_output(rt, output, dest, chunk, &meter.output);
+    let rises = &start.over.rises;
+    let ended = drain_output(rt, output, dest, chunk, rises, &meter.output);
     if let Err(error) = &ended {
         give_up(&mut output.reader, dest, error, &start.over);
     }
@@ -73,6 +75,7 @@ pub(crate) fn drain_output<R, D>(
     output: &mut Output,
     dest: &mut D,
     chunk: usize,
+    rises: &Rises,
     meter: &Side<OfOutput>,
 ) -> Result<(), TransferError>
 where
@@ -88,7 +91,7 @@ where
     for _ in rt.forever() {
         meter.begin_wait(rt);
         let mut cx = output.turns.next(rt, still).map_err(TransferError::Turns)?;
-        let reached = output.level.wait(rt, &output.reader);
+        let reached = output.level.wait(rt, &output.reader, rises);
         meter.end_wait(rt);
         let turn = drain_turn(rt, &mut cx, &mut output.reader, reached, dest, chunk, meter);
         still = end(cx, &turn);

@@ -145,14 +145,16 @@ where
             Ok(false) => return Poll::Ready(Err(Stop::Told)),
             Err(_) => {
                 let error = no_waker(cx);
-                return close(cx, writer, Err(Stop::Failed(error)));
+                return close(rt, cx, writer, over, Err(Stop::Failed(error)));
             }
         }
         match read_chunk(rt, source, writer, piece.len(), meter, over) {
-            Ok(0) => return close(cx, writer, Ok(())),
+            Ok(0) => return close(rt, cx, writer, over, Ok(())),
             Ok(count) => piece = piece.after(count),
             Err(Stop::Told) => return Poll::Ready(Err(Stop::Told)),
-            Err(Stop::Failed(error)) => return close(cx, writer, Err(Stop::Failed(error))),
+            Err(Stop::Failed(error)) => {
+                return close(rt, cx, writer, over, Err(Stop::Failed(error)));
+            }
         }
     }
     unreachable!()
@@ -181,24 +183,30 @@ where
     ensures stopped { IfErr result (StopsSource (S.fails source.new) H.failed) }
     ensures is_open { IsOpen writer.new.side.end }
     ensures counted { IfOk result HasCounted }
+    ensures told { OnOk result H.told }
 {
     let count = read_patiently(rt, source, writer.write_buf(most), over)?;
     writer.produced(count);
+    over.tell(rt);
     meter.add_bytes(count);
     Ok(count)
 }
 
 // Closes the pipe, so that the other side ends once it has taken what was published.
-fn close(
+fn close<H: Hears>(
+    rt: &impl Wait,
     cx: &mut Context<'_>,
     writer: &mut Writer,
+    over: &H,
     ended: Result<(), Stop>,
 ) -> Poll<Result<(), Stop>>
     ensures answer { result ≡ Poll.Ready ended }
     ensures sent { writer.new.side.end.sent ≡ writer.old.side.end.sent }
     ensures ring { writer.new.side.end.ring ≡ writer.old.side.end.ring }
     ensures shut { writer.new.side.end.shut ≡ true }
+    ensures told { H.told }
 {
     let _closed = writer.poll_close(cx);
+    over.tell(rt);
     Poll::Ready(ended)
 }

@@ -3,16 +3,12 @@ ghost use Rattle.std.specs.Prelude.{◌≡◌, ◌≤◌, true, IfSome, IfNone};
 ghost use Rattle.piper.specs.OfReader.{ring};
 ghost use Rattle.piper.specs.ReaderCalls.{MayBeUnread};
 ghost use Rattle.piper_ring.specs.Loads.{FoundClosed};
-ghost use Rattle.piper_transfer.specs.Turns.{HasSlept};
+ghost use Rattle.piper_transfer.specs.Turns.{HasWaited};
 
 use crate::both_sides::Sizes;
-use crate::sleeping::sleep;
+use crate::rises::Rises;
 use piper::Reader;
 use std::sync::Wait;
-use std::time::{Clock, Duration};
-
-/// How many milliseconds it is from one look at how full the pipe is to the next.
-const PAUSE: u64 = 2;
 
 /// How many bytes the pipe is to hold; it is made of the sizes of a transfer alone.
 #[derive(Drop)]
@@ -41,29 +37,27 @@ impl Level {
         self.bytes
     }
 
-    /// Waits until the pipe holds so many bytes, or is closed.
-    pub(crate) fn wait<R>(&self, rt: &R, reader: &Reader) -> Reached
-    where
-        R: Wait + Clock,
+    /// Waits until the pipe holds so many bytes, or is closed: the other side rings then.
+    pub(crate) fn wait(&self, rt: &impl Wait, reader: &Reader, rises: &Rises) -> Reached
         ensures level { IfSome result.held (λ held.
             (self.now.bytes ≤ held) × MayBeUnread reader.now held) }
         ensures closed { IfNone result.held (FoundClosed (ring reader.now).names true) }
     {
         for _ in rt.forever() {
-            if let Some(reached) = self.look(rt, reader) {
+            if let Some(reached) = self.look(rt, reader, rises) {
                 return reached;
             }
         }
         unreachable!()
     }
 
-    // Looks once, and sleeps until the next look where the pipe is open and holds fewer.
-    fn look(&self, clock: &impl Clock, reader: &Reader) -> Option<Reached>
+    // Looks once, and waits for the other side where the pipe is open and holds fewer.
+    fn look(&self, rt: &impl Wait, reader: &Reader, rises: &Rises) -> Option<Reached>
         ensures level { IfSome result (λ reached. IfSome reached.held (λ held.
             (self.now.bytes ≤ held) × MayBeUnread reader.now held)) }
         ensures closed { IfSome result (λ reached.
             IfNone reached.held (FoundClosed (ring reader.now).names true)) }
-        ensures slept { IfNone result (HasSlept 2_000_000) }
+        ensures waited { IfNone result HasWaited }
     {
         let held = reader.len();
         if self.bytes <= held {
@@ -72,7 +66,7 @@ impl Level {
         if reader.is_closed() {
             return Some(Reached { held: None });
         }
-        sleep(clock, Duration::from_millis(PAUSE));
+        rises.wait(rt, reader, self.bytes);
         None
     }
 }

@@ -15,6 +15,7 @@ mod one_thread;
 mod over;
 mod patience;
 mod piece;
+mod rises;
 mod rounds;
 mod sleeping;
 mod start;

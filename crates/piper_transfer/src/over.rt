@@ -1,12 +1,15 @@
-//! How the side that reads the input hears that the output is over.
+//! What the two sides of a transfer tell each other: the one that reads the input hears that the output
+//! is over, and the other one that the pipe holds more.
 ghost use Rattle.std.specs.Prelude.{◌≡◌, ◌<◌, IsTrue, false};
 ghost use Rattle.piper_transfer.specs.Transfer.{IsTold};
 
 use crate::naming::{Naming, Unnamed};
+use crate::rises::Rises;
 use std::marker::PhantomData;
+use std::sync::Wait;
 use std::sync::atomic::{AtomicIn, Ordering, Rule};
 
-/// What the side that reads the input asks before each read.
+/// What the side that reads the input asks before each read, and tells after it.
 pub(crate) trait Hears {
     // what it says where it is over
     ghost failed: { Type 0 };
@@ -14,10 +17,17 @@ pub(crate) trait Hears {
     // it was asked
     ghost asked: { Type 0 };
 
+    // the output's side was told
+    ghost told: { Type 0 };
+
     /// Whether the output takes no more, so that no more is to be read.
     fn is_over(&self) -> bool
         ensures over { IsTrue result → failed }
         ensures asked { asked };
+
+    /// Tells the output's side that the pipe holds more, or is closed.
+    fn tell(&self, rt: &impl Wait)
+        ensures told { told };
 }
 
 /// What the word of an `OutputOver` says: more than 0 only once the output's side has failed.
@@ -36,15 +46,18 @@ impl<N: Naming> Rule for OnceFailed<N> {
 #[derive(Drop)]
 pub(crate) struct OutputOver<N: Naming> {
     word: AtomicIn<OnceFailed<N>>,
+    /// What wakes the output's side where it waits for a level.
+    pub(crate) rises: Rises,
 }
 
 impl<N: Naming> OutputOver<N> {
-    /// The output is not over.
-    pub(crate) fn new(_name: Unnamed) -> OutputOver<N>
+    /// The output is not over, and waits for so many bytes.
+    pub(crate) fn new(_name: Unnamed, level: usize) -> OutputOver<N>
         requires { _name.name.value ≡ N.name }
     {
         OutputOver {
             word: AtomicIn::new(0),
+            rises: Rises::new(level),
         }
     }
 
@@ -59,13 +72,21 @@ impl<N: Naming> OutputOver<N> {
 
 impl<N: Naming> Hears for OutputOver<N> {
     ghost use Rattle.piper_transfer.specs.Transfer.{WasAsked};
+    ghost use Rattle.piper_transfer.specs.Turns.{HasRung};
+    ghost use Rattle.piper_transfer.specs.declared.rises.Rises.{Rises};
 
     ghost failed = { N.failed };
 
     ghost asked = { WasAsked N.name };
 
+    ghost told = { (rises : Rises) × HasRung rises };
+
     fn is_over(&self) -> bool {
         0 < self.word.load(Ordering::SeqCst)
+    }
+
+    fn tell(&self, rt: &impl Wait) {
+        self.rises.ring(rt);
     }
 }
 
@@ -79,7 +100,11 @@ impl Hears for Nobody {
 
     ghost asked = { ⊤ };
 
+    ghost told = { ⊤ };
+
     fn is_over(&self) -> bool {
         false
     }
+
+    fn tell(&self, _rt: &impl Wait) {}
 }

@@ -1,5 +1,5 @@
 -- What became of the bytes that the output took: the files that got them, too, and their sum.
-use Rattle.std.specs.Prelude.{◌≡◌, ℕ, Bool, true, false, List, [], ◌∷◌, Option, Some, None, IfSome, codes, map, string_bytes}
+use Rattle.std.specs.Prelude.{◌≡◌, ◌⊎◌, ◌&&◌, ◌||◌, is_none, is_some, ℕ, Bool, true, false, List, [], ◌∷◌, Option, Some, None, IfSome, codes, map, string_bytes}
 use Rattle.std.specs.List.{All, list_any}
 use Rattle.std.specs.declared.io.Error.{Error}
 use Rattle.sha2.specs.Hashers.{Holds256}
@@ -10,7 +10,8 @@ use Rattle.pump_files.specs.Lines.{IsLossSaid, IsSumSaid}
 use Rattle.pump_files.specs.declared.sinks.Sink.{Sink}
 use Rattle.pump_files.specs.declared.copies.Copies.{Copies}
 
--- a file that has its name, and got just these bytes; or of which a call has failed, which was said
+-- a file that has its name, and got just these bytes; or of which a call has failed, which was said or
+-- is to be said at the end
 pub record IsCopy {F : Type 0}
     (name written : F → Option (List ℕ))
     (fails : F → Error → Type 0)
@@ -18,19 +19,21 @@ pub record IsCopy {F : Type 0}
     (sink : Sink F) : Type 0 where
   pub named : IsJust (name sink.file) (string_bytes sink.name)
   pub got : sink.has_failed ≡ false → IsJust (written sink.file) passed
-  pub failed : sink.has_failed ≡ true → (e : Error) × fails sink.file e × IsLossSaid (string_bytes sink.name) e
+  pub failed : sink.has_failed ≡ true → (e : Error) × fails sink.file e
+      × (IsLossSaid (string_bytes sink.name) e ⊎ (sink.unsaid ≡ Some e))
 
 -- the names of a sink and of its file stay, and whether it was given up
 pub record SameSink {F : Type 0} (name : F → Option (List ℕ)) (old new : Sink F) : Type 0 where
   pub named : new.name ≡ old.name
   pub file : name new.file ≡ name old.file
   pub failed : new.has_failed ≡ old.has_failed
+  pub unsaid : new.unsaid ≡ old.unsaid
 
--- the file was flushed, or a call of it has failed
+-- the file was flushed, or a call of it has failed, and nothing of that is left to be said
 abbrev pub IsFlushedOrFailed : {F : Type 0} → (F → Type 0) → Sink F → Type 0
-IsFlushedOrFailed flushed sink = sink.has_failed ≡ false → flushed sink.file
+IsFlushedOrFailed flushed sink = (sink.has_failed ≡ false → flushed sink.file) × (sink.unsaid ≡ None)
 
--- each of the files was flushed, if no call of it has failed
+-- each of the files was flushed, if no call of it has failed, and else that was said
 abbrev pub AreFlushed : {F : Type 0} → (F → Type 0) → List (Sink F) → Type 0
 AreFlushed flushed sinks = All (IsFlushedOrFailed flushed) sinks
 
@@ -71,3 +74,11 @@ pub record HavePassed {R F : Type 0}
 -- a file did not get its copy
 abbrev pub has_failed : {F : Type 0} → List (Sink F) → Bool
 has_failed sinks = list_any (λ sink. sink.has_failed) sinks
+
+-- the sum is wanted, and was not said
+abbrev pub lacks_sum : {R F : Type 0} → Copies R F → Bool
+lacks_sum copies = is_some copies.sum && is_none copies.digest
+
+-- a file did not get its copy, or the sum was not said
+abbrev pub lacks_some : {R F : Type 0} → Copies R F → Bool
+lacks_some copies = has_failed copies.tees.items || lacks_sum copies

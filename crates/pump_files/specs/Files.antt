@@ -1,11 +1,11 @@
 -- What is known of a file.
 use Rattle.std.specs.Prelude.{◌≡◌, ◌⊎◌, ℕ, true, List, Option, IfSome, IsErr, Result, MatchResult, take}
 use Rattle.std.specs.Fs.{new_options, with_create_new, with_read, with_write}
-use Rattle.std.specs.declared.fs.Metadata.{Metadata}
 use Rattle.std.specs.declared.fs.options.OpenOptions.{OpenOptions}
 use Rattle.std.specs.declared.io.Error.{Error}
 use Rattle.std.specs.Io.KnownBytes.{append_known}
 use Rattle.pump_files.specs.Handle.{HasLength, IsAnswerOf, IsOpenedBy}
+use Rattle.pump_files.specs.declared.attributes.Attributes.{Attributes}
 use Rattle.pump_files.specs.declared.files.SystemFile.{SystemFile}
 use Rattle.pump_files.specs.declared.files.SystemFile.TheVariants as system
 
@@ -39,6 +39,6 @@ IsCutFile (system.Open handle) =
     HasLength 0 handle ⊎ ((name : List ℕ) × IsOpenedBy makes name handle)
 
 -- the system was asked of it, and answered so; where it is not open, that is reported
-abbrev pub IsAnswerOfFile : SystemFile → Result Metadata Error → Type 0
+abbrev pub IsAnswerOfFile : SystemFile → Result Attributes Error → Type 0
 IsAnswerOfFile system.Named answer = IsErr answer
 IsAnswerOfFile (system.Open handle) answer = IsAnswerOf handle answer

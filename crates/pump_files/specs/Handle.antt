@@ -1,17 +1,17 @@
 -- What the system did to a file, and what it said of one. All but the first are sealed: no proof looks
 -- into them, and only those of the calls that are named use the lemmas.
-use Rattle.std.specs.Prelude.{◌≡◌, ◌⊎◌, ℕ, List, IfOk, OnOk, Result, Ok, Err, ⊤}
-use Rattle.std.specs.Fs.{IsFile, file_type, metadata_len}
+use Rattle.std.specs.Prelude.{◌≡◌, ◌≢◌, ◌⊎◌, ℕ, List, IfOk, OnOk, Result, Ok, Err, ⊤}
 use Rattle.std.specs.declared.fs.File.{File}
-use Rattle.std.specs.declared.fs.Metadata.{Metadata}
 use Rattle.std.specs.declared.fs.options.OpenOptions.{OpenOptions}
 use Rattle.std.specs.declared.io.Error.{Error}
 use Rattle.piper_protocol.specs.Reported.{IsOfStd}
+use Rattle.pump_files.specs.declared.attributes.Attributes.{Attributes}
+use Rattle.pump_files.specs.declared.attributes.Kind.TheVariants as kind
 use Rattle.pump_files.specs.declared.handle.Handle.{Handle}
 
 -- it is no regular file, or one that holds no byte
-abbrev pub HoldsNothing : Metadata → Type 0
-HoldsNothing m = (¬ IsFile (file_type m)) ⊎ (metadata_len m ≡ 0)
+abbrev pub HoldsNothing : Attributes → Type 0
+HoldsNothing a = (a.kind ≢ kind.Regular) ⊎ (a.len ≡ 0)
 
 -- the system opened this file by its name, in this way (`Handle::open`)
 pub IsOpenedBy : OpenOptions → List ℕ → Handle → Type 0
@@ -23,18 +23,18 @@ unfolding IsOpenedBy
 as_opened how name returned handle asked = tt
 
 -- the system was asked of this open file, and answered so (`Handle::metadata`)
-pub IsAnswerOf : Handle → Result Metadata Error → Type 0
+pub IsAnswerOf : Handle → Result Attributes Error → Type 0
 IsAnswerOf handle answer = ⊤
 
-pub as_answer_of : (handle : Handle) (answer : Result Metadata Error) → IsOfStd answer → IsAnswerOf handle answer
+pub as_answer_of : (handle : Handle) (answer : Result Attributes Error) → IsOfStd answer → IsAnswerOf handle answer
 unfolding IsAnswerOf
 as_answer_of handle answer asked = tt
 
 -- the system was asked of the file of this name, and answered so (`ask`)
-pub IsAnswerFor : List ℕ → Result Metadata Error → Type 0
+pub IsAnswerFor : List ℕ → Result Attributes Error → Type 0
 IsAnswerFor name answer = ⊤
 
-pub as_answer_for : (name : List ℕ) (answer : Result Metadata Error) → IsOfStd answer → IsAnswerFor name answer
+pub as_answer_for : (name : List ℕ) (answer : Result Attributes Error) → IsOfStd answer → IsAnswerFor name answer
 unfolding IsAnswerFor
 as_answer_for name answer asked = tt
 
@@ -47,7 +47,7 @@ unfolding HasLength
 as_resized size handle (Ok u) asked = tt
 as_resized size handle (Err e) asked = tt
 
-pub as_empty : (handle : Handle) (answer : Result Metadata Error) → IsAnswerOf handle answer
+pub as_empty : (handle : Handle) (answer : Result Attributes Error) → IsAnswerOf handle answer
     → IfOk answer (λ m. HoldsNothing m → HasLength 0 handle)
 unfolding HasLength
 as_empty handle (Ok m) asked = λ none. tt

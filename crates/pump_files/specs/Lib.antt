@@ -1,4 +1,5 @@
 pub mod AllOpen
+pub mod Attributes
 pub mod Copies
 pub mod Files
 pub mod Found
@@ -8,3 +9,4 @@ pub mod Made
 pub mod Pace
 pub mod Saying
 pub mod Steps
+pub mod Streams

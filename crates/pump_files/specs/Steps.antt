@@ -1,9 +1,9 @@
 -- What is done for each file that is written, before it gets a byte.
 use Rattle.std.specs.Prelude.{◌≡◌, Bool, true, false, Result, ⊤}
-use Rattle.std.specs.declared.fs.Metadata.{Metadata}
 use Rattle.std.specs.declared.io.Error.{Error}
 use Rattle.pump_files.specs.AllOpen.{IsOpenedUnlessFailed}
 use Rattle.pump_files.specs.Found.{IsFound}
+use Rattle.pump_files.specs.declared.attributes.Attributes.{Attributes}
 use Rattle.pump_files.specs.declared.found.Found.{Found}
 use Rattle.pump_files.specs.declared.sinks.Sink.{Sink}
 use Rattle.pump_files.specs.declared.sinks.Step.{Step}
@@ -30,15 +30,15 @@ GetsBy (step.Cut all_open) is_kept is_made is_cut sink = IsCutUnlessFailed is_cu
 
 -- what the system answered of the open file: it is the one that was looked at by its name, and it
 -- holds nothing, unless that may be overwritten
-pub record IsAsLookedAt (IsAsked : Result Metadata Error → Type 0) (overwrites : Bool)
+pub record IsAsLookedAt (IsAsked : Result Attributes Error → Type 0) (overwrites : Bool)
     (looked : Found) : Type 0 where
   pub opened : Found
   pub found : IsFound IsAsked opened
   pub same : opened.id ≡ looked.id
-  pub spared : overwrites ≡ false → opened.held ≡ 0
+  pub spared : overwrites ≡ false → opened.holds ≡ false
 
 -- so it is after the step that opens it, if it was there and not given up
-abbrev pub OpensBy : {F : Type 0} → Step → (F → Result Metadata Error → Type 0)
+abbrev pub OpensBy : {F : Type 0} → Step → (F → Result Attributes Error → Type 0)
     → Sink F → Sink F → Type 0
 OpensBy (step.Open overwrites) answers old new = old.has_failed ≡ false → old.is_there ≡ true →
     IsAsLookedAt (answers new.file) overwrites old.found

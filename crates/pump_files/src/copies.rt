@@ -2,7 +2,7 @@
 ghost use Rattle.std.specs.Prelude.{◌≡◌, ◌<◌, ◌≤◌, ◌++◌, ◌∷◌, [], ℕ, List, IfSome, option_map};
 ghost use Rattle.std.specs.List.{All};
 ghost use Rattle.pump_files.specs.Copies.{AreFlushed, HavePassed, IsCopy, IsSumOf};
-ghost use Rattle.pump_files.specs.Copies.{has_failed, name_of_sum, names_of, sum_asked};
+ghost use Rattle.pump_files.specs.Copies.{has_failed, lacks_some, lacks_sum, name_of_sum, names_of, sum_asked};
 ghost use Rattle.sha2.specs.Sha256.{sha256};
 
 use crate::files::NamedFile;
@@ -40,11 +40,27 @@ impl<'a, R: Clock + Eprint, F: NamedFile> Copies<'a, R, F> {
         }
     }
 
-    /// Whether a file did not get them, which was reported.
-    pub fn has_failed(&self) -> bool
+    /// Whether a file did not get them, which was reported, or their sum is wanted and was not
+    /// reported, since standard error did not take it.
+    pub fn lacks_some(&self) -> bool
+        ensures { result ≡ lacks_some self.now }
+    {
+        self.has_failed() || self.lacks_sum()
+    }
+
+    fn has_failed(&self) -> bool
         ensures { result ≡ has_failed self.now.tees.items }
     {
         self.tees.iter().any(|tee| tee.has_failed)
+    }
+
+    fn lacks_sum(&self) -> bool
+        ensures { result ≡ lacks_sum self.now }
+    {
+        match (&self.sum, self.digest) {
+            (Some(_), None) => true,
+            _ => false,
+        }
     }
 
     /// Their files, whether their sum is wanted, and how many may pass in a second.
@@ -69,8 +85,9 @@ impl<'a, R: Clock + Eprint, F: NamedFile> Copies<'a, R, F> {
         ensures tees { self.new.tees ≡ self.old.tees }
     {
         if let Some(digest) = digest_of(&self.sum) {
-            say(self.rt, SumLine { digest, name });
-            self.digest = Some(digest);
+            if say(self.rt, SumLine { digest, name }) {
+                self.digest = Some(digest);
+            }
         }
     }
 

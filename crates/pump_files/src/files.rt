@@ -7,10 +7,11 @@ ghost use Rattle.pump_files.specs.Files.{IsAnswerOfFile, IsCutFile, IsFileOf, Is
 ghost use Rattle.pump_files.specs.Handle.{HoldsNothing, IsAnswerFor};
 
 use crate::all_open::AllOpen;
+use crate::attributes::Attributes;
 use crate::handle::{Handle, ask};
 use crate::made::StillNamed;
 use piper_protocol::reported::reported;
-use std::fs::{File, Files, Metadata, OpenOptions};
+use std::fs::{File, Files, OpenOptions};
 use std::{fs, io};
 
 /// A file that has a name.
@@ -19,8 +20,8 @@ use std::{fs, io};
 /// flushed, and how its calls fail. Of the system's files nothing of that is said, but each answer is one of theirs.
 pub trait NamedFile: Drop {
     ghost use Rattle.std.specs.Prelude.{Result};
-    ghost use Rattle.std.specs.declared.fs.Metadata.{Metadata};
     ghost use Rattle.std.specs.declared.io.Error.{Error};
+    ghost use Rattle.pump_files.specs.declared.attributes.Attributes.{Attributes};
 
     // the name that it is opened by, where that is known
     ghost name: { Self → Option (List ℕ) } = { λ _. None };
@@ -35,7 +36,7 @@ pub trait NamedFile: Drop {
     ghost is_made: { Self → Type 0 } = { λ _. ⊤ };
 
     // the system was asked of it, and answered so
-    ghost answers: { Self → Result Metadata Error → Type 0 } = { λ _ _. ⊤ };
+    ghost answers: { Self → Result Attributes Error → Type 0 } = { λ _ _. ⊤ };
 
     // it holds no byte but those that were written to it
     ghost is_cut: { Self → Type 0 } = { λ _. ⊤ };
@@ -56,7 +57,7 @@ pub trait NamedFile: Drop {
     ghost fails: { Self → Error → Type 0 } = { λ _ _. ⊤ };
 
     /// What the system reports of it.
-    fn attributes(&self) -> io::Result<Metadata>
+    fn attributes(&self) -> io::Result<Attributes>
         ensures asked { answers self.now result }
         ensures empty { IfOk result (λ m. HoldsNothing m → is_cut self.now) }
         ensures reported { IsOfStd result }
@@ -113,7 +114,7 @@ pub trait Opens<F: NamedFile> {
         ensures failed { IfErr result HasFailed };
 
     /// What the system reports of it, whether it can be opened or not.
-    fn look(&self, name: &str) -> io::Result<Metadata>
+    fn look(&self, name: &str) -> io::Result<Attributes>
         ensures asked { IsAnswerFor name.now result }
         ensures reported { IsOfStd result }
         ensures failed { IfErr result HasFailed };
@@ -160,7 +161,7 @@ impl NamedFile for SystemFile {
 
     ghost is_cut = { IsCutFile };
 
-    fn attributes(&self) -> io::Result<Metadata> {
+    fn attributes(&self) -> io::Result<Attributes> {
         match self {
             SystemFile::Open(file) => file.metadata(),
             SystemFile::Named => reported(Err(not_open())),
@@ -212,7 +213,7 @@ impl<R: Files<File = File>> Opens<SystemFile> for R {
         Ok(SystemFile::Open(Handle::open(self, OpenOptions::new().read(true), name)?))
     }
 
-    fn look(&self, name: &str) -> io::Result<Metadata> {
+    fn look(&self, name: &str) -> io::Result<Attributes> {
         ask(self, name)
     }
 

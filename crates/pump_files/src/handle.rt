@@ -6,8 +6,9 @@ ghost use Rattle.piper_protocol.specs.Reported.{HasFailed, IsOfStd};
 ghost use Rattle.pump_files.specs.Handle.{HasLength, HoldsNothing, IsAnswerFor, IsAnswerOf, IsOpenedBy};
 
 use crate::all_open::AllOpen;
+use crate::attributes::{Attributes, attributes_of};
 use piper_protocol::reported::reported;
-use std::fs::{File, Files, Metadata, OpenOptions};
+use std::fs::{File, Files, OpenOptions};
 use std::io::{Read, Write};
 use std::{fs, io};
 
@@ -30,13 +31,13 @@ impl Handle {
     }
 
     /// What the system reports of it.
-    pub(crate) fn metadata(&self) -> io::Result<Metadata>
+    pub(crate) fn metadata(&self) -> io::Result<Attributes>
         ensures asked { IsAnswerOf self.now result }
         ensures empty { IfOk result (λ m. HoldsNothing m → HasLength 0 self.now) }
         ensures reported { IsOfStd result }
         ensures failed { IfErr result HasFailed }
     {
-        reported(self.file.metadata())
+        reported(self.file.metadata().map(|found| attributes_of(&found)))
     }
 
     /// Cuts off what it holds, once all files are open.
@@ -86,10 +87,10 @@ impl Handle {
 }
 
 /// What the system reports of the file of this name.
-pub fn ask(files: &impl Files, name: &str) -> io::Result<Metadata>
+pub fn ask(files: &impl Files, name: &str) -> io::Result<Attributes>
     ensures asked { IsAnswerFor name.now result }
     ensures reported { IsOfStd result }
     ensures failed { IfErr result HasFailed }
 {
-    reported(fs::metadata(files, name))
+    reported(fs::metadata(files, name).map(|found| attributes_of(&found)))
 }

@@ -3,12 +3,15 @@
 #![tactic(auto)]
 
 pub mod all_open;
+pub mod attributes;
 pub mod copies;
 pub mod files;
 pub mod found;
 pub mod handle;
 pub mod made;
+pub mod names;
 pub mod pace;
 pub mod saying;
 pub mod sinks;
+pub mod streams;
 mod sums;

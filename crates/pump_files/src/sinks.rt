@@ -1,6 +1,6 @@
 //! Files that are written. One is looked at by its name first, and opened and cut off once the input
 //! has given its first bytes.
-ghost use Rattle.std.specs.Prelude.{◌≡◌, ◌<◌, ◌++◌, ℕ, List, [], length, false, true, Ok, OnOk, IfOk, IfErr, string_bytes};
+ghost use Rattle.std.specs.Prelude.{◌≡◌, ◌<◌, ◌++◌, ◌⊎◌, ℕ, List, [], length, false, true, None, Some, IfSome, Ok, OnOk, IfOk, IfErr, string_bytes};
 ghost use Rattle.std.specs.Io.{WritesAtMost};
 ghost use Rattle.std.specs.Io.KnownBytes.{append_known};
 ghost use Rattle.piper_protocol.specs.Reported.{HasFailed, IsOfStd};
@@ -13,19 +13,23 @@ ghost use Rattle.pump_files.specs.Lines.{IsLossSaid};
 ghost use Rattle.pump_files.specs.Steps.{GetsBy, IsAsLookedAt, NeedsFor, OpensBy};
 
 use crate::all_open::AllOpen;
+use crate::attributes::{Attributes, Kind};
 use crate::files::{NamedFile, Opens};
 use crate::found::Found;
 use crate::made::{self, Made};
-use crate::saying::say;
+use crate::names::Shown;
+use crate::saying::{say, say_at_once};
 use piper_protocol::reported::reported;
 use std::alloc::Global;
 use std::fmt::{Display, Formatter};
-use std::fs::Metadata;
 use std::io::ErrorKind;
 use std::{fmt, io};
 
 /// What is said of a file that holds bytes, where those are not to be overwritten.
 pub const HOLDS_BYTES: &str = "it holds bytes, which --force overwrites";
+
+/// What is said of a folder. One is put in the place of a standard stream that is closed, too.
+pub const FOLDER: &str = "it is a folder, or a standard stream that is closed";
 
 /// What is done for each file that is written, for one after another.
 #[derive(Clone, Copy)]
@@ -50,7 +54,8 @@ impl Display for Loss<'_> {
         write!(
             f,
             "piper_pump: {}: {}; it gets no more",
-            self.name, self.error
+            Shown(self.name),
+            self.error
         )
     }
 }
@@ -59,7 +64,7 @@ impl Display for Loss<'_> {
 #[derive(Drop)]
 pub struct Sink<F: NamedFile> {
     pub name: String,
-    /// Which file it is, and how many bytes it held, where it was looked at.
+    /// Which file it is, and whether it held bytes, where it was looked at.
     pub found: Found,
     /// Whether there was one of this name.
     pub is_there: bool,
@@ -67,6 +72,8 @@ pub struct Sink<F: NamedFile> {
     pub made: Option<Made>,
     /// Whether a write or a flush failed by which it was given a copy.
     pub has_failed: bool,
+    /// How it failed, as long as that is still to be said.
+    pub unsaid: Option<io::Error>,
     pub file: F,
 }
 
@@ -92,6 +99,7 @@ impl<F: NamedFile> Sink<F> {
             is_there,
             made: None,
             has_failed: false,
+            unsaid: None,
             file: rt.to_write(name),
         })
     }
@@ -129,11 +137,11 @@ impl<F: NamedFile> Sink<F> {
             return Ok(());
         }
         rt.open_to_write(self.name.as_str(), &mut self.file)?;
-        let found = Found::of_output(&self.file)?;
+        let found = Found::of_open(&self.file)?;
         if found.id != self.found.id {
             return Err(io::Error::other("it has become another file"));
         }
-        if 0 < found.held && !overwrites {
+        if found.holds && !overwrites {
             return Err(io::Error::other(HOLDS_BYTES));
         }
         Ok(())
@@ -149,7 +157,10 @@ impl<F: NamedFile> Sink<F> {
         if self.is_there {
             return Ok(());
         }
-        rt.make(self.name.as_str(), &mut self.file)?;
+        match rt.make(self.name.as_str(), &mut self.file) {
+            Ok(()) => {}
+            Err(error) => return Err(why_unmade(rt, self.name.as_str(), error)),
+        }
         self.made = Some(made::of_file(&self.file));
         Ok(())
     }
@@ -161,7 +172,7 @@ impl<F: NamedFile> Sink<F> {
         };
         let name = self.name.as_str();
         let named = Found::of_name(&rt.look(name));
-        if let Ok(own) = Found::of_output(&self.file)
+        if let Ok(own) = Found::of_open(&self.file)
             && own.id == named.id
         {
             let still = made::still_named(made, &self.file, &own, name, &named);
@@ -171,7 +182,7 @@ impl<F: NamedFile> Sink<F> {
     }
 
     /// Writes all these bytes. Where that fails, it reports so, once, by the file's name, and the
-    /// file gets no more.
+    /// file gets no more. If nobody reads reports now, this one waits for the end.
     pub(crate) fn give(&mut self, rt: &impl Eprint, bytes: &[u8])
         ensures copy { (passed : List ℕ) → IsCopy F.name F.written F.fails passed self.old
             → IsCopy F.name F.written F.fails (passed ++ bytes.now) self.new }
@@ -186,12 +197,22 @@ impl<F: NamedFile> Sink<F> {
         }
     }
 
-    /// Flushes the file, likewise.
+    /// Flushes the file, likewise. What is still to be said is said now, since all bytes have passed.
     pub(crate) fn finish(&mut self, rt: &impl Eprint)
         ensures copy { (passed : List ℕ) → IsCopy F.name F.written F.fails passed self.old
             → IsCopy F.name F.written F.fails passed self.new }
         ensures name { self.new.name ≡ self.old.name }
         ensures flushed { IsFlushedOrFailed F.flushed self.new }
+    {
+        self.settle(rt);
+        self.say_loss(rt);
+    }
+
+    fn settle(&mut self, rt: &impl Eprint)
+        ensures copy { (passed : List ℕ) → IsCopy F.name F.written F.fails passed self.old
+            → IsCopy F.name F.written F.fails passed self.new }
+        ensures name { self.new.name ≡ self.old.name }
+        ensures flushed { self.new.has_failed ≡ false → F.flushed self.new.file }
     {
         if self.has_failed {
             return;
@@ -203,12 +224,26 @@ impl<F: NamedFile> Sink<F> {
     }
 
     fn give_up(&mut self, rt: &impl Eprint, error: io::Error)
-        ensures same { self.new ≡ record self.old { has_failed = true } }
-        ensures said { IsLossSaid (string_bytes self.old.name) error }
+        ensures same { self.new ≡ record self.old { has_failed = true; unsaid = self.new.unsaid } }
+        ensures said { IsLossSaid (string_bytes self.old.name) error ⊎ (self.new.unsaid ≡ Some error) }
     {
         self.has_failed = true;
         let name = self.name.as_str();
-        say(rt, Loss { name, error });
+        if !say_at_once(rt, Loss { name, error }) {
+            self.unsaid = Some(error);
+        }
+    }
+
+    // Says what is still to be said.
+    fn say_loss(&mut self, rt: &impl Eprint)
+        ensures same { self.new ≡ record self.old { unsaid = None } }
+        ensures said { IfSome self.old.unsaid (IsLossSaid (string_bytes self.old.name)) }
+    {
+        if let Some(error) = self.unsaid {
+            let name = self.name.as_str();
+            let _ = say(rt, Loss { name, error });
+        }
+        self.unsaid = None;
     }
 
     // Cuts off what it holds.
@@ -220,7 +255,7 @@ impl<F: NamedFile> Sink<F> {
         ensures cut { OnOk result (F.is_cut self.new.file) }
     {
         let attributes = self.file.attributes()?;
-        if attributes.is_file() && 0 < attributes.len() {
+        if attributes.kind == Kind::Regular && 0 < attributes.len {
             self.file.cut(all_open)?;
         }
         Ok(())
@@ -258,17 +293,32 @@ impl<F: NamedFile> Sink<F> {
 }
 
 // Whether there is a file, by what the system reported of its name.
-fn can_be_written(looked: &io::Result<Metadata>) -> io::Result<bool>
+fn can_be_written(looked: &io::Result<Attributes>) -> io::Result<bool>
     requires asked { IsOfStd looked.now }
     ensures failed { IfErr result HasFailed }
 {
     match looked {
-        Ok(attributes) if attributes.is_dir() => {
-            reported(Err(io::Error::from(ErrorKind::IsADirectory)))
+        Ok(attributes) if attributes.kind == Kind::Folder => {
+            reported(Err(io::Error::other(FOLDER)))
         }
         Ok(_) => Ok(true),
         Err(error) if error.kind() == ErrorKind::NotFound => Ok(false),
         Err(error) => reported(Err(*error)),
+    }
+}
+
+// Why a file can't be made that was not there.
+fn why_unmade<R, F>(rt: &R, name: &str, error: io::Error) -> io::Error
+where
+    R: Opens<F>,
+    F: NamedFile,
+{
+    if error.kind() != ErrorKind::AlreadyExists {
+        return error;
+    }
+    match rt.look(name) {
+        Ok(_) => io::Error::other("it is another output, too, or was made by another program"),
+        Err(_) => io::Error::other("it is a link to a file that is not there"),
     }
 }
 

@@ -1,6 +1,6 @@
 -- A side that was left pending, from point to point of the other side's wake, and what no run may
 -- come to.
-use Rattle.std.specs.Prelude.{◌≡◌, ℕ, List, [], ◌∷◌, take, true, false, None, Some, Ok, refl}
+use Rattle.std.specs.Prelude.{◌≡◌, ◌⊎◌, ℕ, List, [], ◌∷◌, take, true, false, None, Some, Ok, refl}
 use Rattle.std.proofs.Common.{inl, inr}
 use Rattle.piper_protocol.specs.declared.table.Side.TheVariants.{Reader, Writer}
 use Rattle.piper_protocol.specs.declared.table.Query.TheVariants.{Len}
@@ -15,7 +15,8 @@ use Rattle.piper_protocol.specs.declared.answer.Polled.TheVariants as polled
 use Rattle.piper_protocol.specs.declared.table.WritePoint.TheVariants as on
 use Rattle.model.specs.Pipe.{Pipe, fresh}
 use Rattle.model.specs.Wait.{Wait, wait_of}
-use Rattle.model.specs.Remembered.{IsRemembered}
+use Rattle.model.specs.Awake.{IsAwake}
+use Rattle.model.specs.Remembered.{IsRemembered, WasCalled}
 use Rattle.model.proofs.worked.Script.{by}
 use Rattle.model.proofs.worked.StepScript.{gone}
 
@@ -122,3 +123,17 @@ called_too_early = Began Reader kind.Poll (Some 1) ∷ Registered Reader 1 ∷ p
 
 called_too_early_forgets : IsRemembered Reader byte_overlooked (wait_of Reader called_too_early) → ⊥
 called_too_early_forgets = byte_overlooked_forgets
+
+-- two sides that were left pending, neither of which was called
+abbrev both_sleep : List Event
+both_sleep =
+    Began Reader kind.Poll (Some 1) ∷ Registered Reader 1 ∷ pending
+    ∷ Began Writer kind.Poll (Some 2) ∷ Registered Writer 2
+    ∷ Answered Writer (answer.Poll polled.Pending) ∷ []
+
+sleeps_uncalled : WasCalled (wait_of Reader both_sleep) ⊎ WasCalled (wait_of Writer both_sleep) → ⊥
+sleeps_uncalled (inl called) = absurd (cc)
+sleeps_uncalled (inr called) = absurd (cc)
+
+both_sleep_forgets : IsAwake (fresh 4) both_sleep → ⊥
+both_sleep_forgets law = sleeps_uncalled (law refl refl refl refl)

@@ -2,8 +2,8 @@
 ghost use Rattle.std.specs.Prelude.{◌≡◌, ◌≤◌, ◌++◌, take, drop, Ok};
 ghost use Rattle.std.specs.Borrow.{sem};
 ghost use Rattle.std.specs.Io.BufRead.{Rests};
-ghost use Rattle.futures.specs.Poll.{OnPending};
 ghost use Rattle.futures.specs.Task.{Keeps};
+ghost use Rattle.piper.specs.Called.{CallsTaken};
 ghost use Rattle.piper.specs.Contexts.{WantsWaker};
 ghost use Rattle.piper.specs.Ends.{IsEnded};
 ghost use Rattle.piper.specs.Waits.{ReaderIsWaiting, WriterIsWaiting, WriterLeavesNone};
@@ -17,7 +17,7 @@ use piper_ring::OutOfMemory;
 impl AsyncRead for Reader {
     ghost use Rattle.piper.specs.Handles.{NotifiesWriter, read_source};
     ghost use Rattle.piper.specs.Polls.{IfReadyErr};
-    ghost use Rattle.piper.specs.ReaderCalls.{DrainPends, DrainsEnd, DrainsSlice, DrawsToYield, ReadsAsDrain, SameReaderButMoved, WakesWriter};
+    ghost use Rattle.piper.specs.ReaderCalls.{ReadsAsDrain};
 
     ghost taken = { λ r. r.side.end.taken };
 
@@ -39,14 +39,9 @@ impl AsyncRead for Reader {
 
     /// As `poll_drain_bytes`, whose error is `Memory` here.
     fn poll_read(&mut self, cx: &mut Context<'_>, dest: &mut [u8]) -> Poll<Result<usize, PipeError>>
-        ensures drained { DrainsSlice result self.old self.new dest.old dest.new }
-        ensures end { DrainsEnd result self.old self.new }
-        ensures draws { DrawsToYield result self.old self.new }
-        ensures pending { OnPending result (DrainPends self.old self.new cx.new) }
+        ensures says { ReadsAsDrain self.old self.new result dest.old dest.new cx.new }
         ensures error { IfReadyErr result (WantsWaker cx.new) }
-        ensures woken { WakesWriter self.old self.new }
         ensures context { Keeps cx.old cx.new }
-        ensures rest { SameReaderButMoved self.old self.new }
     {
         match self.poll_drain_bytes(cx, dest) {
             Poll::Pending => Poll::Pending,
@@ -59,7 +54,7 @@ impl AsyncRead for Reader {
 impl AsyncBufRead for Reader {
     ghost use Rattle.piper_ring.specs.ReadView.{in_one_piece};
     ghost use Rattle.piper.specs.Handles.{NotifiesWriter, read_source};
-    ghost use Rattle.piper.specs.OfReader.{front, known, taken};
+    ghost use Rattle.piper.specs.OfReader.{front, known, slots, taken};
     ghost use Rattle.piper.specs.ReaderCalls.{AtEnd, LendsPiece, PollsPiece, SameReaderButConsumed};
     ghost use Rattle.piper.specs.contracts.handles.Reader.{the_row};
 
@@ -108,6 +103,7 @@ impl AsyncBufRead for Reader {
         ensures known { known self.new ≡ drop amt (known self.old) }
         ensures end { AtEnd self.old → AtEnd self.new }
         ensures woken { NotifiesWriter self.new }
+        ensures called { CallsTaken (slots self.old) (slots self.new) }
         ensures rest { SameReaderButConsumed self.old self.new }
     {
         Reader::consume(self, amt);
@@ -115,10 +111,10 @@ impl AsyncBufRead for Reader {
 }
 
 impl AsyncWrite for Writer {
+    ghost use Rattle.piper.specs.OfWriter.{slots};
     ghost use Rattle.piper.specs.Handles.{NotifiesReader, write_source};
     ghost use Rattle.piper.specs.Polls.{IfReadyErr};
-    ghost use Rattle.piper.specs.CopyAnswers.{inner_of};
-    ghost use Rattle.piper.specs.WriterCalls.{DrawsToYield, FillPends, FillsEnd, FillsSlice, SameWriterButMoved, SameWriterButShut, WakesReader, WritesAsFill};
+    ghost use Rattle.piper.specs.WriterCalls.{SameWriterButShut, WritesAsFill};
 
     ghost sent = { λ w. w.side.end.sent };
 
@@ -136,14 +132,9 @@ impl AsyncWrite for Writer {
 
     /// As `poll_fill_bytes`, whose error is `Memory` here.
     fn poll_write(&mut self, cx: &mut Context<'_>, source: &[u8]) -> Poll<Result<usize, PipeError>>
-        ensures filled { FillsSlice result self.old self.new source.now }
-        ensures end { FillsEnd result self.old self.new }
-        ensures draws { DrawsToYield (inner_of result) self.old self.new }
-        ensures pending { OnPending result (FillPends self.old self.new cx.new) }
+        ensures says { WritesAsFill self.old self.new result source.now cx.new }
         ensures error { IfReadyErr result (WantsWaker cx.new) }
-        ensures woken { WakesReader self.old self.new }
         ensures context { Keeps cx.old cx.new }
-        ensures rest { SameWriterButMoved self.old self.new }
     {
         match self.poll_fill_bytes(cx, source) {
             Poll::Pending => Poll::Pending,
@@ -167,6 +158,7 @@ impl AsyncWrite for Writer {
     fn poll_close(&mut self, cx: &mut Context<'_>) -> Poll<Result<(), PipeError>>
         ensures answer { result ≡ Poll.Ready (Ok (record {})) }
         ensures woken { NotifiesReader self.new }
+        ensures called { CallsTaken (slots self.old) (slots self.new) }
         ensures leaves { WriterLeavesNone self.new }
         ensures context { Keeps cx.old cx.new }
         ensures rest { SameWriterButShut self.old self.new }

@@ -12,7 +12,7 @@ use piper_ring::{
 impl Reader {
     ghost use Rattle.piper.specs.OfReader.{end_of, ring, capacity, taken, known, told, told_shut};
     ghost use Rattle.piper.specs.OfWriter as of_writer;
-    ghost use Rattle.piper.specs.ReaderCalls.{KeepsAll, KnowsAll, MeetClosed, MeetMore, MeetReader, MeetSame, MeetWriter, SameReaderButTold, WasWoken};
+    ghost use Rattle.piper.specs.ReaderCalls.{KeepsAll, KnowsAll, MeetClosed, MeetMore, MeetSame, MeetWoken, SameReaderButTold, WasWoken};
 
     /// Its end of the ring.
     pub fn end(&self) -> &ReadEnd
@@ -49,7 +49,8 @@ impl Reader {
     ///
     /// No side that waits is forgotten. Take a side that is pending in its slot, while the other
     /// has checked that slot since its last store: then the other took its waker, to call it; or
-    /// the side has nothing to do, and the pipe is open.
+    /// the side has nothing to do, and the pipe is open. If both sides are pending so, one of them
+    /// took the other's waker: a pipe is not empty and full.
     ///
     /// Requires: both handles are of one pipe.
     pub fn meet(&mut self, other: &mut Writer)
@@ -58,8 +59,7 @@ impl Reader {
         ensures room { of_writer.room other.new + length (known self.new) ≡ capacity self.new }
         ensures more { MeetMore self.old self.new other.old other.new }
         ensures closed { MeetClosed self.new other.new }
-        ensures reader_woken { MeetReader self.old self.new other.old }
-        ensures writer_woken { MeetWriter other.old other.new self.old }
+        ensures woken { MeetWoken self.old self.new other.old other.new }
         ensures rest { MeetSame self.old self.new other.old other.new }
     {
         self.side.meet(&mut other.side);

@@ -1,14 +1,14 @@
 //! What both handles do at the slots: in their own a task waits, in the other's they wake one.
-ghost use Rattle.std.specs.Prelude.{◌≡◌, ◌⊎◌, IsTrue, IsFalse, IfNone, None, true, false};
-ghost use Rattle.futures.specs.Task.{Covers, Keeps};
-ghost use Rattle.piper_ring.specs.Loads.{IsAway};
+ghost use Rattle.std.specs.Prelude.{◌≡◌, ◌⊎◌, IsTrue, IsFalse, IfNone, IfSome, None, true, false};
+ghost use Rattle.futures.specs.Task.{Covers, Keeps, Wakes};
 ghost use Rattle.piper_ring.specs.Log.{Comes, WakesNext, made, next, now, other, own, then};
-ghost use Rattle.piper_ring.specs.SlotsView.{Registers, SameLooks, SamePlace};
-ghost use Rattle.piper.specs.Contexts.{AsksAgain, IsCalm, JustRegistered};
+ghost use Rattle.piper_ring.specs.SlotsView.{SameLooks, SamePlace};
+ghost use Rattle.piper.specs.Called.{CallsOwn, CallsTaken, IsGranted, LetsOwnGo, WasCalled, WasLetGo};
+ghost use Rattle.piper.specs.Contexts.{JustRegistered};
 
 use futures::task::{Context, Poll, Source, Waker};
 use piper_protocol::table::{Action, Found};
-use piper_ring::{Away, Side, SlotEnd};
+use piper_ring::{Away, LeftWakers, Side, SlotEnd};
 
 /// Registers in the side's slot, and reports whether a waker was granted. Where the other side has
 /// just taken whoever was registered there, the task asks for another poll in place of that.
@@ -21,11 +21,9 @@ pub(crate) fn register<E: SlotEnd>(
     requires turn { next side.old.log ≡ Action.Register }
     ensures log { side.new.log ≡ made (Found.Granted result) side.old.log }
     ensures covered { Covers cx.new (λ s. s ≡ source.now.id) }
-    ensures registered { IsTrue result →
-        (Registers side.old.slots side.new.slots × IsCalm side.old.slots.owns cx.new)
-        ⊎ (AsksAgain cx.new × (side.old.slots.owns ≡ false) × (side.new.slots.owns ≡ false)
-        × IsAway side.old.slots.names) }
-    ensures refused { IsFalse result → cx.new.lacks_waker ≡ true }
+    ensures registered { IsTrue result → IsGranted side.old.slots side.new.slots cx.new }
+    ensures refused { IsFalse result →
+        (cx.new.lacks_waker ≡ true) × (side.new.slots.maybe_registered ≡ false) }
     ensures kept { Keeps cx.old cx.new }
     ensures looks { SameLooks side.old.slots side.new.slots }
     ensures rest { (side.new.end ≡ side.old.end) × (side.new.cells ≡ side.old.cells) }
@@ -54,6 +52,7 @@ fn grant(held: Option<Waker>, source: &Source, cx: &mut Context<'_>) -> Option<W
     ensures covered { Covers cx.new (λ s. s ≡ source.now.id) }
     ensures calm { JustRegistered held cx.new }
     ensures refused { IfNone result (cx.new.lacks_waker ≡ true) }
+    ensures task { IfSome result (λ w. (cx.new.lacks_waker ≡ true) ⊎ Wakes w cx.new) }
     ensures kept { Keeps cx.old cx.new }
 {
     let mut waker = held;
@@ -74,7 +73,7 @@ pub(crate) fn take_own<E: SlotEnd>(side: &mut Side<E, Waker>)
     if side.maybe_registered() {
         let_own_go(side);
     }
-    side.own_taken(Found::Nothing);
+    side.own_emptied();
 }
 
 /// Drops a waker that is still registered in the side's slot. That wakes its task, too: it polls
@@ -83,12 +82,13 @@ pub(crate) fn take_own<E: SlotEnd>(side: &mut Side<E, Waker>)
 #[inline(never)]
 fn let_own_go<E: SlotEnd>(side: &mut Side<E, Waker>)
     ensures leaves { side.new.slots.maybe_registered ≡ false }
+    ensures dropped { LetsOwnGo side.old.slots }
     ensures looks { SameLooks side.old.slots side.new.slots }
     ensures rest { (side.new.end ≡ side.old.end) × (side.new.cells ≡ side.old.cells)
         × (side.new.log ≡ side.old.log) }
 {
     if side.is_registered() {
-        drop(side.cancel());
+        let_go(side.cancel());
     }
 }
 
@@ -98,17 +98,38 @@ pub(crate) fn wake_own<E: SlotEnd>(side: &mut Side<E, Waker>)
     requires on { WakesNext (now side.old.log) }
     ensures log { Comes (then (now side.old.log) (Found.Waker false)) side.old.log side.new.log }
     ensures leaves { side.new.slots.maybe_registered ≡ false }
+    ensures called { CallsOwn side.old.slots }
     ensures looks { SameLooks side.old.slots side.new.slots }
     ensures rest { (side.new.end ≡ side.old.end) × (side.new.cells ≡ side.old.cells) }
 {
-    match side.reclaim_waker() {
-        Ok(Some(waker)) => {
-            side.own_taken(Found::Waker(true));
-            waker.wake();
-            side.note(Action::Wake, Found::Nothing);
-        }
-        Ok(None) | Err(Away) => side.own_taken(Found::Waker(false)),
+    if let Some(waker) = side.take_own() {
+        call(waker);
+        side.note(Action::Wake, Found::Nothing);
     }
+}
+
+/// Calls a waker that came out of its place.
+pub(crate) fn call(waker: Waker)
+    ensures { WasCalled waker }
+{
+    waker.wake();
+}
+
+/// Drops a waker that came out of its place, if there is one.
+fn let_go(waker: Option<Waker>)
+    ensures { IfSome waker WasLetGo }
+{
+    drop(waker);
+}
+
+/// Drops what lay in the places of a ring that both ends have left.
+pub(crate) fn let_left_go(left: LeftWakers<Waker>)
+    ensures reader { IfSome left.reader WasLetGo }
+    ensures writer { IfSome left.writer WasLetGo }
+{
+    let LeftWakers { reader, writer } = left;
+    let_go(reader);
+    let_go(writer);
 }
 
 /// Checks after all that this side stored whether the other is registered in its slot, and if so
@@ -120,6 +141,7 @@ pub(crate) fn wake_other<E: SlotEnd>(side: &mut Side<E, Waker>)
     requires on { WakesNext (now side.old.log) }
     ensures log { Comes (then (now side.old.log) (Found.Waker false)) side.old.log side.new.log }
     ensures rests { side.new.slots.stored ≡ E.stored_of side.new.end }
+    ensures called { CallsTaken side.old.slots side.new.slots }
     ensures own { SamePlace side.old.slots side.new.slots }
     ensures rest { (side.new.end ≡ side.old.end) × (side.new.cells ≡ side.old.cells) }
 {
@@ -137,11 +159,12 @@ pub(crate) fn wake_waiting<E: SlotEnd>(side: &mut Side<E, Waker>)
     requires on { WakesNext (now side.old.log) }
     ensures log { Comes (then (now side.old.log) (Found.Waker false)) side.old.log side.new.log }
     ensures rests { side.new.slots.stored ≡ E.stored_of side.new.end }
+    ensures called { CallsTaken side.old.slots side.new.slots }
     ensures own { SamePlace side.old.slots side.new.slots }
     ensures rest { (side.new.end ≡ side.old.end) × (side.new.cells ≡ side.old.cells) }
 {
     if let Some(waker) = side.take() {
-        waker.wake();
+        call(waker);
         side.note(Action::Wake, Found::Nothing);
     }
 }

@@ -4,16 +4,15 @@ ghost use Rattle.std.specs.Prelude.{◌≡◌, ◌≤◌, ◌++◌, take, drop, 
 ghost use Rattle.std.specs.Borrow.{sem};
 ghost use Rattle.std.specs.Io.BufRead.{Rests};
 ghost use Rattle.futures.specs.Task.{Keeps};
-ghost use Rattle.futures.specs.Poll.{OnPending};
+ghost use Rattle.piper.specs.Called.{CallsTaken};
 ghost use Rattle.piper.specs.Contexts.{WantsWaker};
 ghost use Rattle.piper.specs.Handles.{NotifiesReader, NotifiesWriter, read_source, write_source};
-ghost use Rattle.piper.specs.OfReader.{front, known, taken, told_shut};
+ghost use Rattle.piper.specs.OfReader.{front, known, slots, taken, told_shut};
 ghost use Rattle.piper.specs.OfReader as of_reader;
 ghost use Rattle.piper.specs.OfWriter as of_writer;
 ghost use Rattle.piper.specs.Polls.{IfReadyErr};
-ghost use Rattle.piper.specs.ReaderCalls.{AtEnd, DrainPends, DrainsEnd, DrainsSlice, DrawsToYield as ReadDraws, LendsPiece, PollsPiece, ReadsAsDrain, SameReaderButConsumed, SameReaderButMoved, WakesWriter};
-ghost use Rattle.piper.specs.CopyAnswers.{inner_of};
-ghost use Rattle.piper.specs.WriterCalls.{DrawsToYield as WriteDraws, FillPends, FillsEnd, FillsSlice, SameWriterButMoved, SameWriterButShut, WakesReader, WritesAsFill};
+ghost use Rattle.piper.specs.ReaderCalls.{AtEnd, LendsPiece, PollsPiece, ReadsAsDrain, SameReaderButConsumed};
+ghost use Rattle.piper.specs.WriterCalls.{SameWriterButShut, WritesAsFill};
 ghost use Rattle.piper.specs.Waits.{ReaderIsWaiting, WriterIsWaiting, WriterLeavesNone};
 ghost use Rattle.piper_duplex.specs.Crosswise.{reading, writing};
 
@@ -39,21 +38,16 @@ impl AsyncRead for End {
 
     ghost woken = { λ e. NotifiesWriter (reading e) };
 
-    ghost says = { λ a b r old new cx. ReadsAsDrain (reading a) (reading b) r old new cx };
+    ghost says = { λ a b r old new cx.
+        ReadsAsDrain (reading a) (reading b) r old new cx × (writing b ≡ writing a) };
 
     /// As `poll_read` of the handle that reads.
     fn poll_read(&mut self, cx: &mut Context<'_>, dest: &mut [u8]) -> Poll<Result<usize, PipeError>>
-        ensures drained { DrainsSlice result (reading self.old) (reading self.new)
-            dest.old dest.new }
-        ensures end { DrainsEnd result (reading self.old) (reading self.new) }
-        ensures draws { ReadDraws result (reading self.old) (reading self.new) }
-        ensures pending { OnPending result
-            (DrainPends (reading self.old) (reading self.new) cx.new) }
+        ensures says { ReadsAsDrain (reading self.old) (reading self.new) result
+            dest.old dest.new cx.new }
         ensures error { IfReadyErr result (WantsWaker cx.new) }
-        ensures woken { WakesWriter (reading self.old) (reading self.new) }
+        ensures writer { writing self.new ≡ writing self.old }
         ensures kept { Keeps cx.old cx.new }
-        ensures rest { SameReaderButMoved (reading self.old) (reading self.new)
-            × (writing self.new ≡ writing self.old) }
     {
         match self.reader.poll_drain_bytes(cx, dest) {
             Poll::Pending => Poll::Pending,
@@ -109,7 +103,8 @@ impl AsyncBufRead for End {
         ensures taken { taken (reading self.new)
             ≡ taken (reading self.old) ++ take amt (known (reading self.old)) }
         ensures end { AtEnd (reading self.old) → AtEnd (reading self.new) }
-        ensures woken { NotifiesWriter (reading self.new) }
+        ensures woken { NotifiesWriter (reading self.new)
+            × CallsTaken (slots (reading self.old)) (slots (reading self.new)) }
         ensures reader { SameReaderButConsumed (reading self.old) (reading self.new) }
         ensures writer { writing self.new ≡ writing self.old }
     {
@@ -130,20 +125,16 @@ impl AsyncWrite for End {
 
     ghost woken = { λ e. NotifiesReader (writing e) };
 
-    ghost says = { λ a b r bytes cx. WritesAsFill (writing a) (writing b) r bytes cx };
+    ghost says = { λ a b r bytes cx.
+        WritesAsFill (writing a) (writing b) r bytes cx × (reading b ≡ reading a) };
 
     /// As `poll_write` of the handle that writes.
     fn poll_write(&mut self, cx: &mut Context<'_>, source: &[u8]) -> Poll<Result<usize, PipeError>>
-        ensures filled { FillsSlice result (writing self.old) (writing self.new) source.now }
-        ensures end { FillsEnd result (writing self.old) (writing self.new) }
-        ensures draws { WriteDraws (inner_of result) (writing self.old) (writing self.new) }
-        ensures pending { OnPending result
-            (FillPends (writing self.old) (writing self.new) cx.new) }
+        ensures says { WritesAsFill (writing self.old) (writing self.new) result
+            source.now cx.new }
         ensures error { IfReadyErr result (WantsWaker cx.new) }
-        ensures woken { WakesReader (writing self.old) (writing self.new) }
+        ensures reader { reading self.new ≡ reading self.old }
         ensures kept { Keeps cx.old cx.new }
-        ensures rest { SameWriterButMoved (writing self.old) (writing self.new)
-            × (reading self.new ≡ reading self.old) }
     {
         match self.writer.poll_fill_bytes(cx, source) {
             Poll::Pending => Poll::Pending,
@@ -170,7 +161,8 @@ impl AsyncWrite for End {
     /// Wakes: the other end's reader, if it waits, and a task that waits here for room.
     fn poll_close(&mut self, cx: &mut Context<'_>) -> Poll<Result<(), PipeError>>
         ensures answer { result ≡ Poll.Ready (Ok (record {})) }
-        ensures woken { NotifiesReader (writing self.new) }
+        ensures woken { NotifiesReader (writing self.new)
+            × CallsTaken (of_writer.slots (writing self.old)) (of_writer.slots (writing self.new)) }
         ensures leaves { WriterLeavesNone (writing self.new) }
         ensures kept { Keeps cx.old cx.new }
         ensures writer { SameWriterButShut (writing self.old) (writing self.new) }

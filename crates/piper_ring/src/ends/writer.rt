@@ -65,6 +65,13 @@ impl WriteEnd {
         self.parts.indices.room()
     }
 
+    /// How many bytes are left of the slice last lent.
+    pub fn lent(&self) -> usize
+        ensures { result ≡ length self.now.lent }
+    {
+        self.parts.indices.lent()
+    }
+
     /// Whether this end knows of no room.
     pub fn knows_none(&self) -> bool
         ensures { IsTrue result ↔ (self.now.room ≡ 0) }

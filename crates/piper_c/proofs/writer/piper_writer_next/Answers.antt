@@ -1,4 +1,4 @@
--- The publish, the look at the pipe's end and the loan, one after another.
+-- The end of the loan, the look at the pipe's end and the loan, one after another.
 use Rattle.piper_c.proofs.Loans.{goes_on}
 use Rattle.piper_c.proofs.writer.piper_writer_next.Goals as goal
 

@@ -1,4 +1,4 @@
-use Rattle.std.proofs.Common.{◌≡◌, sym, subst}
+use Rattle.std.proofs.Common.{◌≡◌, false, sym, subst}
 use Rattle.std.specs.List.{All}
 use Rattle.pump_words.specs.Arguments.{text_in}
 use Rattle.piper_pump.specs.Opening.{AreFoundApart}
@@ -21,6 +21,7 @@ returns-clause-apart g c =
     let said = c.in_ok-opened.ensures in
     subst (λ tees. AreFoundApart file.answers (text_in c.args.arguments.now.texts.input) (text_in c.args.arguments.now.texts.output) opened.places c.take_input.new.input tees.items) (sym c.ask.ensures.tees) (record {
       read = input_found file.name file.answers (text_in c.args.arguments.now.texts.input) opened.input opened.places.input _ said.input said.input_found c.take_input.ensures.some;
+      reported = said.reports_found;
       written = said.output_found;
       copied = said.tees_found;
       apart = c.in_ok-refuse_shared.ensures.apart;
@@ -30,5 +31,5 @@ pub returns-clause-spared : goal.returns-clause-spared
 returns-clause-spared g c = λ unasked. record {
   named = none_held g.F.NamedFile.name (text_in c.args.arguments.now.texts.output) c.in_ok-opened.opened.output c.in_ok-opened.opened.places.output c.in_ok-opened.ensures.output
       c.in_ok-opened.ensures.found (c.in_ok-refuse_overwritten.ensures.output unasked);
-  others = subst (λ tees. All (λ sink. sink.found.held ≡ 0) tees.items) (sym c.ask.ensures.tees) (c.in_ok-refuse_overwritten.ensures.tees unasked);
+  others = subst (λ tees. All (λ sink. sink.found.holds ≡ false) tees.items) (sym c.ask.ensures.tees) (c.in_ok-refuse_overwritten.ensures.tees unasked);
 }

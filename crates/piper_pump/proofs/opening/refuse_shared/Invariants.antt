@@ -6,6 +6,6 @@ use Rattle.piper_pump.proofs.opening.refuse_shared.Given as goal
 abbrev pub invariant-loop-tee : goal.invariant-loop-tee
 invariant-loop-tee g l =
     record {
-      known : l.known.items ≡ ids_of (l.opened.places.input ∷ l.opened.places.output ∷ founds_of (take l.tee-index l.opened.tees.items));
+      known : l.known.items ≡ ids_of (l.opened.places.input ∷ l.opened.places.reports ∷ l.opened.places.output ∷ founds_of (take l.tee-index l.opened.tees.items));
       distinct : AreDistinct l.known.items;
     }

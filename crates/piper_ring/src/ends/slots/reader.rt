@@ -199,12 +199,15 @@ impl<T> Side<ReadEnd, T> {
         ensures writer { IsWriterPending writer.old.end writer.old.slots →
             HasRoomNews writer.old.end self.old.slots →
             self.old.slots.taken ≡ writer.old.slots.tickets }
-        ensures capacity { writer.old.end.capacity ≡ self.old.end.capacity }
+        ensures capacity { (writer.old.end.capacity ≡ self.old.end.capacity)
+            × (0 < self.old.end.capacity) }
         ensures kept { (self.new.slots ≡ self.old.slots) × (self.new.cells ≡ self.old.cells)
             × (self.new.log ≡ self.old.log) }
         ensures other { (writer.new.slots ≡ writer.old.slots)
             × (writer.new.cells ≡ writer.old.cells) × (writer.new.log ≡ writer.old.log) }
     {
+        // A ring holds at least one byte.
+        let _ = self.end.capacity();
         self.meet_slot(&mut writer.slots);
         writer.meet_slot(&mut self.slots);
         self.end.meet(&mut writer.end);

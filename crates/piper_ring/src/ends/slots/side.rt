@@ -82,16 +82,34 @@ impl<E: SlotEnd, T> Side<E, T> {
         self.log.note(found);
     }
 
-    /// The side's own slot was emptied, as a step of the table.
+    /// The side's own slot is empty, as far as the side knows, after a look that found something:
+    /// that is a step of the table.
     #[inline(always)]
-    pub fn own_taken(&mut self, found: Found)
+    pub fn own_emptied(&mut self)
         requires turn { next self.old.log ≡ Action.Take (own E.READS) }
         requires none { self.old.slots.maybe_registered ≡ false }
-        ensures log { self.new.log ≡ made found self.old.log }
+        ensures log { self.new.log ≡ made Found.Nothing self.old.log }
         ensures rest { (self.new.end ≡ self.old.end) × (self.new.slots ≡ self.old.slots)
             × (self.new.cells ≡ self.old.cells) }
     {
-        self.log.note(found);
+        self.log.note(Found::Nothing);
+    }
+
+    /// `cancel`, as the step of the table that empties the own slot in a close.
+    pub fn take_own(&mut self) -> Option<T>
+        requires turn { next self.old.log ≡ Action.Take (own E.READS) }
+        ensures log { self.new.log ≡ made (Found.Waker (is_some result)) self.old.log }
+        ensures back { IsSome result → self.old.slots.owns ≡ false }
+        ensures slots { self.new.slots ≡ record self.old.slots
+            { owns = self.new.slots.owns; maybe_registered = false } }
+        ensures out { WasTakenBack self.old.slots.names
+            self.old.slots.owns self.old.slots.tickets result }
+        ensures found { result ≡ None → IsUnregistered self.old.slots.names self.old.slots.owns }
+        ensures rest { (self.new.end ≡ self.old.end) × (self.new.cells ≡ self.old.cells) }
+    {
+        let waker = self.cancel();
+        self.log.note(Found::Waker(waker.is_some()));
+        waker
     }
 
     /// Takes its waker back, where it is still registered in this side's slot.

@@ -4,7 +4,8 @@ use Rattle.piper_protocol.specs.Table.{goes_on}
 use Rattle.piper_protocol.specs.declared.table.Point.TheVariants.{Reader}
 use Rattle.piper_protocol.specs.declared.table.ReadPoint.TheVariants.{CallDestination}
 use Rattle.piper_ring.specs.Log.{Comes}
-use Rattle.piper.specs.Handles.{NotifiesWriter, SameReaderButWoke}
+use Rattle.piper.specs.Handles.{SameReaderButWoke}
+use Rattle.piper.specs.ReaderCalls.{WakesWriter}
 use Rattle.piper.proofs.RoundsOut.{Drained}
 use Rattle.piper.proofs.handles.Reader.drain_rounds.Given as goal
 
@@ -15,7 +16,7 @@ invariant-rounds g l = record {
   failures : g.W.WriteLike.failures l.dest ≡ g.W.WriteLike.failures l.initial.dest;
   all : l.self.side.end.all ≡ l.fn.self.side.end.all;
   rest : SameReaderButWoke l.fn.self l.self;
-  woke : NotifiesWriter l.fn.self → NotifiesWriter l.self;
+  woke : WakesWriter l.fn.self l.self;
 }
 
 abbrev pub decreases-rounds : goal.decreases-rounds

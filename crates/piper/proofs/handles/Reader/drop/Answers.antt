@@ -1,6 +1,41 @@
--- That a handle was dropped is what this function says.
-use Rattle.piper.specs.Waits.{as_dropped}
+-- Whoever came out of a place was called, or dropped.
+use Rattle.std.proofs.Common.{rules, ◌≡◌, ap, IfSome}
+use Rattle.piper.specs.Called.{WasCalled}
+use Rattle.piper.proofs.Calling.{calls_one}
 use Rattle.piper.proofs.handles.Reader.drop.Goals as goal
+use Rattle.piper.proofs.handles.Reader.drop.Goals.{in-Some, in_default}
+
+is_called : (c : goal.After-result-1) → IfSome c.finish-side.result.taken WasCalled
+is_called c =
+    elim c.match-taken.branch [
+      | in-Some w ↦ rw w.in-Some.is w.call.ensures
+      | in_default w ↦ rw w.in_default.is tt
+    ]
+
+same_slots : (c : goal.After-result-1) → c.match-taken.side.1.0 ≡ c.finish-side.result.side.slots
+same_slots c =
+    elim c.match-taken.branch [
+      | in-Some w ↦ ap (λ side. side.1.0) w.side-is
+      | in_default w ↦ ap (λ side. side.1.0) w.side-is
+    ]
+
+pub returns-clause-woken : goal.returns-clause-woken
+returns-clause-woken c =
+    let took = rw c.begin.ensures.rest.1 at c.finish-side.ensures.waker in
+    let none = rw c.begin.ensures.rest.1 at c.finish-side.ensures.ticket.0 in record {
+      count = search rules;
+      over = search rules;
+      called = rw (same_slots c) (calls_one _ _ _ _ took none (is_called c));
+    }
 
 pub returns-clause-left : goal.returns-clause-left
-returns-clause-left c = as_dropped _
+returns-clause-left c = record {
+  taken = c.finish-side.result.taken;
+  tickets = (c.args.self.side.slots.taken, c.finish-side.result.side.slots.taken);
+  took = rw (c.begin.ensures.rest.1, c.args.self.side.of_one_ring) at c.finish-side.ensures.waker;
+  called = is_called c;
+  left = c.finish-side.result.left;
+  gets = rw c.begin.ensures.rest.0 at c.finish-side.ensures.left;
+  reader = c.let_left_go.ensures.reader;
+  writer = c.let_left_go.ensures.writer;
+}

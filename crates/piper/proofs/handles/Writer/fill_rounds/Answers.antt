@@ -1,6 +1,7 @@
 -- The rounds end with what was published so far, or with a round that the close lost.
-use Rattle.std.proofs.Common.{◌≡◌, refl, sym, ◌∙◌, inr, arith}
-use Rattle.piper.proofs.RoundsIn.{fill_ended, fill_closed}
+use Rattle.std.proofs.Common.{rules, refl, sym, ◌∙◌, inr, arith}
+use Rattle.piper.proofs.Calling.{calls_then}
+use Rattle.piper.proofs.RoundsIn.{fill_ended, fill_closed, filled_more}
 use Rattle.piper.proofs.handles.Writer.fill_rounds.Goals as goal
 
 pub returns-then-asks-eq0-clause-filled : goal.returns-then-asks-eq0-clause-filled
@@ -18,3 +19,19 @@ returns-then-load_closed-clause-filled g c =
     let saw = c.load_closed.ensures in
     fill_closed _ g.met.R.ReadLike.gives_in_order _ _ _ _ _ _ _ before.filled round.end _ _ _ _
     c.in-Ok.ensures.bound c.in-Ok.ensures.most c.in-Ok.ensures.bytes (round.end.saw ∙ before.open_yet) saw.kept (sym saw.saw ∙ c.if-load_closed.true)
+
+pub rounds-preserved : goal.rounds-preserved
+rounds-preserved g c =
+    let before = c.rounds.invariant in record {
+      ran = search rules;
+      filled = search (rules, filled_more);
+      total = search rules;
+      open_yet = search rules;
+      failures = search rules;
+      rest = search rules;
+      woke = record {
+        called = calls_then c.args.self.now.side.slots c.rounds.self.side.slots c.wake_other.new.side.slots before.rest.waits.0 before.woke.called
+            (rw (c.store_tail.ensures.rest.0, c.load_closed.ensures.rest.0, c.fill_round.ensures.rest.registrations) at c.wake_other.ensures.called);
+        notifies = search rules;
+      };
+    }

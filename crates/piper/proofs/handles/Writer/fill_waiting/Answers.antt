@@ -1,5 +1,5 @@
 -- Nothing is moved where the look is not true, or where the fill yields.
-use Rattle.std.proofs.Common.{rules, Ok, Err, refl, inr}
+use Rattle.std.proofs.Common.{Ok, Err, refl, inr}
 use Rattle.futures.specs.declared.task.Poll.TheVariants.{Ready, Pending}
 use Rattle.piper.specs.declared.error.Inner.TheVariants.{Memory}
 use Rattle.piper.proofs.LookingIn.{fills_none}

@@ -1,7 +1,7 @@
-use Rattle.pump_files.proofs.Copied.{copied_same}
+use Rattle.pump_files.proofs.Copied.{copied_said}
 use Rattle.pump_files.proofs.sinks.Sink.finish.Goals as goal
 
-pub returns-in-Ok-clause-copy : goal.returns-in-Ok-clause-copy
-returns-in-Ok-clause-copy g c = λ passed copy.
-    copied_same g.F.NamedFile.name g.F.NamedFile.written g.F.NamedFile.fails c.args.self.now c.flush.new.self passed
-    c.flush.ensures.same c.if-self.false c.flush.ensures.bytes copy
+pub returns-clause-copy : goal.returns-clause-copy
+returns-clause-copy g c = λ passed copy.
+    copied_said g.F.NamedFile.name g.F.NamedFile.written g.F.NamedFile.fails c.settle.new.self c.say_loss.new.self passed
+    c.say_loss.ensures.same c.say_loss.ensures.said (c.settle.ensures.copy passed copy)

@@ -5,15 +5,15 @@ use Rattle.piper.proofs.copies.polling.ReaderAsyncRead.TheImpl.Goals as goal
 
 pub poll_read-tells : goal.poll_read-tells
 poll_read-tells c =
-    let own = c.ensures in
+    let own = c.ensures.says in
     let a = c.args.self.now in
     let b = c.new.self.now in record {
       read = reads c.result a b _ _ own.drained own.end;
       end = read_end c.result a b _ _ own.drained own.end;
       after = own.end.after;
-      says = record { drained = own.drained; end = own.end; draws = own.draws; pending = own.pending; rest = own.rest };
-      stays = (own.rest.end.end.told_shut, saw_stays _ _ own.rest.end.saw, own.woken);
+      says = own;
+      stays = (own.rest.end.end.told_shut, saw_stays _ _ own.rest.end.saw, own.woken.notifies);
       pending = read_pends c.result a b _ own.rest own.pending;
-      error = own.error;
-      kept = own.context;
+      error = c.ensures.error;
+      kept = c.ensures.context;
     }

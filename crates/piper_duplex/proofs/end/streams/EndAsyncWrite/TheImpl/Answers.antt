@@ -5,15 +5,15 @@ use Rattle.piper_duplex.proofs.end.streams.EndAsyncWrite.TheImpl.Goals as goal
 
 pub poll_write-tells : goal.poll_write-tells
 poll_write-tells c =
-    let own = c.ensures in
+    let own = c.ensures.says in
     let a = c.args.self.now.writer in
     let b = c.new.self.now.writer in record {
       written = writes c.result a b _ own.filled;
       full = write_full c.result a b _ own.filled;
-      says = record { filled = own.filled; end = own.end; draws = own.draws; pending = own.pending; rest = own.rest.0 };
-      error = own.error;
-      over = λ seen. (own.end.over seen, saw_stays _ _ own.rest.0.end.saw seen);
-      pending = write_pends c.result a b _ own.rest.0 own.pending;
-      woken = own.woken;
-      kept = own.kept;
+      says = (own, c.ensures.reader);
+      error = c.ensures.error;
+      over = λ seen. (own.end.over seen, saw_stays _ _ own.rest.end.saw seen);
+      pending = write_pends c.result a b _ own.rest own.pending;
+      woken = own.woken.notifies;
+      kept = c.ensures.kept;
     }

@@ -1,0 +1,74 @@
+-- A side that was granted a waker, and then found nothing to do, is pending.
+use Rattle.std.proofs.Common.{◌≡◌, ◌+◌, ◌≤◌, ◌++◌, Bool, true, false, length, refl, ap, ◌∙◌, append-nil, inl, inr, arith}
+use Rattle.futures.specs.Task.{Covers}
+use Rattle.futures.specs.declared.task.context.Context.{Context}
+use Rattle.piper_ring.specs.Looks.{IfNotReady, ReaderSees, WriterSees}
+use Rattle.piper_ring.specs.Shared.{flag}
+use Rattle.piper_ring.specs.SlotsView.{SlotsView}
+use Rattle.piper_ring.specs.declared.ends.slots.looks.Look.{Look}
+use Rattle.piper_ring.specs.declared.ends.slots.looks.Look.TheVariants as look
+use Rattle.piper.specs.Called.{IsGranted}
+use Rattle.piper.specs.Handles.{read_source, write_source}
+use Rattle.piper.specs.Waits.{ReaderPends, WriterPends}
+use Rattle.piper.specs.declared.handles.Reader.{Reader}
+use Rattle.piper.specs.declared.handles.Writer.{Writer}
+
+not_set : (a b : Bool) → flag a ≤ flag b → b ≡ false → a ≡ false
+not_set false b le none = refl
+not_set true b le none = absurd (omega (arith, le, ap flag none))
+
+pub reader_pends : (found : Look) (a b : Reader) (slots : SlotsView) (cx : Context)
+    → ReaderSees found b.side.end → b.side.slots ≡ slots → Covers cx (λ s. s ≡ read_source a)
+    → length slots.heard.bytes ≤ length (b.side.end.taken ++ b.side.end.known)
+    → flag slots.heard.closed ≤ flag b.side.end.saw
+    → IsGranted a.side.slots slots cx → IfNotReady found (ReaderPends a b cx)
+reader_pends look.Ready a b slots cx sees same covered heard closed granted = tt
+reader_pends look.Closed a b slots cx sees same covered heard closed granted = tt
+reader_pends look.NotReady a b slots cx sees same covered heard closed (inl waits) = record {
+  nothing = sees;
+  covered = covered;
+  registered = inl (record {
+    ticket = rw same waits.0.ticket;
+    pending = rw same (record {
+      registered = waits.0.place;
+      none = sees.known;
+      stays_open = sees.saw;
+      looked = omega (arith, heard, ap length (ap (λ xs. b.side.end.taken ++ xs) sees.known ∙ append-nil b.side.end.taken));
+      goes_on = not_set slots.heard.closed b.side.end.saw closed sees.saw;
+    });
+    calm = waits.1;
+    task = rw same waits.2;
+  });
+}
+reader_pends look.NotReady a b slots cx sees same covered heard closed (inr away) = record {
+  nothing = sees;
+  covered = covered;
+  registered = inr (away.0, (away.1, rw same away.2, away.3));
+}
+
+pub writer_pends : (found : Look) (a b : Writer) (slots : SlotsView) (cx : Context)
+    → WriterSees found b.side.end → b.side.slots ≡ slots → Covers cx (λ s. s ≡ write_source a)
+    → slots.heard.count + b.side.end.capacity ≤ length b.side.end.sent + b.side.end.room
+    → IfNotReady found (slots.heard.closed ≡ false)
+    → IsGranted a.side.slots slots cx → IfNotReady found (WriterPends a b cx)
+writer_pends look.Ready a b slots cx sees same covered heard closed granted = tt
+writer_pends look.Closed a b slots cx sees same covered heard closed granted = tt
+writer_pends look.NotReady a b slots cx sees same covered heard closed (inl waits) = record {
+  covered = covered;
+  registered = inl (record {
+    ticket = rw same waits.0.ticket;
+    pending = rw same (record {
+      registered = waits.0.place;
+      none = sees.0;
+      stays_open = sees.2;
+      looked = omega (arith, heard, sees.0);
+      goes_on = closed;
+    });
+    calm = waits.1;
+    task = rw same waits.2;
+  });
+}
+writer_pends look.NotReady a b slots cx sees same covered heard closed (inr away) = record {
+  covered = covered;
+  registered = inr (away.0, (away.1, rw same away.2, away.3));
+}

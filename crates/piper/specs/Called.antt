@@ -1,0 +1,80 @@
+-- What became of the wakers that a side took out of a slot.
+use Rattle.std.specs.Prelude.{⊤, ◌≡◌, ℕ, ◌⊎◌, true, false, List, [], ◌∷◌, Option, Some, None, IfSome}
+use Rattle.futures.specs.Task.{Wakes}
+use Rattle.futures.specs.declared.task.context.Context.{Context}
+use Rattle.futures.specs.declared.task.waker.Waker.{Waker}
+use Rattle.piper_ring.specs.Cells.{GetsLeft}
+use Rattle.piper_ring.specs.Loads.{IsAway, IsUnregistered, WasPut, WasTaken, WasTakenBack}
+use Rattle.piper_ring.specs.Shared.{Names}
+use Rattle.piper_ring.specs.SlotsView.{Registers, SlotsView}
+use Rattle.piper.specs.Contexts.{AsksAgain, IsCalm}
+use Rattle.piper_ring.specs.declared.ends.cells.LeftWakers.{LeftWakers}
+
+-- The toolchain states nothing of a waker that is called or dropped. So these two are sealed: no proof
+-- looks into them, and only those of `call` and `let_go` use the lemmas below.
+
+-- this waker was called
+pub WasCalled : Waker → Type 0
+WasCalled waker = ⊤
+
+pub as_called : (waker : Waker) → WasCalled waker
+unfolding WasCalled
+as_called waker = tt
+
+-- this waker was dropped, which wakes its task, too
+pub WasLetGo : Waker → Type 0
+WasLetGo waker = ⊤
+
+pub as_let_go : (waker : Option Waker) → IfSome waker WasLetGo
+unfolding WasLetGo
+as_let_go None = tt
+as_let_go (Some waker) = tt
+
+-- the other side's tickets that were taken after `old`, up to `new`: each came with one of these
+-- wakers, which was called
+abbrev pub AreCalled : Names → List Waker → ℕ → ℕ → Type 0
+AreCalled names [] old new = new ≡ old
+AreCalled names (waker ∷ wakers) old new =
+    (ticket : ℕ) × WasTaken names old ticket (Some waker) × WasCalled waker
+    × AreCalled names wakers ticket new
+
+-- each waker that the side has taken out of the other's slot since a was called
+abbrev pub CallsTaken : SlotsView → SlotsView → Type 0
+CallsTaken a b = (wakers : List Waker) × AreCalled a.names wakers a.taken b.taken
+
+-- the side's own waker came out of its slot, and was called; or none was registered there
+abbrev pub CallsOwn : SlotsView → Type 0
+CallsOwn a =
+    ((waker : Waker) × WasTakenBack a.names a.owns a.tickets (Some waker) × WasCalled waker)
+    ⊎ IsUnregistered a.names a.owns
+
+-- the side's own waker came out of its slot, and was dropped; or none was registered there
+abbrev pub LetsOwnGo : SlotsView → Type 0
+LetsOwnGo a =
+    ((waker : Waker) × WasTakenBack a.names a.owns a.tickets (Some waker) × WasLetGo waker)
+    ⊎ IsUnregistered a.names a.owns
+
+-- the waker that the side registered last is one of the polled task; or none could be made, and the
+-- task asked for another poll
+abbrev pub RegistersTask : SlotsView → Context → Type 0
+RegistersTask b cx =
+    (waker : Waker) × WasPut b.names b.tickets waker × ((cx.lacks_waker ≡ true) ⊎ Wakes waker cx)
+
+-- a side was granted what it asked for: it is registered with a waker of the polled task, which didn't
+-- ask for another poll itself; or the other side has the place of its waker, and the task asked
+abbrev pub IsGranted : SlotsView → SlotsView → Context → Type 0
+IsGranted a b cx =
+    (Registers a b × IsCalm a.owns cx × RegistersTask b cx)
+    ⊎ (AsksAgain cx × (a.owns ≡ false) × (b.owns ≡ false) × IsAway a.names)
+
+-- a side left the ring with these names: whoever was registered in the other's slot was called, and
+-- what lay in the places, if the other had left before, was dropped
+pub record HasDropped (names : Names) : Type 0 where
+  pub taken : Option Waker
+  pub tickets : ℕ × ℕ
+  pub took : WasTaken names tickets.0 tickets.1 taken
+  pub called : IfSome taken WasCalled
+  pub left : LeftWakers Waker
+  pub gets : GetsLeft names left
+  pub reader : IfSome left.reader WasLetGo
+  pub writer : IfSome left.writer WasLetGo
