@@ -93,14 +93,6 @@ def trait_named(trait):
     return None, None
 
 
-def same_calls(crate, trait, name, of):
-    """Whether an owner's impl of a trait has just the clauses of what it owns."""
-    def said(one):
-        return [[m.clauses() for m in inner(body)] for t, of_type, body in impls(crate)
-                if t == trait and bare(of_type) == one]
-    return said(of) == said(name)
-
-
 def impl_call(page, name, trait, method, is_foreign):
     """A call of a trait of a type: what its own comment says, or else the trait's first sentence."""
     doc = Doc(method.doc)
@@ -190,12 +182,12 @@ def owner(page, crate, name, path):
     """An owner: what is its own, and a link to what it owns."""
     of = OWNERS[name]
     a_type(page, crate, name, path)
-    page.lines += ["", f"It has the traits of [`{of}`](#{of.lower()}), with the same clauses. These "
-                   "calls are its own:"]
+    page.lines += ["", f"It has the traits of [`{of}`](#{of.lower()}), whose calls say the same of it. "
+                   "These calls are its own:"]
     for method in own_calls(crate, name):
         page.call(method, f"{name}::{method.name}")
-    trait_calls(page, crate, name,
-                lambda trait: trait == "DerefMut" or same_calls(crate, trait, name, of))
+    shared = {bare(trait) for trait, of_type, _body in impls(crate) if trait and bare(of_type) == of}
+    trait_calls(page, crate, name, lambda trait: trait == "DerefMut" or trait in shared)
 
 
 def told(page, name, title=None):
