@@ -1,2 +1,3 @@
 pub mod LastMark
 pub mod Rounds
+pub mod Sleepers

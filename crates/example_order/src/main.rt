@@ -4,6 +4,7 @@
 //! sleeping.rt two threads poll by hand, of which nothing of the kind is proved.
 #![tactic(auto)]
 
+mod pending;
 mod rounds;
 mod sleeping;
 mod threads;
@@ -11,6 +12,7 @@ mod words;
 
 ghost use Rattle.std.specs.Prelude.{◌≡◌, ◌<◌, ◌*◌, ◌^◌, ◌≤◌, take, length, IfOk};
 
+use crate::pending::leave_pending;
 use crate::rounds::carry_in_rounds;
 use crate::sleeping::send_and_count;
 use crate::threads::carry_across;
@@ -44,6 +46,10 @@ fn main(rt: HostRuntime) -> io::Result<ExitCode> {
     println!(&rt; "{}", place[..came].escape_ascii())?;
     let came = carry_across(&rt, b"hello, threads", &mut place)?;
     println!(&rt; "{}", place[..came].escape_ascii())?;
+    let (mut reader, mut writer) = owned_pipe(rt.alloc(), 4)?;
+    if leave_pending(&rt, &mut reader, &mut writer)? {
+        println!(&rt; "one of two pending sides was woken")?;
+    }
     let came = send_and_count(&rt)?;
     println!(&rt; "{came} bytes came")?;
     Ok(ExitCode::SUCCESS)

@@ -1,5 +1,5 @@
 -- The two handles of a pipe.
-use Rattle.std.specs.Prelude.{◌≡◌, ℕ, List, bit_xor}
+use Rattle.std.specs.Prelude.{◌≡◌, ℕ, true, List, bit_xor}
 use Rattle.std.specs.Borrow.{Fml, MutBor, Array, Lends}
 use denote.Builtin.{u8}
 use Rattle.piper_ring.specs.LendsBuffer.{with_lent}
@@ -37,6 +37,7 @@ pub record AreFresh (cap : ℕ) (r : Reader) (w : Writer) : Type 0 where
   pub reader : FreshReadEnd cap r.side.end
   pub writer : FreshWriteEnd cap w.side.end
   pub woken : NotifiesWriter r × NotifiesReader w
+  pub nobody : (r.side.slots.owns ≡ true) × (w.side.slots.owns ≡ true)
 
 -- the generators of the handles, before their first draw
 pub record DrawFrom (seed : ℕ) (r : Reader) (w : Writer) : Type 0 where

@@ -26,6 +26,7 @@ pub mod WriterCalls
 pub use Rattle.piper_ring.specs.ReadView
 pub use Rattle.piper_ring.specs.WriteView
 pub use Rattle.piper_ring.specs.LendsBuffer
+pub use Rattle.piper_ring.specs.Log
 pub use Rattle.piper_ring.specs.Opened
 pub use Rattle.piper_ring.specs.Shared
 pub use Rattle.piper_ring.specs.SlotsView

@@ -125,6 +125,12 @@ pub record Comes (there : Next Point) (a b : Log) : Type 0 where
 abbrev pub Ran : Point → Answer → Log → Log → Type 0
 Ran start answer a b = Opened start (ends (idle start) answer) a b
 
+-- since a these calls were made, one after the other, and nothing else: each is a run of the table from
+-- its first point to its answer
+abbrev pub AreRuns : List (Point × Answer) → Log → Log → Type 0
+AreRuns [] a b = b.lines ≡ a.lines
+AreRuns (call ∷ calls) a b = (there : Log) × Ran call.0 call.1 a there × AreRuns calls there b
+
 -- whether or not a waker is found in a slot the call goes on at one point, and before that it calls
 -- the one that it finds
 pub record WakesNext (now : Next Point) : Type 0 where
