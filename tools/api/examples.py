@@ -31,7 +31,7 @@ CALLED = {"Reader": "reader", "Writer": "writer", "OwnedReader": r"(?:reader|Own
           "OwnedWriter": r"(?:writer|OwnedWriter)(?:\.\w+\(\))?", "End": r"(?:near|far|end|second|duplex)",
           "OwnedEnd": r"(?:near|far|OwnedEnd)", "Lines": r"(?:lines|lists|Lines)", "Frames": r"(?:frames|Frames)",
           "WriteLine": r"(?:line|WriteLine)", "WriteFrame": r"(?:frame|WriteFrame)"}
-LEAST, MOST = 3, 14
+LEAST, NEAR, MOST = 3, 9, 14
 
 
 @cache
@@ -55,12 +55,18 @@ def statements(lines):
 
 
 def window(lines, word):
-    """The statement that has the word, with neighbours until there are some lines."""
+    """The statement that has the word, with what makes its variables, and with neighbours until there
+    are some lines."""
     parts = statements(lines)
     at = next((i for i, (a, b) in enumerate(parts) if word.search("\n".join(lines[a:b]))), None)
     if at is None:
         return None
+    used = set(re.findall(r"\w+", "\n".join(lines[parts[at][0]:parts[at][1]])))
     low = high = at
+    for before in range(at - 1, -1, -1):
+        made = re.match(r"    let (?:mut )?(\w+) ", lines[parts[before][0]])
+        if made and made[1] in used and parts[high][1] - parts[before][0] <= NEAR:
+            low = before
     while parts[high][1] - parts[low][0] < LEAST and (low > 0 or high + 1 < len(parts)):
         if low > 0 and (high + 1 == len(parts) or low == at):
             low -= 1

@@ -87,6 +87,19 @@ class Page:
             self.lines += block(lines, uses) if lines else []
             self.lines += ["", "</details>"]
 
+    def check_labels(self, item, title, doc):
+        """A call says what it requires if a clause asks for something, and what it is pending for if it
+        may be; one that is as another says neither."""
+        if self.crate == "piper_ring" or re.match(r"As |\[", " ".join(doc.paragraphs)):
+            return
+        asks = any(re.match("requires", line) for line in item.clauses())
+        if asks != ("Requires" in doc.labels):
+            raise Wrong(f"{title}: a clause and the label Requires stand together, or neither")
+        is_at_once = re.search("Ready at once|at once and always", " ".join(
+            [*doc.paragraphs, doc.labels.get("Returns", "")]))
+        if item.answer().startswith("Poll<") and not is_at_once and "Pending" not in doc.labels:
+            raise Wrong(f"{title}: it may be pending, and has no label Pending")
+
     def says(self, doc):
         """What a comment says, and then its labels in their order."""
         self.lines += spaced(doc.paragraphs)
@@ -105,6 +118,7 @@ class Page:
     def call(self, item, title, path=None, doc=None, depth=4):
         """A call: the path of a function, the signature, what it says, an example, the clauses."""
         doc = doc or Doc(item.doc)
+        self.check_labels(item, title, doc)
         self.heading(depth, title)
         self.code(([f"use {path};", ""] if path else []) + item.shown())
         self.says(doc)

@@ -58,10 +58,11 @@ impl Reader {
         self.end().is_full()
     }
 
-    /// Whether the pipe is closed now: the writer was dropped, or closed it.
+    /// Whether the pipe is closed now: the writer was dropped, or closed it. Bytes may still be
+    /// unread.
     ///
-    /// Returns: `true` for good, though bytes may still be unread; always `true` once this reader
-    /// saw the pipe closed or learned it from a mark.
+    /// Returns: always `true` if this reader saw the pipe closed or learned it from a mark. Once it
+    /// is `true` it stays so.
     pub fn is_closed(&self) -> bool
         ensures saw { saw self.now ≡ true → IsTrue result }
         ensures told { told_shut self.now ≡ true → IsTrue result }
@@ -219,7 +220,8 @@ impl Writer {
 
     /// Whether the pipe is closed now: the reader was dropped, or this writer closed it.
     ///
-    /// Returns: `true` for good; always `true` once this writer saw the pipe closed, or closed it.
+    /// Returns: always `true` if this writer saw the pipe closed, or closed it. Once it is `true`
+    /// it stays so.
     pub fn is_closed(&self) -> bool
         ensures saw { saw self.now ≡ true → IsTrue result }
         ensures found { FoundClosed (ring self.now).names result }

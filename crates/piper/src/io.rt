@@ -189,6 +189,9 @@ pub trait AsyncWrite {
         ensures kept { Keeps cx.old cx.new };
 
     /// Waits until what was written is on its way.
+    ///
+    /// Pending: some of it is not yet. No byte is published by this call.
+    /// Errors: those of the type.
     fn poll_flush(&mut self, cx: &mut Context<'_>) -> Poll<Result<(), PipeError>>
         ensures flushed { OnReadyOk result (flushed self.new) }
         ensures error { IfReadyErr result (fails self.new cx.new) }
@@ -200,6 +203,10 @@ pub trait AsyncWrite {
         ensures kept { Keeps cx.old cx.new };
 
     /// Closes the pipe for good, with what was written on its way.
+    ///
+    /// Pending: some of it is not yet, or the pipe is not closed yet. No byte is published by this
+    /// call.
+    /// Errors: those of the type.
     fn poll_close(&mut self, cx: &mut Context<'_>) -> Poll<Result<(), PipeError>>
         ensures closed { OnReadyOk result (saw self.new ≡ true) }
         ensures flushed { OnReadyOk result (flushed self.new) }

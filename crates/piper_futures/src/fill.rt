@@ -32,7 +32,7 @@ pub trait AsyncFill: AsyncWrite {
     /// Returns: `ToTheEnd` or `UntilClosed`; if both hold it may be either.
     /// Pending: the writer's call is pending; or bytes came, and the task is polled again. A pipe
     /// that was seen closed is not waited for.
-    /// Errors: `Memory`, if no waker can be made, or the error of `source` as it came.
+    /// Errors: the writer's own, which is `Memory` for a pipe; or the error of `source` as it came.
     /// Cancel safety: the next poll goes on from where this one ended.
     fn poll_fill_from<S: Read>(
         &mut self,
@@ -144,8 +144,8 @@ pub struct Filling<W, S> {
 ///
 /// Returns: a future of the writer, `source`, and why it ended.
 /// Pending: the writer's call is pending; or bytes came, and the task is polled again.
-/// Errors: `Memory`, if no waker can be made, or the error of `source`. `left` has the writer and
-/// `source`.
+/// Errors: the writer's own, which is `Memory` for a pipe; or the error of `source`. `left` has the
+/// writer and `source`.
 /// Cancel safety: as long as the writer has not seen its pipe closed, all that was read is
 /// published, so a dropped future loses none.
 pub fn fill_from<W: AsyncFill + Drop, S: Read + Drop>(writer: W, source: S) -> Filling<W, S>

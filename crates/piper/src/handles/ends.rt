@@ -48,9 +48,9 @@ impl Reader {
     /// is what the writer published. It allocates nothing.
     ///
     /// No side that waits is forgotten. Take a side that is pending in its slot, while the other
-    /// has checked that slot since its last store: then the other took its waker, to call it; or
+    /// has checked that slot since its last store: then the other took its waker, and called it; or
     /// the side has nothing to do, and the pipe is open. If both sides are pending so, one of them
-    /// took the other's waker: a pipe is not empty and full.
+    /// took and called the other's waker: a pipe is not empty and full.
     ///
     /// Requires: both handles are of one pipe.
     pub fn meet(&mut self, other: &mut Writer)
@@ -67,8 +67,8 @@ impl Reader {
 
     /// Heeds the last mark of the writer that was dropped; its bytes become known at the next look.
     ///
-    /// If the reader waits in its slot, the writer took its waker as it left. `left` stays as it
-    /// was: the proof alone needs a `&mut`.
+    /// If the reader waits in its slot, the writer took its waker as it left, and called it. `left`
+    /// stays as it was: the proof alone needs a `&mut`.
     ///
     /// Requires: the mark is of the same pipe.
     pub fn meet_finished(&mut self, left: &mut FinishedWriter)
@@ -126,8 +126,8 @@ impl Writer {
 
     /// Heeds the last mark of the reader that was dropped, as `heed_last` does.
     ///
-    /// If the writer waits in its slot, the reader took its waker as it left. `left` stays as it
-    /// was: the proof alone needs a `&mut`.
+    /// If the writer waits in its slot, the reader took its waker as it left, and called it. `left`
+    /// stays as it was: the proof alone needs a `&mut`.
     ///
     /// Requires: the mark is of the same pipe.
     pub fn meet_finished(&mut self, left: &mut FinishedReader)

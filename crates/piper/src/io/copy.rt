@@ -16,7 +16,7 @@ const MOST_PIECES: u32 = 64;
 pub enum Copied {
     /// All that the reader gave was taken.
     ToTheEnd,
-    /// The writer's pipe is closed.
+    /// The writer's pipe is closed. The reader may have more.
     UntilClosed,
 }
 

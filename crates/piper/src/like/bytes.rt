@@ -8,16 +8,19 @@ use super::slices::copy;
 use super::{ReadLike, WriteLike};
 use std::convert::Infallible;
 
-/// A slice as a source: `rest` is what it has left to give. It doesn't fail.
+/// A slice as a source. It doesn't fail.
 #[derive(Drop)]
 pub struct ReadBytes<'a> {
+    /// What is left to give.
     pub rest: &'a [u8],
 }
 
-/// A slice as a destination: up to `place` it is written. It doesn't fail.
+/// A slice as a destination. It doesn't fail.
 #[derive(Drop)]
 pub struct WriteBytes<'a> {
+    /// The slice.
     pub bytes: &'a mut [u8],
+    /// How many of its bytes are written.
     pub place: usize,
     ghost within: { place ≤ length bytes.now },
 }

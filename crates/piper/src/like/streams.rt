@@ -10,14 +10,18 @@ use std::io;
 /// A reader of std as a source.
 #[derive(Drop)]
 pub struct StdRead<'a, R: StdReader> {
+    /// The reader.
     pub object: &'a mut R,
+    /// How many reads have failed, modulo 2^64.
     pub failures: u64,
 }
 
 /// A writer of std as a destination.
 #[derive(Drop)]
 pub struct StdWrite<'a, W: StdWriter> {
+    /// The writer.
     pub object: &'a mut W,
+    /// How many writes have failed, modulo 2^64.
     pub failures: u64,
 }
 
