@@ -8,10 +8,10 @@
  * What a caller owes, in every call:
  * - A handle that a call takes is open: `piper_open` filled it, and it was not dropped since.
  *   `at` belongs to the pipe. A handle may be moved, and then its old place is not used again.
- * - A handle is used by one thread at a time. The two handles of a pipe may be used by two threads
- *   at the same time. A handle may go to another thread, by anything that has what the one thread
- *   did happen before what the other does: a lock, a start or join of a thread, a release and an
- *   acquire.
+ * - A handle is used by one thread at a time, also by a call that takes it as const: that call only
+ *   leaves the side as it was. The two handles of a pipe may be used by two threads at the same time. A
+ *   handle may go to another thread, by anything that has what the one thread did happen before what
+ *   the other does: a lock, a start or join of a thread, a release and an acquire.
  * - Each open handle is dropped once, by `piper_reader_drop` or `piper_writer_drop`.
  * - A pointer is not null, and the memory at it is the caller's for as long as the call runs. That
  *   of a pointer and a length (`to`, `from`) is at least that long. It may lie in a pipe, even in
