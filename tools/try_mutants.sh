@@ -47,7 +47,7 @@ done
 printf '%s\n' "${names[@]}" |
     (cd "$copy" && xargs -P "$(nproc)" -I NAME sh -c 'rt must-fail NAME > "$0/NAME" 2>&1 || true' "$room/said")
 cat "$room"/said/* | grep '^rt: must-fail ' > "$room/lines" || true
-tools/verdicts.py "$room/lines"
+tools/verdicts.py "$room/lines" "$copy"
 refused=$(grep ': refused, as it must be' "$room/lines" | grep -vc 'only because a proof file' || true)
 grep -v ': refused, as it must be' "$room/lines" || true
 grep 'only because a proof file' "$room/lines" || true

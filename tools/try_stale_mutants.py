@@ -112,7 +112,7 @@ def main(words):
             what = tried(left[crate, name], folder, max(end - time.monotonic(), 0))
             if what is None:
                 break
-            verdicts.keep({(crate, name): what})
+            verdicts.keep({(crate, name): what}, Path(room))
             print(f"{crate}/{name}: {what}", flush=True)
             count += 1
             wrong += not what.startswith(verdicts.REFUSED)

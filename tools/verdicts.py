@@ -2,11 +2,11 @@
 """Keeps what the prover said of each mutant, in docs/mutants.tsv: a line with its crate, its name, a hash of
 what it was tried on, and the verdict.
 
-    tools/verdicts.py FILE
+    tools/verdicts.py FILE COPY
 
-takes the verdicts in from what `rt must-fail` printed into FILE. The hash is that of the mutant, and of src/
-and specs/ of its crate: where one of these has changed since, the verdict is stale, and the mutant is to be
-tried again. A contract of a crate below may have changed, too; that is not seen.
+takes the verdicts in from what `rt must-fail` printed into FILE, over a copy of the repository. The hash is
+that of the mutant, and of src/ and specs/ of its crate: where one of these has changed since, the verdict is
+stale, and the mutant is to be tried again. It is not seen whether a contract of a crate below has changed.
 """
 import hashlib
 import re
@@ -24,9 +24,9 @@ PROVED = "proved"
 UNREAD = "not read by the prover"
 
 
-def edits():
+def edits(top=TOP):
     """Each mutant, by its crate and its name."""
-    found = [*TOP.glob("crates/*/mutants/*.edit"), *TOP.glob("crates/*/must-fail/*.edit")]
+    found = [*top.glob("crates/*/mutants/*.edit"), *top.glob("crates/*/must-fail/*.edit")]
     return {(edit.parent.parent.name, edit.stem): edit for edit in sorted(found)}
 
 
@@ -82,20 +82,20 @@ def verdict(line):
     return (found[1], found[2]), what
 
 
-def keep(verdicts):
-    """Takes verdicts in, each of the sources as they are."""
-    record, there = read(), edits()
+def keep(verdicts, copy):
+    """Takes in verdicts of the sources in a copy of the repository."""
+    record, there = read(), edits(copy)
     record.update({key: (sources_of(there[key]), what) for key, what in verdicts.items() if key in there})
     write(record)
 
 
 def main(words):
-    if len(words) != 1:
+    if len(words) != 2:
         print(__doc__, file=sys.stderr)
         return 2
     found = dict(verdict(line) for line in Path(words[0]).read_text().splitlines())
     found.pop(None, None)
-    keep(found)
+    keep(found, Path(words[1]))
     print(f"verdicts: {len(found)} kept")
     return 0
 
