@@ -8,10 +8,10 @@
  * What a caller owes, in every call:
  * - A handle that a call takes is open: `piper_open` filled it, and it was not dropped since.
  *   `at` belongs to the pipe. A handle may be moved, and then its old place is not used again.
- * - A handle is used by one thread at a time. The two handles of a pipe may be used by two threads
- *   at the same time. A handle may go to another thread, by anything that has what the one thread
- *   did happen before what the other does: a lock, a start or join of a thread, a release and an
- *   acquire.
+ * - A handle is used by one thread at a time, also by a call that takes it as const: that call only
+ *   leaves the side as it was. The two handles of a pipe may be used by two threads at the same time.
+ *   A handle may go to another thread, by anything that has what the one thread did happen before
+ *   what the other does: a lock, a start or join of a thread, a release and an acquire.
  * - Each open handle is dropped once, by `piper_reader_drop` or `piper_writer_drop`.
  * - A pointer is not null, and the memory at it is the caller's for as long as the call runs. That
  *   of a pointer and a length (`to`, `from`) is at least that long. It may lie in a pipe, even in
@@ -74,8 +74,8 @@ enum {
     PIPER_REFUSED = 4
 };
 
-/* Whether a consume, a publish or a next refused to take or publish so many bytes: it returned no words
- * then, and `data` is PIPER_REFUSED. Where it was done and nobody is to be woken, `data` is 0. */
+/* Whether a consume, a publish or a next refused to take or publish so many bytes: it returned no
+ * words then, and `data` is PIPER_REFUSED. If it was done and nobody is to be woken, `data` is 0. */
 static inline bool piper_is_refused(piper_words words) {
     return words.vtable == 0 && words.data == PIPER_REFUSED;
 }
@@ -156,14 +156,14 @@ uint32_t piper_open(size_t capacity, piper_reader *reader, piper_writer *writer)
 
 /* ---- The side that reads ---- */
 
-/* Checks for a byte, or for the end. Where there is neither, leaves `mine`, checks once more, and
+/* Checks for a byte, or for the end. If there is neither, leaves `mine`, checks once more, and
  * then is pending: whoever publishes bytes or closes the pipe from then on gets `mine`. It checks
  * for more bytes only where it knows of none. Every PIPER_PENDING replaces the words of the one
- * before. Where the outcome is PIPER_END words may still be in the pipe: the drop returns them. */
+ * before. If the outcome is PIPER_END, words may still be in the pipe: the drop returns them. */
 piper_polled piper_reader_poll(piper_reader *reader, piper_words mine);
 
 /* Checks for a byte, or for the end, and leaves no words; words that a poll left stay where they
- * are. Where the outcome is PIPER_READY it puts the address of the known bytes into `*at` and returns
+ * are. If the outcome is PIPER_READY, it puts the address of the known bytes into `*at` and returns
  * how many they are, as `peek` does; else it returns 0, and leaves `*at` as it is. */
 piper_seen piper_reader_look(piper_reader *reader, const uint8_t **at);
 
@@ -199,7 +199,7 @@ piper_left piper_reader_drop(piper_reader *reader);
 
 /* ---- The side that writes ---- */
 
-/* Checks for room, or for the end. Where there is neither, leaves `mine`, checks once more, and then
+/* Checks for room, or for the end. If there is neither, leaves `mine`, checks once more, and then
  * is pending: whoever consumes bytes or closes the pipe from then on gets `mine`. As the reader's
  * poll in all else. */
 piper_polled piper_writer_poll(piper_writer *writer, piper_words mine);
@@ -218,7 +218,7 @@ uint32_t piper_writer_look(piper_writer *writer);
  * made before it. */
 size_t piper_writer_lend(piper_writer *writer, size_t max, uint8_t **at);
 
-/* Looks, and where there is room lends some, as `lend` does. Where the outcome isn't PIPER_READY
+/* Looks, and lends room as `lend` does if there is some. If the outcome isn't PIPER_READY,
  * nothing is lent, and `*at` stays as it is. */
 piper_seen piper_writer_offer(piper_writer *writer, size_t max, uint8_t **at);
 

@@ -14,6 +14,8 @@ command -v cargo > /dev/null || { echo 'targets.sh: cargo is missing' >&2; exit 
 "$here/web.sh" "$1" || exit 2
 root=$(cd "$1" && pwd)
 linker=$(command -v ld64.lld-19 || command -v ld64.lld)
+room=$(mktemp -d)
+trap 'rm -rf "$room"' EXIT
 export RUSTC=$root/rustc RUSTC_BOOTSTRAP=1 CARGO_HOME=$root/home
 passed=0
 failed=0
@@ -21,28 +23,27 @@ failed=0
 holds() { # NAME COMMAND..
     local name=$1
     shift
-    if "$@" > "$root/said" 2>&1; then
+    if "$@" > "$room/said" 2>&1; then
         echo "$name: passed"
         passed=$((passed + 1))
     else
-        cat "$root/said"
+        cat "$room/said"
         echo "$name: FAILED"
         failed=$((failed + 1))
     fi
 }
 
 # Debian's fastrand lacks the crate that it wants on WebAssembly.
-rm -rf "$root/fastrand"
-cp -rL "$root"/crates/fastrand-[0-9]* "$root/fastrand"
-sed -i 's/^use instant::Instant;/use std::time::Instant;/' "$root/fastrand/src/lib.rs"
+cp -rL "$root"/crates/fastrand-[0-9]* "$room/fastrand"
+sed -i 's/^use instant::Instant;/use std::time::Instant;/' "$room/fastrand/src/lib.rs"
 
 # A library that other languages call, whose build fails where it doesn't get what is wanted.
 program() { # IS_PROVED
-    mkdir -p "$root/program/src"
+    mkdir -p "$room/program/src"
     printf '%s\n' '[package]' 'name = "program"' 'version = "0.1.0"' 'edition = "2021"' '[lib]' 'crate-type = ["staticlib"]' \
         '[dependencies]' "piper = { path = \"$here\" }" \
-        '[patch.crates-io]' "fastrand = { path = \"$root/fastrand\" }" > "$root/program/Cargo.toml"
-    cat > "$root/program/src/lib.rs" <<LIB
+        '[patch.crates-io]' "fastrand = { path = \"$room/fastrand\" }" > "$room/program/Cargo.toml"
+    cat > "$room/program/src/lib.rs" <<LIB
 const _: () = assert!(piper::IS_PROVED == $1);
 #[no_mangle]
 pub extern "C" fn sends(byte: u8) -> usize {
@@ -54,7 +55,7 @@ LIB
 
 cargo_for() { # COMMAND TARGET IS_PROVED
     program "$3"
-    (cd "$root/program" && cargo "$1" --quiet --offline -Zbuild-std=std,panic_abort --target "$2" --target-dir "$root/checked")
+    (cd "$room/program" && cargo "$1" --quiet --offline -Zbuild-std=std,panic_abort --target "$2" --target-dir "$root/checked")
 }
 
 # The library with all of std, as LLVM's linker links it for macOS: what the system has is looked up later.

@@ -1,9 +1,14 @@
 #!/usr/bin/env python3
 """Says of each mutant whether it still applies: whether each text that it replaces is in its file
-once, after the replacements above it. tools/try_mutants.sh says whether the prover refuses them.
+once, after the replacements above it. And of the record of verdicts (docs/mutants.tsv) how many are stale,
+or of a mutant that was never tried, and which mutants the prover did not refuse; tools/try_mutants.sh and
+tools/try_stale_mutants.py try them.
 """
 import sys
 from pathlib import Path
+
+sys.dont_write_bytecode = True  # nothing of ours beside the tools
+import verdicts
 
 TOP = Path(__file__).resolve().parent.parent
 
@@ -28,8 +33,13 @@ def misfits(edit):
 def main():
     edits = sorted(TOP.glob("crates/*/mutants/*.edit")) + sorted(TOP.glob("crates/*/must-fail/*.edit"))
     wrong = [f"{edit.relative_to(TOP)}: {text}" for edit in edits for text in misfits(edit)]
-    print("\n".join(wrong + [f"{len(edits)} mutants, {len(wrong)} texts that don't apply"]))
-    return 1 if wrong or not edits else 0
+    stale = verdicts.stale()
+    let_pass = [f"{crate}/{name}: {what}" for (crate, name), (_, what) in verdicts.read().items()
+                if (crate, name) not in stale and not what.startswith(verdicts.REFUSED)]
+    print("\n".join(wrong + let_pass + [
+        f"{len(edits)} mutants, {len(wrong)} texts that don't apply",
+        f"verdicts: {len(edits) - len(stale)} of these sources, {len(stale)} stale, {len(let_pass)} not refused"]))
+    return 1 if wrong or let_pass or not edits else 0
 
 
 if __name__ == "__main__":

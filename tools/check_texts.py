@@ -4,13 +4,14 @@
 1. The text for macOS has the instructions and the constants of that for Linux, one by one.
 2. What two threads share is accessed in one order for all: each store to a word of a ring is one that
    the processor orders with all others (`xchg` or `lock` on x86-64, `stlr` or a pair with `stlxr` on
-   aarch64), and each load one that it orders with these (any on x86-64, `ldar` or `ldaxr` on aarch64).
+   aarch64, `.aqrl` or a store between its fences on riscv64), and each load one that it orders with these
+   (any on x86-64, `ldar` or `ldaxr` on aarch64, one between its fences on riscv64).
 
 A word is known by its offset in the ring's block (crates/piper_ring/src/ring/memory.rt), where no other
-block is so long: one that came to be would be refused, too. Of the two words before those, the head's store is looked for in the calls that take
-bytes, and the count of sides only as an atomic change that is there. What a pipe's opening writes nobody
-else sees yet. The text for riscv64 is not read: there the order is that of LLVM's fences. Of each text a
-changed copy has to be refused. The last line is 'texts: N passed, M failed'.
+block is so long: one that came to be would be refused, too. Of the two words before those, the head's
+store is looked for in the calls that take bytes, and the count of sides only as an atomic change that is
+there. What a pipe's opening writes nobody else sees yet. Of each text a changed copy has to be refused.
+The last line is 'texts: N passed, M failed'.
 """
 import re
 import sys
@@ -112,6 +113,41 @@ def on_aarch64(lines, shared):
             known[adds[1]] = int(adds[3])
 
 
+def fence_at(lines, step):
+    """The fence that stands in this direction before another access, a label or a jump."""
+    for line in lines[::step]:
+        how, _, rest = line.strip().partition("\t")
+        if how == "fence":
+            return rest
+        if not line.startswith("\t") or "(" in rest or how[0] in "bjcr":
+            return None
+    return None
+
+
+def on_riscv64(lines, shared):
+    """The same of riscv64, which orders a plain access by a fence before it and one behind it."""
+    known = {}
+    for n, line in enumerate(lines):
+        how, _, rest = line.strip().partition("\t")
+        place = re.search(r"(-?\d*)\((\w+)\)$", rest)
+        if place and place[2] != "sp":
+            offset = int(place[1] or 0) + known.get(place[2], 0)
+            is_store = how.startswith(("s", "amo"))
+            fences = ("rw, w", "rw, rw") if is_store else ("rw, rw", "r, rw")
+            is_ordered = how.endswith(".aqrl") or (fence_at(lines[:n], -1), fence_at(lines[n + 1:], 1)) == fences
+            if covers(offset, 8, shared):
+                yield line, offset, is_ordered, is_ordered and is_store
+        adds = re.match(r"addi\t(\w+), (\w+), (-?\d+)$", line.strip())
+        base = known.get(adds and adds[2], 0)
+        if not how.startswith(("s", "b", "f")):
+            known.pop(rest.split(",")[0], None)
+        if adds:
+            known[adds[1]] = base + int(adds[3])
+
+
+READS = {"x86_64": on_x86_64, "aarch64": on_aarch64, "riscv64": on_riscv64}
+
+
 def in_order(text, reads):
     """Each access to a shared word is in order, and each word is stored to by one that is."""
     at, code = words(), functions(text)
@@ -121,7 +157,7 @@ def in_order(text, reads):
         # Once both sides have left, the memory is the last one's alone, which looks for wakers before it frees.
         last = max((n for n, it in enumerate(seen) if it[3]), default=-1) if name.endswith("_drop") else len(seen)
         for n, (line, _, is_ordered, _) in enumerate(seen):
-            is_last_look = n > last and re.match(r"\t(?:ldr|mov|cmp)", line)
+            is_last_look = n > last and re.match(r"\t(?:ldr?\t|mov|cmp)", line)
             if not is_ordered and not name.startswith("open_") and not is_last_look:
                 raise Refused(f"{name}: {line.strip()!r} accesses a shared word in no order")
     stored = {offset for lines in code.values() for _, offset, _, is_store in reads(lines, at.values()) if is_store}
@@ -139,8 +175,11 @@ def weakened(text, reads, word):
         for line, offset, _, is_store in reads(lines, {words()[word]}):
             if is_store and not name.startswith("open_") and (word != "HEAD_WORD" or name == TAKE_BYTES[0]):
                 begin = re.search(rf"^(?:\"?_?)piper_[0-9a-f]{{12}}_{name}:", text, re.M).start()
-                weaker = re.sub("xchg", "mov", re.sub("stlx?r", "str", line))
-                return text[:begin] + text[begin:].replace(line, weaker, 1)
+                weaker = re.sub("xchg", "mov", re.sub("stlx?r", "str", line.replace(".aqrl", "")))
+                at = text.index(line, begin)
+                if line.startswith("\tsd\t"):
+                    begin = text.rindex("\tfence\t", begin, at)
+                return text[:begin] + re.sub(r"^\tfence.*\n", "", text[begin:at]) + weaker + text[at + len(line):]
     raise Refused(f"nothing stores to {word}")
 
 
@@ -153,7 +192,7 @@ def refused(what, *given):
 
 
 def check_order(name, text):
-    reads = on_aarch64 if name.startswith("aarch64") else on_x86_64
+    reads = READS[name.partition("-")[0]]
     in_order(text, reads)
     for word in ("TAIL_WORD", "CLOSED_WORD", "HEAD_WORD"):
         refused(in_order, weakened(text, reads, word), reads)
@@ -167,7 +206,7 @@ def check_same(linux, macos):
 
 
 def main():
-    texts = {it.stem: it.read_text() for it in sorted(LIB.glob("*.s")) if not it.stem.startswith("riscv64")}
+    texts = {it.stem: it.read_text() for it in sorted(LIB.glob("*.s"))}
     tries = [(name, check_order, (name, text)) for name, text in texts.items()]
     tries += [(macos, check_same, (texts[linux], texts[macos])) for linux, macos in PAIRS]
     failed = 0

@@ -1,5 +1,7 @@
 """The module for x86-64 with the triple of riscv64. Both hand over values of one and two words, and a
-place for longer results, alike; only a result of 32 bits is handed over with its sign extended."""
+place for longer results, alike; only a result of 32 bits is handed over with its sign extended. The module
+doesn't say of its words that they are aligned, as they are: LLVM is told that it may take each as a whole,
+since else it takes it byte by byte."""
 import re
 
 LINUX, TARGET = "x86_64-unknown-linux-gnu", "riscv64-unknown-linux-gnu"
@@ -15,4 +17,4 @@ def changed(text, words):
     at = words.index("-no-x86-call-frame-opt")
     del words[at - 1:at + 1]
     at = words.index("-march=x86-64")
-    return text, words[:at] + ["-march=rv64gc", "-mabi=lp64d"] + words[at + 1:]
+    return text, words[:at] + ["-march=rv64gc", "-mabi=lp64d", "-mno-strict-align"] + words[at + 1:]

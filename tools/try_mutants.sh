@@ -1,7 +1,8 @@
 #!/usr/bin/env bash
 # Tries the mutants of the crates that are named, or of all crates: those in must-fail/, which the gate tries,
 # and those in mutants/, which it does not. Each must be refused by the prover, and not only because a proof
-# file names what it takes away. It works on a copy, and begins with what earlier checks kept in out/.
+# file names what it takes away. It works on a copy, and begins with what earlier checks kept in out/. Verdicts go into
+# docs/mutants.tsv.
 set -eu
 cd "$(dirname "$0")/.."
 room=$(mktemp -d)
@@ -46,6 +47,7 @@ done
 printf '%s\n' "${names[@]}" |
     (cd "$copy" && xargs -P "$(nproc)" -I NAME sh -c 'rt must-fail NAME > "$0/NAME" 2>&1 || true' "$room/said")
 cat "$room"/said/* | grep '^rt: must-fail ' > "$room/lines" || true
+tools/verdicts.py "$room/lines" "$copy"
 refused=$(grep ': refused, as it must be' "$room/lines" | grep -vc 'only because a proof file' || true)
 grep -v ': refused, as it must be' "$room/lines" || true
 grep 'only because a proof file' "$room/lines" || true

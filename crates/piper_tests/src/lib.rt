@@ -3,6 +3,8 @@
 #![tactic(auto)]
 
 #[cfg(test)]
+mod between;
+#[cfg(test)]
 mod carries;
 #[cfg(test)]
 mod copies;
