@@ -219,7 +219,7 @@ fi
 if unshare -m sh -c 'umount -l /proc' 2> /dev/null; then
     try 'an input that is the output, without /proc' 10 4 "it can't be told from the other files without /proc" 'cp src s; unshare -m sh -c "umount -l /proc; \$pump -o s --force < s 2>&1" | cat >&2; exit ${PIPESTATUS[0]}'
     note 'it stays' cmp -s src s
-    try 'a file that is appended to, without /proc' 10 4 "it can't be told from the other files without /proc" 'unshare -m sh -c "umount -l /proc; \$pump -i s >> s 2> >(cat >&2)"'
+    try 'a file that is appended to, without /proc' 10 4 "it can't be told from the other files without /proc" 'unshare -m sh -c "umount -l /proc; \$pump -i s >> s" 2> >(cat >&2)'
     note 'it stays, too' cmp -s src s
     try_silent 'a file into a pipe, without /proc' 10 0 'unshare -m sh -c "umount -l /proc; \$pump < src" 2> >(cat >&2) | cmp - src'
 else
@@ -248,8 +248,9 @@ except BlockingIOError:
 os.set_blocking(far, True)
 child = subprocess.Popen([os.environ["pump"]] + sys.argv[2:], stdin=open("src"), stdout=subprocess.PIPE, stderr=far)
 os.close(far)
-got = child.stdout.read()
-assert got == open("src", "rb").read(), len(got)
+data = open("src", "rb").read()
+got = child.stdout.read(len(data))
+assert got == data, len(got)
 if sys.argv[1] == "exits":
     assert child.wait(5) == 0
     sys.exit(0)
