@@ -226,14 +226,11 @@ else
     echo 'left out, for want of unshare: no /proc'
 fi
 
-# A level: the side that waits is woken. With a level of the whole capacity each round waits once.
-begun=$(date +%s%N)
-try_silent 'no level' 60 0 'lines 8000000 | $pump --capacity 4K > /dev/null'
-plain=$((($(date +%s%N) - begun) / 1000000))
-begun=$(date +%s%N)
-try_silent 'a level' 60 0 'lines 8000000 | $pump --capacity 4K --start-at 100 | cmp - <(lines 8000000)'
-took=$((($(date +%s%N) - begun) / 1000000))
-note "8 MB through 4K at a level of 100 percent took $took ms, $plain without one" test "$took" -le $((plain * 8 + 1500))
+# A level: the side that waits for it is woken, and does not look for it by the clock.
+try_silent 'a level, through a pipe that runs dry' 60 0 'lines 8000000 | $pump --capacity 4K --start-at 100 | cmp - <(lines 8000000) && exit ${PIPESTATUS[1]}'
+if command -v strace > /dev/null; then
+    try_silent 'who waits for a level sleeps till it is woken' 20 0 '(lines 30; sleep 0.3; lines 4000; sleep 0.3; lines 9000) | strace -f -o calls -e trace=clock_nanosleep,nanosleep $pump --capacity 4K --start-at 100 > level; cmp level <(lines 30; lines 4000; lines 9000) && ! grep -q nanosleep calls'
+fi
 
 # Standard error that nobody reads holds up no byte.
 cat > unread.py <<'PYTHON'
@@ -290,6 +287,33 @@ told = os.read(near, 1000)
 assert child.wait() == 0 and b"\x1b" not in told and told.endswith(b"\r\n"), told
 PYTHON
 try_silent 'a terminal that knows no sequences' 10 0 'python3 dumb.py'
+
+# The last line of progress is that of the whole, and ends the line on a terminal.
+cat > whole.py <<'PYTHON'
+import os, pty, subprocess, threading, time
+near, far = pty.openpty()
+child = subprocess.Popen([os.environ["pump"], "--progress"], stdin=subprocess.PIPE, stdout=subprocess.DEVNULL, stderr=far, env={"TERM": "xterm"})
+os.close(far)
+told = []
+def read():
+    try:
+        while True:
+            told.append(os.read(near, 1000))
+    except OSError:
+        pass
+reader = threading.Thread(target=read)
+reader.start()
+child.stdin.write(b"x" * 1024 * 1024)
+child.stdin.flush()
+time.sleep(1.1)
+child.stdin.close()
+assert child.wait() == 0
+reader.join()
+lines = b"".join(told).split(b"\r\x1b[?7l")
+assert lines[-1].endswith(b"\x1b[?7h\r\n") and all(b"\n" not in line for line in lines[:-1]), lines
+assert b" 0 B/s" in lines[-2] and b" 0 B/s" not in lines[-1], lines
+PYTHON
+try_silent 'the last line is that of the whole' 10 0 'python3 whole.py'
 
 # Memory.
 cat > held.py <<'PYTHON'
