@@ -23,11 +23,14 @@ lines 5000000 > file
 lines 20000 > short
 
 # Closed standard streams: no file that is opened takes their numbers.
-try 'a closed standard error, and a file' 10 0 '' '$pump --sha256 -o sent < short 2>&-; status=$?; cmp sent short && exit $status'
+try 'a closed standard error, and a file' 10 7 '' '$pump --sha256 -o sent < short 2>&-; status=$?; cmp sent short && exit $status'
 try 'a closed standard output' 10 4 'standard output' '$pump --tee copy < file >&-'
 note 'a closed standard output, before a file is made' test ! -e copy
 try 'a closed standard input' 10 3 'standard input' '$pump -o none <&-'
 note 'a closed standard input, before a file is made' test ! -e none
+try 'a closed standard output by a name' 10 4 '^piper_pump: /dev/stdout: it is a folder, or' '$pump -i file -o /dev/stdout >&-'
+try 'a closed standard input by a name' 10 3 '^piper_pump: /dev/stdin: it is a folder, or' '$pump -i /dev/stdin -o none <&-'
+note 'a closed standard input by a name, before a file is made' test ! -e none
 try 'all closed, and files' 10 0 '' '$pump -i file -o moved <&- >&- 2>&-; status=$?; cmp moved file && exit $status'
 
 # An input that is an output, too.
@@ -43,6 +46,10 @@ try 'one file that is appended to' 10 4 '^piper_pump: standard output: ' '$pump 
 try 'the same, by the shell alone' 10 4 '^piper_pump: standard output: ' '$pump < twice >> twice'
 try 'one file that is written twice' 10 4 '^piper_pump: twice: ' '$pump --force -o link --tee twice < file'
 note 'it keeps its bytes' cmp twice file
+timeout 10 bash -c '$pump -i short -o reports --sha256 2>reports'
+note 'an output that reports go into' test $? -eq 4
+mkfifo fifo
+try 'one FIFO that is written twice' 10 4 '^piper_pump: fifo: ' '$pump -i short -o none --tee fifo --tee fifo'
 try_silent 'a device as the input and the output' 10 0 '$pump -i /dev/null -o /dev/null --tee /dev/null'
 
 # Files that hold bytes, and a start that fails.
@@ -51,8 +58,8 @@ try 'a copy that holds bytes' 10 4 '^piper_pump: kept: .*--force' '$pump --tee k
 try 'a copy that can not be made' 10 4 '^piper_pump: no/such/file: ' '$pump --force -o kept --tee no/such/file < file'
 try 'an input that is not there' 10 3 '^piper_pump: no/such/file: ' '$pump --force -o kept -i no/such/file'
 try 'memory that is refused' 10 6 'out of memory' 'prlimit --as=8192000 $pump --capacity 64M --force -o kept < file'
-try 'a folder as the input, and a file' 10 3 '^piper_pump: reading the input failed: Is a directory' '$pump --force -i . -o kept'
-try 'an input that fails at its first read' 10 3 '^piper_pump: reading the input failed: Input/output' '$pump --force -i /proc/self/mem -o kept --tee new'
+try 'a folder as the input, and a file' 10 3 '^piper_pump: .: it is a folder' '$pump --force -i . -o kept'
+try 'an input that fails at its first read' 10 3 '^piper_pump: /proc/self/mem: reading the input failed: Input/output' '$pump --force -i /proc/self/mem -o kept --tee new'
 try 'a folder as the input by the shell' 10 3 'Is a directory' '$pump --force -o new --tee kept < .'
 note 'what a file held stays where the pump does not begin' test "$(cat kept)" = kept
 try 'a new file, and a copy in no folder' 10 4 '^piper_pump: no/such/file: ' '$pump -o new --tee no/such/file < file'
@@ -61,7 +68,7 @@ echo held > held
 try 'a file that is there, and a copy that can not be made' 10 4 '^piper_pump: /proc/new: ' '$pump --force -o held --tee /proc/new < file'
 note 'a file that was there is not taken away' test "$(cat held)" = held
 try 'a new file, and a copy that can not be opened' 10 4 '^piper_pump: ./piper_pump: Text file busy' '$pump --force -o new --tee $pump < file'
-try 'a new file, and a copy that is a folder' 10 4 '^piper_pump: /: is a directory' '$pump -o new --tee / < file'
+try 'a new file, and a copy that is a folder' 10 4 '^piper_pump: /: it is a folder' '$pump -o new --tee / < file'
 try 'a new file, and memory that is refused' 10 6 'out of memory' 'prlimit --as=8192000 $pump --capacity 64M -o new < file'
 try 'a new file, and words that are refused' 10 2 "^piper_pump: invalid value '-' for '--tee <FILE>'" '$pump -o new --tee - < file'
 note 'a run that is refused makes no file' test ! -e new -a ! -e ./-
@@ -85,7 +92,7 @@ export feed='sleep 0.5; echo a line; exec sleep 30'
 try 'a full output, and an idle input' 5 4 'writing the output failed' '$pump < <(eval "$feed") > /dev/full'
 try 'a full file, and an idle input' 5 4 'writing the output failed' '$pump -o /dev/full < <(eval "$feed")'
 try 'a full output with progress, and an idle input' 5 4 'writing the output failed' '$pump --progress < <(eval "$feed") > /dev/full'
-try 'a reader that left, and an idle input' 5 5 'the output was closed' '$pump < <(eval "$feed") | true; exit ${PIPESTATUS[0]}'
+try 'a reader that left, and an idle input' 5 141 '' '$pump < <(eval "$feed") | true; exit ${PIPESTATUS[0]}'
 
 # Threads that are refused, or begin late.
 alone=''

@@ -30,7 +30,7 @@ try_silent 'where the memory for a thread is refused' 20 0 'prlimit --as=8192000
 try_silent 'where a second thread is refused' 20 0 '$alone prlimit --nproc=1 $pump < file | cmp - file && exit ${PIPESTATUS[0]}'
 try 'a full output on one thread' 20 4 'writing the output failed' '$alone prlimit --nproc=1 $pump < file > /dev/full'
 try 'a failing input on one thread' 20 3 'reading the input failed' '$alone prlimit --nproc=1 $pump < /'
-try 'a closed output on one thread' 20 5 'the output was closed' '$alone prlimit --nproc=1 $pump < file | head -c 10 > /dev/null; exit ${PIPESTATUS[0]}'
+try_silent 'a closed output on one thread' 20 141 '$alone prlimit --nproc=1 $pump < file | head -c 10 > /dev/null; exit ${PIPESTATUS[0]}'
 try 'progress on one thread' 20 0 'MiB' '$alone prlimit --nproc=1 $pump --progress < file > /dev/null'
 try 'too little memory' 20 6 'out of memory' 'prlimit --as=8192000 $pump --capacity 64M < file'
 
@@ -39,7 +39,7 @@ try 'a folder as the input' 10 3 'reading the input failed' '$pump < /'
 try 'a full output' 10 4 'writing the output failed' '$pump < file > /dev/full'
 try 'a full output, with progress' 10 4 'writing the output failed' '$pump --progress < file > /dev/full'
 try 'a failing input, with progress' 10 3 'reading the input failed' '$pump --progress < /'
-try 'a reader that ends early' 10 5 'the output was closed' '$pump < file | head -c 10 > /dev/null; exit ${PIPESTATUS[0]}'
+try_silent 'a reader that ends early' 10 141 '$pump < file | head -c 10 > /dev/null; exit ${PIPESTATUS[0]}'
 try 'what came before a failing input goes out' 10 3 'reading the input failed' 'python3 -c "
 import pty, os, subprocess, sys
 near, far = pty.openpty()
@@ -59,7 +59,7 @@ try 'a rate that is none' 10 2 '--rate' '$pump --rate x'
 try 'a level that is none' 10 2 '--start-at' '$pump --start-at 101'
 try 'a word that is no text' 10 2 'UTF-8' '$pump $'"'\\xff'"
 try_silent 'the help' 10 0 '$pump --help'
-note 'the help tells each status' test "$(grep -c '^  [0234567]  ' out)" -eq 7
+note 'the help tells each status' test "$(grep -cE '^  (0|2|3|4|6|7|141) +' out)" -eq 7
 try_silent 'the version' 10 0 '$pump --version'
 note 'the version is told' grep -q '^piper_pump [0-9]' out
 try 'a help that can not be printed' 10 4 'writing the output failed' '$pump --help > /dev/full'
@@ -167,6 +167,153 @@ PYTHON
 for what in slow-input slow-output line level; do
     try_silent "ends that would block: $what" 30 0 "python3 ends.py $what"
 done
+
+# Names that lead to a standard stream that is closed: refused, and nothing is lost.
+lines 100000 > src
+for name in /dev/stdout /dev/fd/1 /proc/self/fd/1; do
+    try "a closed standard output by the name $name" 10 4 "^piper_pump: $name: it is a folder, or a standard stream that is closed" "\$pump -i src -o $name >&-"
+done
+for name in /dev/stdin /dev/fd/0; do
+    try "a closed standard input by the name $name" 10 3 "^piper_pump: $name: it is a folder, or" "echo old > h; \$pump --force -i $name -o h <&-"
+    note 'what the file held stays' test "$(cat h)" = old
+done
+try 'a closed standard output that is read' 10 3 'it is a folder, or' 'echo old > h; $pump --force -i /dev/fd/1 -o h >&-'
+note 'what the file held stays' test "$(cat h)" = old
+try 'a closed standard output as a copy' 10 4 '^piper_pump: /dev/stdout: it is a folder, or' '$pump -i src -o tee1 --tee /dev/stdout >&-'
+try_silent 'a closed standard error as a copy' 10 4 '$pump -i src -o tee2 --tee /dev/stderr 2>&-'
+note 'nothing was made' test ! -e tee1 -a ! -e tee2
+
+# Reports that would go into the bytes: standard error counts as a file that is written.
+for redirection in '2>x' '2>>x'; do
+    timeout 10 bash -c "\$pump -i src -o x --force --sha256 $redirection"
+    note "the output is standard error, too, by $redirection" test $? -eq 4
+    rm -f x
+    timeout 10 bash -c "\$pump -i src -o y --force --tee x --progress $redirection"
+    note "a copy is standard error, too, by $redirection" test $? -eq 4 -a ! -e y
+    rm -f x
+done
+cp src x
+timeout 10 bash -c '$pump -i x -o y --progress 2>>x'
+note 'the input is standard error, too' test $? -eq 4 -a ! -e y
+try_silent 'reports into the pipe that the bytes go into' 10 0 '$pump -i src --sha256 2>&1 | grep -qa "  -$"'
+
+# Devices and FIFOs.
+mkfifo fifo1
+cat fifo1 > /dev/null &
+try 'two copies to one FIFO' 10 4 '^piper_pump: fifo1: it is the input, another output' '$pump -i src -o tee3 --tee fifo1 --tee fifo1'
+kill $! 2> /dev/null
+truncate -s 1M image
+loop=$(losetup -f --show image 2> /dev/null)
+if [ -n "$loop" ]; then
+    try 'a block device' 10 4 "^piper_pump: $loop: it holds bytes" "\$pump -i src -o $loop"
+    try 'a block device as the input and the output' 10 4 'it is the input, another output' "\$pump --force -i $loop -o $loop"
+    mknod node b "$((0x$(stat -c %t "$loop")))" "$((0x$(stat -c %T "$loop")))" 2> /dev/null &&
+        try 'a block device by two names' 10 4 'it is the input, another output' "\$pump --force -i src -o $loop --tee node"
+    try_silent 'a block device that is overwritten' 10 0 "\$pump --force -i src -o $loop && cmp -n 100000 src $loop"
+    losetup -d "$loop"
+else
+    echo 'left out, for want of a loop device: block devices'
+fi
+
+# Without /proc it can't be told which files the shell opened.
+if unshare -m sh -c 'umount -l /proc' 2> /dev/null; then
+    try 'an input that is the output, without /proc' 10 4 "it can't be told from the other files without /proc" 'cp src s; unshare -m sh -c "umount -l /proc; \$pump -o s --force < s 2>&1" | cat >&2; exit ${PIPESTATUS[0]}'
+    note 'it stays' cmp -s src s
+    try 'a file that is appended to, without /proc' 10 4 "it can't be told from the other files without /proc" 'unshare -m sh -c "umount -l /proc; \$pump -i s >> s" 2> >(cat >&2)'
+    note 'it stays, too' cmp -s src s
+    try_silent 'a file into a pipe, without /proc' 10 0 'unshare -m sh -c "umount -l /proc; \$pump < src" 2> >(cat >&2) | cmp - src'
+else
+    echo 'left out, for want of unshare: no /proc'
+fi
+
+# A level: the side that waits for it is woken, and does not look for it by the clock.
+try_silent 'a level, through a pipe that runs dry' 60 0 'lines 8000000 | $pump --capacity 4K --start-at 100 | cmp - <(lines 8000000) && exit ${PIPESTATUS[1]}'
+if command -v strace > /dev/null; then
+    try_silent 'who waits for a level sleeps till it is woken' 20 0 '(lines 30; sleep 0.3; lines 4000; sleep 0.3; lines 9000) | strace -f -o calls -e trace=clock_nanosleep,nanosleep $pump --capacity 4K --start-at 100 > level; cmp level <(lines 30; lines 4000; lines 9000) && ! grep -q nanosleep calls'
+fi
+
+# Standard error that nobody reads holds up no byte.
+cat > unread.py <<'PYTHON'
+import os, subprocess, sys
+near, far = os.pipe()
+os.set_blocking(far, False)
+try:
+    while True:
+        os.write(far, b"x" * 4096)
+except BlockingIOError:
+    pass
+os.set_blocking(far, True)
+child = subprocess.Popen([os.environ["pump"]] + sys.argv[2:], stdin=open("src"), stdout=subprocess.PIPE, stderr=far)
+os.close(far)
+data = open("src", "rb").read()
+got = child.stdout.read(len(data))
+assert got == data, len(got)
+if sys.argv[1] == "exits":
+    assert child.wait(5) == 0
+    sys.exit(0)
+told = b""
+while True:
+    piece = os.read(near, 65536)
+    if not piece:
+        break
+    told += piece
+assert b"/dev/full: No space" in told and child.wait() == 7, (told[-200:], child.returncode)
+PYTHON
+try_silent 'a lost copy, and nobody reads reports' 10 0 'python3 unread.py tells --tee /dev/full'
+try_silent 'progress that nobody reads' 10 0 'python3 unread.py exits --progress --rate 100k'
+
+# What is told, and how.
+timeout 10 bash -c '$pump -i src --sha256 > /dev/null 2>/dev/full'
+note 'a sum that can not be told' test $? -eq 7
+timeout 10 bash -c '$pump -i src --sha256 > /dev/null 2>&-'
+note 'a sum that nobody hears' test $? -eq 7
+try 'memory for the words is refused' 10 6 'out of memory' 'for kib in 3000 3200 3400 3600 3800 4000; do (ulimit -v $kib; $pump --help > /dev/null 2> told1); [ $? -eq 2 ] && exit 2; done; (ulimit -v 8192; $pump --capacity 64M < src)'
+try 'one new file under two names' 10 4 '^piper_pump: ./q: it is another output, too' '$pump -i src -o q --tee ./q'
+note 'it is not made' test ! -e q
+ln -s nowhere dangling
+try 'a link to no file' 10 4 '^piper_pump: dangling: it is a link to a file that is not there' '$pump --force -i src -o dangling'
+try 'a full file by its name' 10 4 '^piper_pump: /dev/full: writing the output failed' '$pump -i src -o /dev/full'
+try 'a failing input by its name' 10 3 '^piper_pump: /proc/self/mem: reading the input failed' '$pump -i /proc/self/mem'
+try 'a name that is empty' 10 3 "^piper_pump: '': No such" '$pump -i ""'
+try 'a name that controls a terminal' 10 3 "^piper_pump: \$'a.033b': No such" "\$pump -i \$'a\\033b'"
+try 'a word that controls a terminal' 10 2 "unexpected argument '--.033b'" "\$pump \$'--\\033b'"
+try_silent 'a reader that left, silently' 10 141 '$pump < file | head -c 1 > /dev/null; exit ${PIPESTATUS[0]}'
+cat > dumb.py <<'PYTHON'
+import os, pty, subprocess
+near, far = pty.openpty()
+child = subprocess.Popen([os.environ["pump"], "--progress"], stdin=open("src"), stdout=subprocess.DEVNULL, stderr=far, env={"TERM": "dumb"})
+os.close(far)
+told = os.read(near, 1000)
+assert child.wait() == 0 and b"\x1b" not in told and told.endswith(b"\r\n"), told
+PYTHON
+try_silent 'a terminal that knows no sequences' 10 0 'python3 dumb.py'
+
+# The last line of progress is that of the whole, and ends the line on a terminal.
+cat > whole.py <<'PYTHON'
+import os, pty, subprocess, threading, time
+near, far = pty.openpty()
+child = subprocess.Popen([os.environ["pump"], "--progress"], stdin=subprocess.PIPE, stdout=subprocess.DEVNULL, stderr=far, env={"TERM": "xterm"})
+os.close(far)
+told = []
+def read():
+    try:
+        while True:
+            told.append(os.read(near, 1000))
+    except OSError:
+        pass
+reader = threading.Thread(target=read)
+reader.start()
+child.stdin.write(b"x" * 1024 * 1024)
+child.stdin.flush()
+time.sleep(1.1)
+child.stdin.close()
+assert child.wait() == 0
+reader.join()
+lines = b"".join(told).split(b"\r\x1b[?7l")
+assert lines[-1].endswith(b"\x1b[?7h\r\n") and all(b"\n" not in line for line in lines[:-1]), lines
+assert b" 0 B/s" in lines[-2] and b" 0 B/s" not in lines[-1], lines
+PYTHON
+try_silent 'the last line is that of the whole' 10 0 'python3 whole.py'
 
 # Memory.
 cat > held.py <<'PYTHON'

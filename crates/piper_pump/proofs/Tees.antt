@@ -1,7 +1,6 @@
 -- A loop that adds a file at each round.
-use Rattle.std.proofs.Common.{◌≡◌, ◌≢◌, ℕ, ◌+◌, ◌<◌, ◌≤◌, List, [], ◌∷◌, ◌++◌, length, get_or, map, set, take, string_bytes, Bor, ap, subst, sym, ◌∙◌, arith}
-use Rattle.std.specs.List.{AllWithin}
-use Rattle.std.proofs.lemmas.List.{get_or-set_other, length-set, map-append, take_more}
+use Rattle.std.proofs.Common.{◌≡◌, ℕ, ◌+◌, ◌<◌, List, [], ◌∷◌, ◌++◌, length, get_or, map, take, string_bytes, Bor, ap, sym, ◌∙◌}
+use Rattle.std.proofs.lemmas.List.{map-append, take_more}
 use Rattle.std.proofs.lemmas.List.Elements.{filter_map-append}
 use Rattle.pump_files.specs.Copies.{names_of}
 use Rattle.piper_pump.specs.Opening.{founds_of, ids_of}

@@ -1,5 +1,5 @@
 -- The plan of a run: the numbers that the words ask for, and the files that they name.
-use Rattle.std.specs.Prelude.{◌≡◌, [], ℕ, true, false, List, Option, Some, None, Result, IfSome, codes}
+use Rattle.std.specs.Prelude.{◌≡◌, [], ℕ, true, false, List, Option, Some, Result, IfSome, codes}
 use Rattle.std.specs.declared.io.Error.{Error}
 use Rattle.piper_transfer.specs.declared.both_sides.Sizes.{Sizes}
 use Rattle.clap.specs.Words.{Text, fault_of, first_of, one_of}

@@ -15,7 +15,7 @@ ghost use Rattle.pump_files.specs.Handle.{IsAnswerFor};
 ghost use Rattle.pump_files.specs.declared.attributes.Attributes.{Attributes};
 ghost use Rattle.pump_files.specs.declared.attributes.Kind.TheVariants.{Regular};
 ghost use Rattle.pump_files.specs.declared.streams.Stream.TheVariants as stream;
-ghost use Rattle.piper_pump.specs.Opening.{AreApart, AreDistinct, AreFoundApart, AreTold, HoldNothing};
+ghost use Rattle.piper_pump.specs.Opening.{AreDistinct, AreFoundApart, AreTold, HoldNothing};
 ghost use Rattle.piper_pump.specs.Opening.{IsFoundAt, IsFoundByName, IsFoundOpen, OpensNamed};
 ghost use Rattle.piper_pump.specs.Opening.{ReadsNamed, TellsSize, WritesNamed, founds_of, ids_of};
 ghost use Rattle.pump_files.specs.Pace.{HasRate};
@@ -311,8 +311,12 @@ fn add_tee<F: NamedFile>(tees: &mut Vec<Sink<F>>, sink: Sink<F>) -> Result<(), E
 // told from one another.
 fn refuse_shared<F: NamedFile>(alloc: Global, opened: &Opened<F>) -> Result<(), Ended>
     ensures early { IfErr result IsUnopened }
-    ensures apart { OnOk result (AreApart (opened.now.places.input ∷ opened.now.places.reports
-        ∷ opened.now.places.output ∷ founds_of opened.now.tees.items)) }
+    ensures apart { OnOk result (AreDistinct (ids_of (opened.now.places.input
+        ∷ opened.now.places.reports ∷ opened.now.places.output
+        ∷ founds_of opened.now.tees.items))) }
+    ensures told { OnOk result (AreTold (ids_of (opened.now.places.input
+        ∷ opened.now.places.reports ∷ opened.now.places.output
+        ∷ founds_of opened.now.tees.items))) }
 {
     let mut known = Vec::new(alloc);
     let name = match &opened.output {
@@ -325,7 +329,8 @@ fn refuse_shared<F: NamedFile>(alloc: Global, opened: &Opened<F>) -> Result<(), 
     for tee in opened.tees.iter() {
         add(&mut known, tee.name.as_str(), tee.found)?;
     }
-    refuse_untold(alloc, known.as_slice())
+    refuse_untold(alloc, known.as_slice())?;
+    Ok(())
 }
 
 // Refuses files of which one can't be told from the others.

@@ -7,8 +7,8 @@ use std::sync::{Condvar, Mutex, Wait};
 /// A bell that the side which reads the input rings after each piece that it publishes, and once it
 /// has closed the pipe. The other side waits for it.
 ///
-/// It is rung under a lock, and who waits looks at the pipe under that lock. So no ring is missed
-/// between a look and the sleep that follows it.
+/// It takes a lock before it rings, and who waits looks at the pipe under that lock. So no ring is
+/// missed between a look and the sleep that follows it.
 #[derive(Drop)]
 pub(crate) struct Rises {
     /// Whether anybody waits for a level at all.
@@ -39,7 +39,10 @@ impl Rises {
     fn wake(&self, rt: &impl Wait)
         ensures { HasWoken }
     {
-        let _held = self.held.lock(rt);
+        {
+            let _held = self.held.lock(rt);
+        }
+        // It wakes without the lock, which the other thread takes at once.
         self.changed.notify_all();
     }
 

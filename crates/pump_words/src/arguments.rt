@@ -16,9 +16,9 @@ const STATUSES: &str = "Exit status:
   2  the words on the command line are refused
   3  the input failed, is closed or can't be opened; what came before was written
   4  the output failed, is closed or full; or a file can't be written or is refused
-  5  the program that reads the output has ended
   6  memory was refused
-  7  all bytes were moved, but a file by --tee did not get them
+  7  all bytes were moved, but a file by --tee did not get them, or the sum could not be told
+  141  the program that reads the output has ended, which is not told
 
 What it holds is lost where a signal ends it: at most its capacity";
 

@@ -24,7 +24,7 @@ returns-clause-apart g c =
       reported = said.reports_found;
       written = said.output_found;
       copied = said.tees_found;
-      apart = c.in_ok-refuse_shared.ensures.apart;
+      apart = (c.in_ok-refuse_shared.ensures.apart, c.in_ok-refuse_shared.ensures.told);
     })
 
 pub returns-clause-spared : goal.returns-clause-spared
