@@ -82,6 +82,8 @@ SEALS = {
     "as_late": ("piper_transfer/specs/Threads", ["piper_transfer/proofs/start/Start/give_up"]),
     "as_at_once": ("piper_transfer/specs/Threads", ["piper_transfer/proofs/threads/at_once"]),
     "as_slept": ("piper_transfer/specs/Turns", ["piper_transfer/proofs/sleeping/sleep"]),
+    "as_waited": ("piper_transfer/specs/Turns", ["piper_transfer/proofs/rises/Rises/wait"]),
+    "as_woken": ("piper_transfer/specs/Turns", ["piper_transfer/proofs/rises/Rises/wake"]),
     "as_counted": ("piper_transfer/specs/Turns", ["piper_transfer/proofs/meter/Side/add_bytes"]),
     "as_words": ("piper_pump/specs/CommandLine", ["piper_pump/proofs/command_line/CommandLine/read"]),
     "as_failed_so": (
@@ -89,6 +91,7 @@ SEALS = {
         ["piper_pump/proofs/ends/Outlet/open", "piper_pump/proofs/ends/OutletDestination/write"],
     ),
     "as_returned": ("piper_pump/specs/Outcome", ["piper_pump/proofs/running/run"]),
+    "as_seekable": ("pump_files/specs/Streams", ["pump_files/proofs/streams/Stream/has_position"]),
     "as_opened": ("pump_files/specs/Handle", ["pump_files/proofs/handle/Handle/open"]),
     "as_answer_of": ("pump_files/specs/Handle", ["pump_files/proofs/handle/Handle/metadata"]),
     "as_answer_for": ("pump_files/specs/Handle", ["pump_files/proofs/handle/ask"]),
