@@ -4,6 +4,6 @@
 
 macro_rules! own {
     () => {
-        "piper_9727a8306628_"
+        "piper_94dd0eabf8ce_"
     };
 }
