@@ -315,6 +315,14 @@ assert b" 0 B/s" in lines[-2] and b" 0 B/s" not in lines[-1], lines
 PYTHON
 try_silent 'the last line is that of the whole' 10 0 'python3 whole.py'
 
+# Files on their devices.
+try_silent 'files on their devices' 10 0 '$pump --fsync -i src -o synced1 --tee synced2 && cmp src synced1 && cmp src synced2'
+try 'a copy that has no device' 10 7 '^piper_pump: fifo2: Invalid argument' 'mkfifo fifo2; cat fifo2 > synced4 & $pump --fsync -i src -o synced3 --tee fifo2; status=$?; wait; cmp src synced3 && cmp src synced4 && exit $status'
+if command -v strace > /dev/null; then
+    try 'an output that can not be brought to its device' 10 4 '^piper_pump: synced5: writing the output failed: Input/output error' 'strace -f -o calls -e trace=fsync -e inject=fsync:error=EIO $pump --fsync -i src -o synced5'
+    try_silent 'files that are not waited for' 10 0 'strace -f -o calls -e trace=fsync $pump -i src -o synced6 && ! grep -q fsync calls'
+fi
+
 # Memory.
 cat > held.py <<'PYTHON'
 import os, resource, subprocess, sys

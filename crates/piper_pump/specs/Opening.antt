@@ -1,5 +1,5 @@
 -- The files that are opened: by which names, that no two are one file, and that none holds bytes.
-use Rattle.std.specs.Prelude.{◌≡◌, ◌≢◌, ◌≤◌, ◌⊎◌, ℕ, List, length, ◌∷◌, Option, Some, None, IsSomeAnd, Result, Ok, Err, codes, false, map, string_bytes}
+use Rattle.std.specs.Prelude.{◌≡◌, ◌≢◌, ◌≤◌, ◌⊎◌, ℕ, Bool, IfSome, List, length, ◌∷◌, Option, Some, None, IsSomeAnd, Result, Ok, Err, codes, false, map, string_bytes}
 use Rattle.std.specs.List.{All, AllPairs, filter_map}
 use Rattle.std.specs.declared.io.Error.{Error}
 use Rattle.pump_files.specs.Files.{IsJust}
@@ -62,6 +62,11 @@ pub record WritesNamed {D F : Type 0}
 -- what was found where these files were opened
 abbrev pub founds_of : {F : Type 0} → List (Sink F) → List Found
 founds_of sinks = map (λ sink. sink.found) sinks
+
+-- all files that are written are on their devices before the program ends, or none is waited for
+pub record AreSyncedAs {F : Type 0} (syncs : Bool) (output : Option (Sink F)) (tees : List (Sink F)) : Type 0 where
+  pub written : IfSome output (λ sink. sink.syncs ≡ syncs)
+  pub copied : All (λ sink. sink.syncs ≡ syncs) tees
 
 -- which of them are files that are told from others
 abbrev pub ids_of : List Found → List FileId

@@ -15,7 +15,7 @@ ghost use Rattle.pump_files.specs.Handle.{IsAnswerFor};
 ghost use Rattle.pump_files.specs.declared.attributes.Attributes.{Attributes};
 ghost use Rattle.pump_files.specs.declared.attributes.Kind.TheVariants.{Regular};
 ghost use Rattle.pump_files.specs.declared.streams.Stream.TheVariants as stream;
-ghost use Rattle.piper_pump.specs.Opening.{AreDistinct, AreFoundApart, AreTold, HoldNothing};
+ghost use Rattle.piper_pump.specs.Opening.{AreDistinct, AreFoundApart, AreSyncedAs, AreTold, HoldNothing};
 ghost use Rattle.piper_pump.specs.Opening.{IsFoundAt, IsFoundByName, IsFoundOpen, OpensNamed};
 ghost use Rattle.piper_pump.specs.Opening.{ReadsNamed, TellsSize, WritesNamed, founds_of, ids_of};
 ghost use Rattle.pump_files.specs.Pace.{HasRate};
@@ -163,10 +163,13 @@ where
         ≡ map (λ name. name.now) arguments.now.tees.items) }
     ensures copies { IfOk result (λ opened.
         All (IsCopy F.name F.written F.fails []) opened.tees.items) }
+    ensures synced { IfOk result (λ opened. AreSyncedAs arguments.now.syncs
+        opened.output opened.tees.items) }
 {
     let input = open_input(rt, rt.alloc(), named(arguments.texts.input))?;
-    let output = look_at_output(rt, rt.alloc(), named(arguments.texts.output))?;
-    let tees = look_at_tees(rt, rt.alloc(), arguments.tees.as_slice())?;
+    let syncs = arguments.syncs;
+    let output = look_at_output(rt, rt.alloc(), named(arguments.texts.output), syncs)?;
+    let tees = look_at_tees(rt, rt.alloc(), arguments.tees.as_slice(), syncs)?;
     let places = Places {
         input: found_of_input(rt, &input)?,
         reports: Found::of_reports(rt),
@@ -244,7 +247,12 @@ where
 }
 
 // Looks at the file that is written in place of standard output, if one is named.
-fn look_at_output<R, F>(rt: &R, alloc: Global, name: Option<&str>) -> Result<Option<Sink<F>>, Ended>
+fn look_at_output<R, F>(
+    rt: &R,
+    alloc: Global,
+    name: Option<&str>,
+    syncs: bool,
+) -> Result<Option<Sink<F>>, Ended>
 where
     R: Opens<F>,
     F: NamedFile,
@@ -254,16 +262,17 @@ where
         IsSomeAnd opened (λ sink. IsJust (F.name sink.file) text.now))) }
     ensures found { IfSome name.entry (λ text. IfOk result (λ opened.
         IsSomeAnd opened (λ sink. IsFound (IsAnswerFor text.now) sink.found))) }
+    ensures synced { IfOk result (λ opened. IfSome opened (λ sink. sink.syncs ≡ syncs)) }
     ensures failed { IfErr result IsOfFailure }
 {
     match name {
         None => Ok(None),
-        Some(name) => Ok(Some(look_at(rt, alloc, name)?)),
+        Some(name) => Ok(Some(look_at(rt, alloc, name, syncs)?)),
     }
 }
 
 // Looks at a file that is to be written.
-fn look_at<R, F>(rt: &R, alloc: Global, name: &str) -> Result<Sink<F>, Ended>
+fn look_at<R, F>(rt: &R, alloc: Global, name: &str, syncs: bool) -> Result<Sink<F>, Ended>
 where
     R: Opens<F>,
     F: NamedFile,
@@ -272,16 +281,22 @@ where
     ensures name { IfOk result (λ sink. string_bytes sink.name ≡ name.now) }
     ensures copy { IfOk result (IsCopy F.name F.written F.fails []) }
     ensures found { IfOk result (λ sink. IsFound (IsAnswerFor name.now) sink.found) }
+    ensures synced { IfOk result (λ sink. sink.syncs ≡ syncs) }
     ensures failed { IfErr result IsOfFailure }
 {
-    match Sink::look(rt, alloc, name) {
+    match Sink::look(rt, alloc, name, syncs) {
         Ok(sink) => Ok(sink),
         Err(error) => Err(Ended::NoOutput(Unopened::new(alloc, name, error)?)),
     }
 }
 
 // Looks at the files that get what passes, too.
-fn look_at_tees<R, F>(rt: &R, alloc: Global, names: &[&str]) -> Result<Vec<Sink<F>>, Ended>
+fn look_at_tees<R, F>(
+    rt: &R,
+    alloc: Global,
+    names: &[&str],
+    syncs: bool,
+) -> Result<Vec<Sink<F>>, Ended>
 where
     R: Opens<F>,
     F: NamedFile,
@@ -289,11 +304,12 @@ where
     ensures names { IfOk result (λ tees. names_of tees.items ≡ map (λ name. name.now) names.now) }
     ensures copies { IfOk result (λ tees. All (IsCopy F.name F.written F.fails []) tees.items) }
     ensures found { IfOk result (λ tees. All IsFoundByName tees.items) }
+    ensures synced { IfOk result (λ tees. All (λ sink. sink.syncs ≡ syncs) tees.items) }
     ensures failed { IfErr result IsOfFailure }
 {
     let mut tees = Vec::new(alloc);
     for name in names {
-        let sink = look_at(rt, alloc, *name)?;
+        let sink = look_at(rt, alloc, *name, syncs)?;
         add_tee(&mut tees, sink)?;
     }
     Ok(tees)

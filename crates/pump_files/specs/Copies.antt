@@ -22,12 +22,13 @@ pub record IsCopy {F : Type 0}
   pub failed : sink.has_failed ≡ true → (e : Error) × fails sink.file e
       × (IsLossSaid (string_bytes sink.name) e ⊎ (sink.unsaid ≡ Some e))
 
--- the names of a sink and of its file stay, and whether it was given up
+-- the names of a sink and of its file stay, whether it was given up, and what is still to be said
 pub record SameSink {F : Type 0} (name : F → Option (List ℕ)) (old new : Sink F) : Type 0 where
   pub named : new.name ≡ old.name
   pub file : name new.file ≡ name old.file
   pub failed : new.has_failed ≡ old.has_failed
   pub unsaid : new.unsaid ≡ old.unsaid
+  pub syncs : new.syncs ≡ old.syncs
 
 -- the file was flushed, or a call of it has failed, and nothing of that is left to be said
 abbrev pub IsFlushedOrFailed : {F : Type 0} → (F → Type 0) → Sink F → Type 0

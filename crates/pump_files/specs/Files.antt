@@ -4,7 +4,7 @@ use Rattle.std.specs.Fs.{new_options, with_create_new, with_read, with_write}
 use Rattle.std.specs.declared.fs.options.OpenOptions.{OpenOptions}
 use Rattle.std.specs.declared.io.Error.{Error}
 use Rattle.std.specs.Io.KnownBytes.{append_known}
-use Rattle.pump_files.specs.Handle.{HasLength, IsAnswerOf, IsOpenedBy}
+use Rattle.pump_files.specs.Handle.{HasLength, IsAnswerOf, IsOpenedBy, IsSynced}
 use Rattle.pump_files.specs.declared.attributes.Attributes.{Attributes}
 use Rattle.pump_files.specs.declared.files.SystemFile.{SystemFile}
 use Rattle.pump_files.specs.declared.files.SystemFile.TheVariants as system
@@ -37,6 +37,11 @@ abbrev pub IsCutFile : SystemFile → Type 0
 IsCutFile system.Named = ⊥
 IsCutFile (system.Open handle) =
     HasLength 0 handle ⊎ ((name : List ℕ) × IsOpenedBy makes name handle)
+
+-- the system wrote it to its device
+abbrev pub IsSyncedFile : SystemFile → Type 0
+IsSyncedFile system.Named = ⊥
+IsSyncedFile (system.Open handle) = IsSynced handle
 
 -- the system was asked of it, and answered so; where it is not open, that is reported
 abbrev pub IsAnswerOfFile : SystemFile → Result Attributes Error → Type 0

@@ -38,6 +38,15 @@ pub as_answer_for : (name : List ℕ) (answer : Result Attributes Error) → IsO
 unfolding IsAnswerFor
 as_answer_for name answer asked = tt
 
+-- the system was told to write this file to its device, and said that it did (`Handle::sync`)
+pub IsSynced : Handle → Type 0
+IsSynced handle = ⊤
+
+pub as_synced : (handle : Handle) (answer : Result Unit Error) → IsOfStd answer → OnOk answer (IsSynced handle)
+unfolding IsSynced
+as_synced handle (Ok u) asked = tt
+as_synced handle (Err e) asked = tt
+
 -- the system made this file so long, or said that it holds so much (`Handle::resize`, `metadata`)
 pub HasLength : ℕ → Handle → Type 0
 HasLength size handle = ⊤

@@ -3,7 +3,7 @@ ghost use Rattle.std.specs.Prelude.{◌≡◌, ◌<◌, ℕ, List, [], length, O
 ghost use Rattle.std.specs.Io.{ReadsAtMost, WritesAtMost};
 ghost use Rattle.std.specs.Io.KnownBytes.{append_known, ReadConsumes};
 ghost use Rattle.piper_protocol.specs.Reported.{HasFailed, IsOfStd};
-ghost use Rattle.pump_files.specs.Files.{IsAnswerOfFile, IsCutFile, IsFileOf, IsJust, Writes, keeps, makes, reads};
+ghost use Rattle.pump_files.specs.Files.{IsAnswerOfFile, IsCutFile, IsFileOf, IsJust, IsSyncedFile, Writes, keeps, makes, reads};
 ghost use Rattle.pump_files.specs.Handle.{HoldsNothing, IsAnswerFor};
 
 use crate::all_open::AllOpen;
@@ -49,6 +49,9 @@ pub trait NamedFile: Drop {
 
     // a flush has succeeded, and left it so
     ghost flushed: { Self → Type 0 } = { λ _. ⊤ };
+
+    // what was written is on its device
+    ghost synced: { Self → Type 0 } = { λ _. ⊤ };
 
     // a write of some bytes has taken none, and left it so
     ghost full: { Self → Type 0 } = { λ _. ⊤ };
@@ -101,6 +104,15 @@ pub trait NamedFile: Drop {
         ensures name { name self.new ≡ name self.old }
         ensures bytes { written self.new ≡ written self.old }
         ensures done { OnOk result (flushed self.new) }
+        ensures error { IfErr result (fails self.new) }
+        ensures reported { IsOfStd result };
+
+    /// Waits until what was written is on its device.
+    fn sync(&mut self) -> io::Result<()>
+        ensures name { name self.new ≡ name self.old }
+        ensures bytes { written self.new ≡ written self.old }
+        ensures flushed { flushed self.old → flushed self.new }
+        ensures done { OnOk result (synced self.new) }
         ensures error { IfErr result (fails self.new) }
         ensures reported { IsOfStd result };
 }
@@ -161,6 +173,8 @@ impl NamedFile for SystemFile {
 
     ghost is_cut = { IsCutFile };
 
+    ghost synced = { IsSyncedFile };
+
     fn attributes(&self) -> io::Result<Attributes> {
         match self {
             SystemFile::Open(file) => file.metadata(),
@@ -199,6 +213,13 @@ impl NamedFile for SystemFile {
     fn flush(&mut self) -> io::Result<()> {
         match self {
             SystemFile::Open(file) => file.flush(),
+            SystemFile::Named => reported(Err(not_open())),
+        }
+    }
+
+    fn sync(&mut self) -> io::Result<()> {
+        match self {
+            SystemFile::Open(file) => file.sync(),
             SystemFile::Named => reported(Err(not_open())),
         }
     }

@@ -3,7 +3,7 @@
 ghost use Rattle.std.specs.Prelude.{OnOk, IfOk, IfErr};
 ghost use Rattle.std.specs.Io.{ReadsAtMost, WritesAtMost};
 ghost use Rattle.piper_protocol.specs.Reported.{HasFailed, IsOfStd};
-ghost use Rattle.pump_files.specs.Handle.{HasLength, HoldsNothing, IsAnswerFor, IsAnswerOf, IsOpenedBy};
+ghost use Rattle.pump_files.specs.Handle.{HasLength, HoldsNothing, IsAnswerFor, IsAnswerOf, IsOpenedBy, IsSynced};
 
 use crate::all_open::AllOpen;
 use crate::attributes::{Attributes, attributes_of};
@@ -76,6 +76,14 @@ impl Handle {
         ensures { IsOfStd result }
     {
         reported(Write::write_all(&mut self.file, buf))
+    }
+
+    /// Waits until what was written is on the file's device.
+    pub(crate) fn sync(&self) -> io::Result<()>
+        ensures synced { OnOk result (IsSynced self.now) }
+        ensures reported { IsOfStd result }
+    {
+        reported(self.file.sync_all())
     }
 
     /// Sends what was written on its way.

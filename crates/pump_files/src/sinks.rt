@@ -66,6 +66,8 @@ pub struct Sink<F: NamedFile> {
     pub name: String,
     /// Which file it is, and whether it held bytes, where it was looked at.
     pub found: Found,
+    /// Whether each flush waits until what was written is on its device.
+    pub syncs: bool,
     /// Whether there was one of this name.
     pub is_there: bool,
     /// That this run made it, if it did.
@@ -80,11 +82,12 @@ pub struct Sink<F: NamedFile> {
 impl<F: NamedFile> Sink<F> {
     /// Looks at the file of this name, and neither opens nor makes it. Where there is none, there
     /// has to be the folder that it is made in.
-    pub fn look<R>(rt: &R, alloc: Global, name: &str) -> io::Result<Sink<F>>
+    pub fn look<R>(rt: &R, alloc: Global, name: &str, syncs: bool) -> io::Result<Sink<F>>
     where
         R: Opens<F>,
         ensures named { IfOk result (λ sink. string_bytes sink.name ≡ name.now) }
         ensures copy { IfOk result (IsCopy F.name F.written F.fails []) }
+        ensures syncs { IfOk result (λ sink. sink.syncs ≡ syncs) }
         ensures found { IfOk result (λ sink. IsFound (IsAnswerFor name.now) sink.found) }
         ensures failed { IfErr result HasFailed }
     {
@@ -96,6 +99,7 @@ impl<F: NamedFile> Sink<F> {
         Ok(Sink {
             name: reported(String::from_str(alloc, name).map_err(io::Error::from))?,
             found: Found::of_name(&looked),
+            syncs,
             is_there,
             made: None,
             has_failed: false,
@@ -281,14 +285,19 @@ impl<F: NamedFile> Sink<F> {
         self.file.write_all(buf)
     }
 
-    /// Sends what was written on its way.
+    /// Sends what was written on its way, up to its device if that is asked for.
     pub fn flush(&mut self) -> io::Result<()>
         ensures same { SameSink F.name self.old self.new }
         ensures bytes { F.written self.new.file ≡ F.written self.old.file }
         ensures done { OnOk result (F.flushed self.new.file) }
+        ensures synced { OnOk result (self.old.syncs ≡ true → F.synced self.new.file) }
         ensures error { IfErr result (F.fails self.new.file) }
     {
-        self.file.flush()
+        self.file.flush()?;
+        if self.syncs {
+            self.file.sync()?;
+        }
+        Ok(())
     }
 }
 

@@ -59,7 +59,7 @@ pump_rules =
     ∷ size_rule (codes "capacity") ∷ size_rule (codes "chunk")
     ∷ size_rule (codes "rate") ∷ size_rule (codes "size") ∷ size_rule (codes "start-at")
     ∷ file_rule (codes "input") 105 ∷ file_rule (codes "output") 111
-    ∷ tee_rule ∷ flag_rule (codes "force") ∷ []
+    ∷ tee_rule ∷ flag_rule (codes "force") ∷ flag_rule (codes "fsync") ∷ []
 
 abbrev pub pump_command : App
 pump_command = on_top (λ s. record s { rules = pump_rules }) (versioned (new_app (codes "piper_pump")))
@@ -129,6 +129,10 @@ pub record AskFor (words : List Text) (arguments : Arguments) : Type 0 where
       → arguments.overwrites ≡ true
   pub no_force : one_of (codes "force") (said_by words) ≡ Some (codes "false")
       → arguments.overwrites ≡ false
+  pub sync : one_of (codes "fsync") (said_by words) ≡ Some (codes "true")
+      → arguments.syncs ≡ true
+  pub no_sync : one_of (codes "fsync") (said_by words) ≡ Some (codes "false")
+      → arguments.syncs ≡ false
 
 -- these words ask for something: `clap` takes them, and what represents a size writes one
 pub record AreTaken (words : List Text) : Type 0 where

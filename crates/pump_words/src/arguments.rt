@@ -31,6 +31,8 @@ pub struct Arguments<'a> {
     pub shows_sum: bool,
     /// Whether files that hold bytes are written, too.
     pub overwrites: bool,
+    /// Whether files are on their devices before the program ends.
+    pub syncs: bool,
     pub texts: Texts<'a>,
     /// The files that get what passes, too.
     pub tees: Vec<&'a str>,
@@ -63,6 +65,7 @@ pub fn read_words<'a>(alloc: Global, words: &'a [String]) -> Result<Arguments<'a
         is_quiet: matches.get_flag("quiet"),
         shows_sum: matches.get_flag("sha256"),
         overwrites: matches.get_flag("force"),
+        syncs: matches.get_flag("fsync"),
         texts: texts_of(&matches),
         tees,
     })
@@ -156,7 +159,12 @@ fn command<'a>(alloc: Global) -> Result<Command<'a>, Error>
             "Writes this file; - is standard output",
         ))?
         .arg(tee_option(alloc))?
-        .arg(flag(alloc, "force", "Overwrites files that hold bytes"))?;
+        .arg(flag(alloc, "force", "Overwrites files that hold bytes"))?
+        .arg(flag(
+            alloc,
+            "fsync",
+            "Ends once the files that are named are on their devices",
+        ))?;
     Ok(command)
 }
 

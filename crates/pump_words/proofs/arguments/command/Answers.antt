@@ -21,5 +21,6 @@ returns-clause-taken c =
     let is_8 = added (file_rule (codes "input") 105) _ _ _ _ c.file_option.ensures c.in_ok-arg-9.ensures is_7 in
     let is_9 = added (file_rule (codes "output") 111) _ _ _ _ c.file_option-2.ensures c.in_ok-arg-10.ensures is_8 in
     let is_10 = added (tee_rule) _ _ _ _ c.tee_option.ensures c.in_ok-arg-11.ensures is_9 in
-    let is_11 = added (flag_rule (codes "force")) _ _ _ _ c.flag-4.ensures c.in_ok-command.ensures is_10 in
-    is_11
+    let is_11 = added (flag_rule (codes "force")) _ _ _ _ c.flag-4.ensures c.in_ok-arg-12.ensures is_10 in
+    let is_12 = added (flag_rule (codes "fsync")) _ _ _ _ c.flag-5.ensures c.in_ok-command.ensures is_11 in
+    is_12

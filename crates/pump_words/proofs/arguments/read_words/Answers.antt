@@ -55,4 +55,6 @@ returns-clause-asked c =
       no_sum = λ reported. c.get_flag-3.ensures.other (flag_said words c.in_ok-matches.matches (codes "sha256") said ∙ reported);
       force = λ reported. c.get_flag-4.ensures.value (flag_said words c.in_ok-matches.matches (codes "force") said ∙ reported);
       no_force = λ reported. c.get_flag-4.ensures.other (flag_said words c.in_ok-matches.matches (codes "force") said ∙ reported);
+      sync = λ reported. c.get_flag-5.ensures.value (flag_said words c.in_ok-matches.matches (codes "fsync") said ∙ reported);
+      no_sync = λ reported. c.get_flag-5.ensures.other (flag_said words c.in_ok-matches.matches (codes "fsync") said ∙ reported);
     }
