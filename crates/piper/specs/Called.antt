@@ -21,7 +21,7 @@ pub as_called : (waker : Waker) → WasCalled waker
 unfolding WasCalled
 as_called waker = tt
 
--- this waker was dropped, which wakes its task, too
+-- this waker was dropped, which wakes its task as a call does
 pub WasLetGo : Waker → Type 0
 WasLetGo waker = ⊤
 

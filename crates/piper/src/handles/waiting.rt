@@ -10,8 +10,8 @@ use futures::task::{Context, Poll, Source, Waker};
 use piper_protocol::table::{Action, Found};
 use piper_ring::{Away, LeftWakers, Side, SlotEnd};
 
-/// Registers in the side's slot, and reports whether a waker was granted. Where the other side has
-/// just taken whoever was registered there, the task asks for another poll in place of that.
+/// Registers in the side's slot, and reports whether a waker was granted. If the other side has just
+/// taken whoever was registered there, the task asks for another poll in place of that.
 #[inline(never)]
 pub(crate) fn register<E: SlotEnd>(
     side: &mut Side<E, Waker>,
@@ -46,8 +46,8 @@ pub(crate) fn register<E: SlotEnd>(
 }
 
 /// A waker of the task that is polled, which waits at `source`, in place of the one that its slot
-/// held: that is the same if it is of this task, and else it is woken. Where none can be made, the
-/// task has asked for another poll.
+/// held: that is the same if it is of this task, and else it is woken. If none can be made, the task
+/// has asked for another poll.
 fn grant(held: Option<Waker>, source: &Source, cx: &mut Context<'_>) -> Option<Waker>
     ensures covered { Covers cx.new (λ s. s ≡ source.now.id) }
     ensures calm { JustRegistered held cx.new }
@@ -150,8 +150,8 @@ pub(crate) fn wake_other<E: SlotEnd>(side: &mut Side<E, Waker>)
     }
 }
 
-/// The rest of `wake_other`, where someone waits. It is a function of its own, so that the path of
-/// a flowing pipe stays short.
+/// The rest of `wake_other`, if someone waits. It is a function of its own: the path of a flowing
+/// pipe stays short.
 #[cold]
 #[inline(never)]
 pub(crate) fn wake_waiting<E: SlotEnd>(side: &mut Side<E, Waker>)
