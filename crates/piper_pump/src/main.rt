@@ -12,6 +12,7 @@ mod outputs;
 mod program;
 mod progress;
 mod running;
+mod sizing;
 mod streams;
 
 use crate::command_line::CommandLine;
