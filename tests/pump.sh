@@ -278,15 +278,6 @@ try 'a name that is empty' 10 3 "^piper_pump: '': No such" '$pump -i ""'
 try 'a name that controls a terminal' 10 3 "^piper_pump: \$'a.033b': No such" "\$pump -i \$'a\\033b'"
 try 'a word that controls a terminal' 10 2 "unexpected argument '--.033b'" "\$pump \$'--\\033b'"
 try_silent 'a reader that left, silently' 10 141 '$pump < file | head -c 1 > /dev/null; exit ${PIPESTATUS[0]}'
-cat > dumb.py <<'PYTHON'
-import os, pty, subprocess
-near, far = pty.openpty()
-child = subprocess.Popen([os.environ["pump"], "--progress"], stdin=open("src"), stdout=subprocess.DEVNULL, stderr=far, env={"TERM": "dumb"})
-os.close(far)
-told = os.read(near, 1000)
-assert child.wait() == 0 and b"\x1b" not in told and told.endswith(b"\r\n"), told
-PYTHON
-try_silent 'a terminal that knows no sequences' 10 0 'python3 dumb.py'
 
 # The last line of progress is that of the whole, and ends the line on a terminal.
 cat > whole.py <<'PYTHON'

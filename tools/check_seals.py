@@ -95,6 +95,7 @@ SEALS = {
     "as_opened": ("pump_files/specs/Handle", ["pump_files/proofs/handle/Handle/open"]),
     "as_answer_of": ("pump_files/specs/Handle", ["pump_files/proofs/handle/Handle/metadata"]),
     "as_answer_for": ("pump_files/specs/Handle", ["pump_files/proofs/handle/ask"]),
+    "as_synced": ("pump_files/specs/Handle", ["pump_files/proofs/handle/Handle/sync"]),
     "as_resized": ("pump_files/specs/Handle", ["pump_files/proofs/handle/Handle/resize"]),
     "as_empty": ("pump_files/specs/Handle", ["pump_files/proofs/handle/Handle/metadata"]),
     "as_all_open": ("pump_files/specs/AllOpen", ["pump_files/proofs/all_open/all_open"]),

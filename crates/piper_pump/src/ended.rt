@@ -153,6 +153,9 @@ impl Ended {
         }
     }
 
+    // It is not inlined, nor is `report_words`: the first thread, whose stack may be small, ends well
+    // without the space for their texts.
+    #[inline(never)]
     fn say_why(&self, rt: &impl Eprint, names: &EndNames, status: u8) -> ExitCode
         ensures status { exit_status result ≡ status }
         ensures said { IsWhySaid self.now }
@@ -259,6 +262,7 @@ impl Display for Why<'_> {
 
 // Prints the help or the version, or why the words are refused. A help that can't be printed is an
 // output that failed.
+#[inline(never)]
 fn report_words<R: Print + Eprint + AllocGlobal>(rt: &R, error: &clap::Error) -> u8
     ensures shown { IsShown error.now → IsOfPrint result }
     ensures refused { ¬ IsShown error.now → result ≡ 2 }

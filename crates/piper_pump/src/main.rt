@@ -12,6 +12,7 @@ mod outputs;
 mod program;
 mod progress;
 mod running;
+mod sizing;
 mod streams;
 
 use crate::command_line::CommandLine;
@@ -21,7 +22,6 @@ use crate::program::{Nothing, STACK, run_and_report};
 use crate::streams::{Streams, is_open};
 use piper_transfer::Plain;
 use pump_files::files::SystemFile;
-use std::env;
 use std::io::IsTerminal;
 use std::process::ExitCode;
 use std::thread::Builder;
@@ -31,7 +31,7 @@ fn main(rt: HostRuntime) -> ExitCode {
         has_input: is_open(&rt.stdin()),
         has_output: is_open(&rt.stdout()),
         has_error: is_open(&rt.stderr()),
-        redraws: rt.stderr().is_terminal() && !is_dumb(&rt),
+        redraws: rt.stderr().is_terminal(),
     };
     let _fillers = match streams.fill(&rt) {
         Ok(fillers) => fillers,
@@ -55,12 +55,4 @@ fn main(rt: HostRuntime) -> ExitCode {
         (refused.value)();
     }
     outcome.report(&rt)
-}
-
-// Whether the terminal is said to know no control sequences.
-fn is_dumb(rt: &HostRuntime) -> bool {
-    match env::var(rt, "TERM") {
-        Ok(term) => term.as_str() == "dumb",
-        Err(_) => false,
-    }
 }

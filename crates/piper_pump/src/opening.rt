@@ -12,22 +12,19 @@ ghost use Rattle.piper_pump.specs.Ends.{Awaits};
 ghost use Rattle.pump_files.specs.Files.{IsJust};
 ghost use Rattle.pump_files.specs.Found.{IsFound, IsFoundAtStream, IsFoundOfReports};
 ghost use Rattle.pump_files.specs.Handle.{IsAnswerFor};
-ghost use Rattle.pump_files.specs.declared.attributes.Attributes.{Attributes};
-ghost use Rattle.pump_files.specs.declared.attributes.Kind.TheVariants.{Regular};
 ghost use Rattle.pump_files.specs.declared.streams.Stream.TheVariants as stream;
 ghost use Rattle.piper_pump.specs.Opening.{AreDistinct, AreFoundApart, AreSyncedAs, AreTold, HoldNothing};
 ghost use Rattle.piper_pump.specs.Opening.{IsFoundAt, IsFoundByName, IsFoundOpen, OpensNamed};
-ghost use Rattle.piper_pump.specs.Opening.{ReadsNamed, TellsSize, WritesNamed, founds_of, ids_of};
+ghost use Rattle.piper_pump.specs.Opening.{ReadsNamed, WritesNamed, founds_of, ids_of};
 ghost use Rattle.pump_files.specs.Pace.{HasRate};
 
 use crate::ended::{Ended, Unopened};
 use crate::ends::{Drain, Inlet, Opening, Outlet};
 use piper_protocol::reported::reported;
 use piper_transfer::{Destination, Source};
-use pump_files::attributes::{Attributes, Kind};
+use pump_files::attributes::Kind;
 use pump_files::files::{NamedFile, Opens};
 use pump_files::found::{FileId, Found};
-use pump_files::handle::ask;
 use pump_files::sinks::{FOLDER, HOLDS_BYTES, Sink};
 use pump_files::streams::Stream;
 use pump_words::arguments::Arguments;
@@ -410,31 +407,4 @@ fn refuse_held<F: NamedFile>(alloc: Global, sink: &Sink<F>) -> Result<(), Ended>
     }
     let error = io::Error::other(HOLDS_BYTES);
     Err(Ended::NoOutput(Unopened::new(alloc, sink.name.as_str(), error)?))
-}
-
-/// How many bytes the input has, from where it is read on, if it is a regular file.
-pub fn size_of<R, F, S>(rt: &R, input: &Inlet<S, F>) -> Option<u64>
-where
-    R: Files,
-    F: NamedFile,
-    S: Source + Drop,
-    ensures { (read : Result Attributes Error) × IsOfStd read × TellsSize read result }
-{
-    match input {
-        Inlet::File(file) => len_of(&file.attributes().ok()?),
-        Inlet::Standard(_) => {
-            let len = len_of(&ask(rt, Stream::Input.name()).ok()?)?;
-            Some(len.saturating_sub(Stream::Input.position().unwrap_or(0)))
-        }
-    }
-}
-
-fn len_of(attributes: &Attributes) -> Option<u64>
-    ensures file { attributes.now.kind ≡ Regular → result ≡ Some attributes.now.len }
-    ensures other { attributes.now.kind ≢ Regular → result ≡ None }
-{
-    match attributes.kind {
-        Kind::Regular => Some(attributes.len),
-        _ => None,
-    }
 }

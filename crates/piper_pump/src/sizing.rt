@@ -1,0 +1,42 @@
+//! How many bytes the input has.
+ghost use Rattle.std.specs.Prelude.{◌≡◌, ◌≢◌, None, Result, Some};
+ghost use Rattle.std.specs.declared.io.Error.{Error};
+ghost use Rattle.piper_protocol.specs.Reported.{IsOfStd};
+ghost use Rattle.piper_pump.specs.Opening.{TellsSize};
+ghost use Rattle.pump_files.specs.declared.attributes.Attributes.{Attributes};
+ghost use Rattle.pump_files.specs.declared.attributes.Kind.TheVariants.{Regular};
+
+use crate::ends::Inlet;
+use piper_transfer::Source;
+use pump_files::attributes::{Attributes, Kind};
+use pump_files::files::NamedFile;
+use pump_files::handle::ask;
+use pump_files::streams::Stream;
+use std::fs::Files;
+
+/// How many bytes the input has, from where it is read on, if it is a regular file.
+pub fn size_of<R, F, S>(rt: &R, input: &Inlet<S, F>) -> Option<u64>
+where
+    R: Files,
+    F: NamedFile,
+    S: Source + Drop,
+    ensures { (read : Result Attributes Error) × IsOfStd read × TellsSize read result }
+{
+    match input {
+        Inlet::File(file) => len_of(&file.attributes().ok()?),
+        Inlet::Standard(_) => {
+            let len = len_of(&ask(rt, Stream::Input.name()).ok()?)?;
+            Some(len.saturating_sub(Stream::Input.position().unwrap_or(0)))
+        }
+    }
+}
+
+fn len_of(attributes: &Attributes) -> Option<u64>
+    ensures file { attributes.now.kind ≡ Regular → result ≡ Some attributes.now.len }
+    ensures other { attributes.now.kind ≢ Regular → result ≡ None }
+{
+    match attributes.kind {
+        Kind::Regular => Some(attributes.len),
+        _ => None,
+    }
+}
