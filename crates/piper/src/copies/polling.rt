@@ -2,6 +2,7 @@
 ghost use Rattle.std.specs.Prelude.{◌≡◌, ◌≤◌, ◌++◌, take, drop, Ok};
 ghost use Rattle.std.specs.Borrow.{sem};
 ghost use Rattle.std.specs.Io.BufRead.{Rests};
+ghost use Rattle.futures.specs.Poll.{OnPending};
 ghost use Rattle.futures.specs.Task.{Keeps};
 ghost use Rattle.piper.specs.Called.{CallsTaken};
 ghost use Rattle.piper.specs.Contexts.{WantsWaker};
@@ -13,6 +14,26 @@ use crate::handles::{Reader, Writer};
 use crate::io::{AsyncBufRead, AsyncRead, AsyncWrite};
 use futures::task::{Context, Poll};
 use piper_ring::OutOfMemory;
+
+impl Reader {
+    ghost use Rattle.piper.specs.Handles.{SameReaderButWaits};
+    ghost use Rattle.piper.specs.Looks.{OnRefused};
+    ghost use Rattle.piper.specs.ReaderCalls.{Polled, PollsEnd};
+    ghost use Rattle.piper.specs.Waits.{ReaderIsRefused, ReaderPends};
+
+    // `poll`, as a call of its own: a reader of lines is shorter by it.
+    #[inline(never)]
+    fn poll_by_call(&mut self, cx: &mut Context<'_>) -> Poll<Result<bool, OutOfMemory>>
+        ensures found { Polled result self.old self.new }
+        ensures end { PollsEnd result self.old self.new }
+        ensures pending { OnPending result (ReaderPends self.old self.new cx.new) }
+        ensures memory { OnRefused result (ReaderIsRefused self.new cx.new) }
+        ensures context { Keeps cx.old cx.new }
+        ensures rest { SameReaderButWaits self.old self.new }
+    {
+        self.poll(cx)
+    }
+}
 
 impl AsyncRead for Reader {
     ghost use Rattle.piper.specs.Handles.{NotifiesWriter, read_source};
@@ -87,7 +108,7 @@ impl AsyncBufRead for Reader {
             × LendsPiece result self.old new cx.new)) }
         ensures context { Keeps cx.old cx.new }
     {
-        match self.poll(cx) {
+        match self.poll_by_call(cx) {
             Poll::Pending => Poll::Pending,
             Poll::Ready(Ok(_)) => Poll::Ready(Ok(self.peek_buf())),
             Poll::Ready(Err(OutOfMemory)) => Poll::Ready(Err(PipeError::Memory)),
