@@ -91,7 +91,6 @@ SEALS = {
         ["piper_pump/proofs/ends/Outlet/open", "piper_pump/proofs/ends/OutletDestination/write"],
     ),
     "as_returned": ("piper_pump/specs/Outcome", ["piper_pump/proofs/running/run"]),
-    "as_seekable": ("pump_files/specs/Streams", ["pump_files/proofs/streams/Stream/has_position"]),
     "as_opened": ("pump_files/specs/Handle", ["pump_files/proofs/handle/Handle/open"]),
     "as_answer_of": ("pump_files/specs/Handle", ["pump_files/proofs/handle/Handle/metadata"]),
     "as_answer_for": ("pump_files/specs/Handle", ["pump_files/proofs/handle/ask"]),

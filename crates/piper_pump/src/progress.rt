@@ -8,7 +8,6 @@ ghost use Rattle.pump_files.specs.Pace.{IsOfClock};
 
 use piper_protocol::reported::reported;
 use piper_transfer::{Meter, is_lasting};
-use pump_files::saying::takes_a_line;
 use pump_words::lines::{Done, Line};
 use std::io;
 use std::sync::{Condvar, Mutex, Wait};
@@ -202,8 +201,7 @@ fn elapsed(clock: &impl Clock, since: Option<Instant>) -> Duration {
     }
 }
 
-// Prints a line, or draws it over the one before: then a terminal that is too narrow cuts it off. One
-// that would wait for who reads it is left out.
+// Prints a line, or draws it over the one before: then a terminal that is too narrow cuts it off.
 fn print(
     rt: &impl Eprint,
     line: &Line,
@@ -213,9 +211,6 @@ fn print(
 ) -> io::Result<()>
     ensures { IsOfStd result }
 {
-    if !takes_a_line() {
-        return reported(Ok(()));
-    }
     let (before, after) = match (redraws, is_last) {
         (false, _) => ("", "\n"),
         (true, false) => ("\r\u{1b}[?7l", "\u{1b}[K\u{1b}[?7h"),

@@ -12,12 +12,13 @@ use pump_files::attributes::{Attributes, Kind};
 use pump_files::files::NamedFile;
 use pump_files::handle::ask;
 use pump_files::streams::Stream;
-use std::fs::Files;
+use std::alloc::AllocGlobal;
+use std::fs::{self, Files};
 
 /// How many bytes the input has, from where it is read on, if it is a regular file.
 pub fn size_of<R, F, S>(rt: &R, input: &Inlet<S, F>) -> Option<u64>
 where
-    R: Files,
+    R: Files + AllocGlobal,
     F: NamedFile,
     S: Source + Drop,
     ensures { (read : Result Attributes Error) × IsOfStd read × TellsSize read result }
@@ -26,7 +27,7 @@ where
         Inlet::File(file) => len_of(&file.attributes().ok()?),
         Inlet::Standard(_) => {
             let len = len_of(&ask(rt, Stream::Input.name()).ok()?)?;
-            Some(len.saturating_sub(Stream::Input.position().unwrap_or(0)))
+            Some(len.saturating_sub(position(rt).unwrap_or(0)))
         }
     }
 }
@@ -39,4 +40,12 @@ fn len_of(attributes: &Attributes) -> Option<u64>
         Kind::Regular => Some(attributes.len),
         _ => None,
     }
+}
+
+// How many bytes of standard input were read before, as the system reports in its first line:
+// `pos:` and a number.
+fn position<R: Files + AllocGlobal>(rt: &R) -> Option<u64> {
+    let reported = fs::read_to_string(rt, "/proc/self/fdinfo/0").ok()?;
+    let line = reported.as_str().lines().next()?;
+    line.strip_prefix("pos:")?.trim().parse::<u64>().ok()
 }

@@ -3,7 +3,7 @@ use Rattle.std.specs.Prelude.{◌≡◌, ◌⊎◌, Bool, true, false, Option, S
 use Rattle.std.specs.declared.io.Error.{Error}
 use Rattle.piper_protocol.specs.Reported.{IsOfStd}
 use Rattle.pump_files.specs.Handle.{IsAnswerFor}
-use Rattle.pump_files.specs.Streams.{IsSeekable, name_of}
+use Rattle.pump_files.specs.Streams.{name_of}
 use Rattle.pump_files.specs.declared.attributes.Attributes.{Attributes}
 use Rattle.pump_files.specs.declared.attributes.Kind.{Kind}
 use Rattle.pump_files.specs.declared.attributes.Kind.TheVariants as kind
@@ -37,19 +37,18 @@ abbrev pub TellsFound : Result Attributes Error → Found → Type 0
 TellsFound (Ok a) found = (found.id ≡ id_of a.kind a) × (found.holds ≡ holds_of a.kind a)
 TellsFound (Err e) found = IsOther found
 
--- the same of a standard stream. Where the system says nothing of its name, one that has no position
--- is no file that is told from others; which file another one is can't be told
-abbrev pub TellsStream : Stream → Result Attributes Error → Found → Type 0
-TellsStream s (Ok a) found = TellsFound (Ok a) found
-TellsStream s (Err e) found =
-    (IsSeekable s true × (found.id ≡ Some id.Untold)) ⊎ (IsSeekable s false × IsOther found)
+-- the same of a standard stream. If the system says nothing of its name, it can't be told which file
+-- it is
+abbrev pub TellsStream : Result Attributes Error → Found → Type 0
+TellsStream (Ok a) found = TellsFound (Ok a) found
+TellsStream (Err e) found = found.id ≡ Some id.Untold
 
 -- the same of standard error, but for a pipe: what is reported may go where the bytes go, if that is
 -- one
 abbrev pub TellsReports : Result Attributes Error → Found → Type 0
 TellsReports (Ok a) found =
-    ((a.kind ≡ kind.Fifo) × IsOther found) ⊎ TellsStream stream.Error (Ok a) found
-TellsReports (Err e) found = TellsStream stream.Error (Err e) found
+    ((a.kind ≡ kind.Fifo) × IsOther found) ⊎ TellsStream (Ok a) found
+TellsReports (Err e) found = TellsStream (Err e) found
 
 -- this is what such an answer of the system tells, by such a rule
 pub record Tells (IsAsked Is : Result Attributes Error → Type 0) : Type 0 where
@@ -63,7 +62,7 @@ IsFound IsAsked found = Tells IsAsked (λ read. TellsFound read found)
 
 -- this was found of a standard stream that is read or written
 abbrev pub IsFoundAtStream : Stream → Found → Type 0
-IsFoundAtStream s found = Tells (IsAnswerFor (name_of s)) (λ read. TellsStream s read found)
+IsFoundAtStream s found = Tells (IsAnswerFor (name_of s)) (λ read. TellsStream read found)
 
 -- this was found of standard error
 abbrev pub IsFoundOfReports : Found → Type 0

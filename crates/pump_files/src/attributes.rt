@@ -6,6 +6,17 @@ ghost use Rattle.pump_files.specs.Attributes.{kind_of};
 use std::fs::Metadata;
 use std::os::unix::fs::MetadataExt;
 
+/// The bits of a mode that say which kind of file it is, and what they are for the kinds below.
+const KIND: u32 = 0o170000;
+
+const REGULAR: u32 = 0o100000;
+
+const FOLDER: u32 = 0o040000;
+
+const BLOCK_DEVICE: u32 = 0o060000;
+
+const FIFO: u32 = 0o010000;
+
 /// Kinds of files, as far as they are told apart here.
 #[derive(Clone, Copy, PartialEq, Eq)]
 pub enum Kind {
@@ -35,11 +46,11 @@ pub(crate) fn attributes_of(metadata: &Metadata) -> Attributes
     ensures kind { result.kind ≡ kind_of (bit_and (metadata_mode metadata.now) 0o170000) }
     ensures len { result.len ≡ metadata_len metadata.now }
 {
-    let kind = match metadata.mode() & libc::S_IFMT {
-        libc::S_IFREG => Kind::Regular,
-        libc::S_IFDIR => Kind::Folder,
-        libc::S_IFBLK => Kind::BlockDevice,
-        libc::S_IFIFO => Kind::Fifo,
+    let kind = match metadata.mode() & KIND {
+        REGULAR => Kind::Regular,
+        FOLDER => Kind::Folder,
+        BLOCK_DEVICE => Kind::BlockDevice,
+        FIFO => Kind::Fifo,
         _ => Kind::Other,
     };
     Attributes {

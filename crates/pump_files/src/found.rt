@@ -55,7 +55,7 @@ impl Found {
     pub fn of_stream(files: &impl Files, stream: Stream) -> Found
         ensures { IsFoundAtStream stream result }
     {
-        of_stream_by(stream, &ask(files, stream.name()))
+        of_stream_by(&ask(files, stream.name()))
     }
 
     /// Of standard error. A pipe is not told from others there: what is reported may go where the
@@ -66,16 +66,16 @@ impl Found {
         let answer = ask(files, Stream::Error.name());
         match &answer {
             Ok(attributes) if attributes.kind == Kind::Fifo => nothing(),
-            _ => of_stream_by(Stream::Error, &answer),
+            _ => of_stream_by(&answer),
         }
     }
 }
 
 // What the system's answer tells of a standard stream, about which it was asked by its name.
-fn of_stream_by(stream: Stream, answer: &io::Result<Attributes>) -> Found
-    ensures { TellsStream stream answer.now result }
+fn of_stream_by(answer: &io::Result<Attributes>) -> Found
+    ensures { TellsStream answer.now result }
 {
-    if answer.is_err() && stream.has_position() {
+    if answer.is_err() {
         return Found {
             id: Some(FileId::Untold),
             holds: true,

@@ -18,7 +18,7 @@ use crate::files::{NamedFile, Opens};
 use crate::found::Found;
 use crate::made::{self, Made};
 use crate::names::Shown;
-use crate::saying::{say, say_at_once};
+use crate::saying::say;
 use piper_protocol::reported::reported;
 use std::alloc::Global;
 use std::fmt::{Display, Formatter};
@@ -233,7 +233,7 @@ impl<F: NamedFile> Sink<F> {
     {
         self.has_failed = true;
         let name = self.name.as_str();
-        if !say_at_once(rt, Loss { name, error }) {
+        if !say(rt, Loss { name, error }) {
             self.unsaid = Some(error);
         }
     }
