@@ -19,13 +19,13 @@ abbrev pub id_of : Kind → Attributes → Option FileId
 id_of kind.Regular a = Some (id.Inode a.device a.inode)
 id_of kind.Fifo a = Some (id.Inode a.device a.inode)
 id_of kind.BlockDevice a = Some (id.Device a.node)
-id_of other a = None
+id_of _ a = None
 
 -- whether it holds bytes, as a block device always does
 abbrev pub holds_of : Kind → Attributes → Bool
 holds_of kind.Regular a = nat_lt 0 a.len
 holds_of kind.BlockDevice a = true
-holds_of other a = false
+holds_of _ a = false
 
 -- it is told from no other, and holds nothing
 pub record IsOther (found : Found) : Type 0 where
