@@ -29,8 +29,8 @@ impl Reader {
 
     /// How many bytes are unread now.
     ///
-    /// Returns: at least as many as are known or were reported by a mark, and at most the capacity.
-    /// The writer may publish more at any time.
+    /// Returns: a count of at most the capacity. It includes each known byte, and each byte that a
+    /// mark reported and the reader has not taken. The writer may publish more at any time.
     pub fn len(&self) -> usize
         ensures { MayBeUnread self.now result }
     {
@@ -62,7 +62,7 @@ impl Reader {
     /// unread.
     ///
     /// Returns: always `true` if this reader saw the pipe closed or learned it from a mark. Once it
-    /// is `true` it stays so.
+    /// is `true` it stays so (not proved).
     pub fn is_closed(&self) -> bool
         ensures saw { saw self.now ≡ true → IsTrue result }
         ensures told { told_shut self.now ≡ true → IsTrue result }
@@ -102,8 +102,8 @@ impl Reader {
 
     /// Lends the known bytes that are contiguous, the next one first.
     ///
-    /// Returns: at least one byte if any is known. An empty slice is not the end: a poll may find
-    /// more. The slice stays as it is while the writer publishes.
+    /// Returns: at least one byte if any is known. An empty slice does not say that the pipe is at
+    /// its end: a poll may find more. The slice stays as it is while the writer publishes.
     pub fn peek_buf(&self) -> &[u8]
         ensures bytes { result.now ≡ take (front self.now) (known self.now) }
         ensures length { length result.now ≡ front self.now }
@@ -221,7 +221,7 @@ impl Writer {
     /// Whether the pipe is closed now: the reader was dropped, or this writer closed it.
     ///
     /// Returns: always `true` if this writer saw the pipe closed, or closed it. Once it is `true`
-    /// it stays so.
+    /// it stays so (not proved).
     pub fn is_closed(&self) -> bool
         ensures saw { saw self.now ≡ true → IsTrue result }
         ensures found { FoundClosed (ring self.now).names result }
@@ -287,7 +287,7 @@ impl Writer {
     /// more.
     ///
     /// Returns: `Ok(())`, at once and always: the result has the form of the trait's.
-    /// Wakes: the reader, if it waits, and a task that waits at this writer.
+    /// Wakes: the reader, if it waits. No waker of this writer is left.
     pub fn poll_close(&mut self, cx: &mut Context<'_>) -> Poll<Result<(), OutOfMemory>>
         ensures ran { Ran (Point.Writer (WritePoint.StoreClosed AfterWrite.WakeWriter)) Answer.Done
             (log self.old) (log self.new) }

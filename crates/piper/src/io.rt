@@ -190,6 +190,7 @@ pub trait AsyncWrite {
 
     /// Waits until what was written is on its way.
     ///
+    /// Returns: `Ok(())` once all of it is.
     /// Pending: some of it is not yet. No byte is published by this call.
     /// Errors: those of the type.
     fn poll_flush(&mut self, cx: &mut Context<'_>) -> Poll<Result<(), PipeError>>
@@ -204,6 +205,7 @@ pub trait AsyncWrite {
 
     /// Closes the pipe for good, with what was written on its way.
     ///
+    /// Returns: `Ok(())` once all of it is, and this writer saw the pipe closed.
     /// Pending: some of it is not yet, or the pipe is not closed yet. No byte is published by this
     /// call.
     /// Errors: those of the type.

@@ -59,7 +59,7 @@ impl Model for OwnedWriter {
 /// Requires: `cap` is at least 1 and less than 2^63.
 /// Returns: both owners. The random generators begin as those of `pipe` with the seed
 /// `DEFAULT_SEED`.
-/// Errors: `OutOfMemory` if memory is refused; what was allocated is freed.
+/// Errors: `OutOfMemory` if memory is refused. Then nothing stays allocated (not proved).
 pub fn owned_pipe(alloc: Global, cap: usize) -> Result<(OwnedReader, OwnedWriter), OutOfMemory>
     requires { (0 < cap) × (2 * cap < 2 ^ 64) }
     ensures pair { IfOk result (λ (reader, writer). ArePair reader writer) }

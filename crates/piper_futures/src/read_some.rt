@@ -22,7 +22,7 @@ pub struct ReadOnce<R> {
 ///
 /// Returns: a future of the reader, `places`, and how many bytes came: 0 is the end, if there are
 /// places.
-/// Pending: no byte has come.
+/// Pending: the reader knows no byte, and its call is pending.
 /// Errors: the reader's own. `left` has the reader, and `places` as they were.
 /// Cancel safety: a dropped future has taken no byte.
 pub fn read<R: AsyncRead + Drop>(reader: R, places: Vec<u8>) -> ReadOnce<R>

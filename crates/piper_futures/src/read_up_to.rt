@@ -25,7 +25,7 @@ pub struct ReadExact<R> {
 /// Requires: `bytes` has at most `size` bytes.
 /// Returns: a future of the reader and `bytes`, which has fewer than `size` only at the reader's
 /// end.
-/// Pending: no byte has come.
+/// Pending: the reader knows no byte, and its call is pending.
 /// Errors: the reader's own; or `Memory`, before the bytes are taken that lack room. `left` has the
 /// reader, and `bytes` with all that was taken.
 /// Cancel safety: a dropped future drops `bytes`, with all that was taken.

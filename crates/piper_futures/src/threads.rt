@@ -71,8 +71,7 @@ impl<D: Write> Promise<Result<(OwnedReader, D), Failed<Option<Drained<D>>>>> for
 /// Until the join what was read of the pipe may be only a part of the source.
 ///
 /// Returns: a handle whose `join` gives the source with the writer's last mark, and why it ended;
-/// or the failure of `fill_from`, with `None` left if the thread's own wait failed for want of
-/// memory.
+/// or the failure of `fill_from`; or, with `None` left, the error of the thread's own wait.
 /// Errors: no thread can be made. The writer and `source` are dropped.
 pub fn spawn_fill<H, S>(
     rt: &H,
@@ -98,8 +97,8 @@ where
 /// Starts a thread that moves all bytes of the pipe into `dest`, as `drain_into` does. If that
 /// fails the thread drops the reader, which closes the pipe.
 ///
-/// Returns: a handle whose `join` gives the reader and `dest`; or the failure of `drain_into`, with
-/// `None` left if the thread's own wait failed for want of memory.
+/// Returns: a handle whose `join` gives the reader and `dest`; or the failure of `drain_into`; or,
+/// with `None` left, the error of the thread's own wait.
 /// Errors: no thread can be made. The reader and `dest` are dropped.
 pub fn spawn_drain<H, D>(
     rt: &H,

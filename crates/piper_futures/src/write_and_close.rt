@@ -24,8 +24,8 @@ pub struct WriteAllAndClose<'a, W> {
 /// Writes all bytes, in order, closes the writer, and drops it, also if it fails. So the other side
 /// gets its end while a `join` still holds what this future gave.
 ///
-/// It asks for no memory. If the writer has not seen its pipe closed before it closes it, all
-/// counted bytes are published; in the poll that sees it closed some may be lost.
+/// It asks for no memory of its own. If the writer has not seen its pipe closed before it closes
+/// it, all counted bytes are published; in the poll that sees it closed some may be lost.
 ///
 /// Returns: a future of how many bytes the writer counted: fewer than all only if its pipe was
 /// closed before.

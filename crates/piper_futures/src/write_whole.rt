@@ -21,8 +21,8 @@ pub struct WriteAll<'a, W> {
 
 /// Writes all bytes, in order.
 ///
-/// It asks for no memory. As long as the writer has not seen its pipe closed, all counted bytes are
-/// published; in the poll that sees it closed some may be lost.
+/// It asks for no memory of its own. As long as the writer has not seen its pipe closed, all
+/// counted bytes are published; in the poll that sees it closed some may be lost.
 ///
 /// Returns: a future of the writer and how many bytes it counted: fewer than all only if its pipe
 /// is closed.

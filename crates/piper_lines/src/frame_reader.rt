@@ -130,8 +130,8 @@ impl<R: AsyncBufRead> Frames<R> {
     /// After `TooLong` the caller can `skip` the frame, ask again with another limit, or stop.
     ///
     /// Returns: whether `frame` is a whole body, or why there is none; then it is empty.
-    /// Pending: the reader knows no byte, and its call is pending; or 64 pieces of a skipped frame
-    /// were passed over, and the task is polled again. `frame` is empty.
+    /// Pending: the reader knows no byte, and its call is pending; or bytes of a skipped frame were
+    /// passed over, 64 pieces as it is now, and the task is polled again. `frame` is empty.
     /// Errors: the reader's own; or `Memory`, before the bytes are taken that lack room. `frame` is
     /// empty.
     /// Cancel safety: the next poll goes on from where this one ended. What was taken of an

@@ -20,7 +20,7 @@ use std::io;
 
 /// Writes each piece of bytes that it is sent as it is, whole and in order.
 ///
-/// It holds one piece at a time, and asks for no memory.
+/// It holds one piece at a time, and asks for no memory of its own.
 ///
 /// Cancel safety: a `send` that is dropped after `start_send` leaves its piece in the sink, and the
 /// next call writes it on. A dropped sink drops what is left of its piece.

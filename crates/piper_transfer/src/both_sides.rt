@@ -48,7 +48,7 @@ pub struct Sizes {
 }
 
 /// Moves all bytes from the reader to the writer, through a pipe: one thread reads while the other
-/// writes. If a second thread is refused, both sides take turns on this one.
+/// writes. If a second thread is refused, or is late, both sides take turns on this one.
 ///
 /// It ends at the input's end, once all of it is written, or at the first failure of either side. A
 /// read or a write that is interrupted is made again, and so is one that would block, after a sleep

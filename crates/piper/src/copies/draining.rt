@@ -159,7 +159,8 @@ impl Reader {
     ///
     /// Returns: how many bytes `dest` took. 0 is the end, for good, or `dest` took none though
     /// bytes are known.
-    /// Pending: no byte is known, and the pipe was not seen closed. No task is registered.
+    /// Pending: no byte is known, and the pipe was not seen closed. The call registers no task; one
+    /// that was registered before stays so.
     /// Errors: `Like`, with the error of `dest`: as `Io` of `poll_drain`.
     /// Wakes: the writer, if it waits and a byte was moved.
     #[inline(always)]

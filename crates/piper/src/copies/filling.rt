@@ -148,7 +148,8 @@ impl Writer {
     ///
     /// Returns: how many bytes `source` gave. 0 says that the pipe is closed, for good, or that
     /// `source` gave none.
-    /// Pending: there is no room, and the pipe was not seen closed. No task is registered.
+    /// Pending: there is no room, and the pipe was not seen closed. The call registers no task; one
+    /// that was registered before stays so.
     /// Errors: `Like`, with the error of `source`: as `Io` of `poll_fill`.
     /// Wakes: the reader, if it waits and a byte was published.
     #[inline(always)]

@@ -67,8 +67,8 @@ impl Reader {
 
     /// Heeds the last mark of the writer that was dropped; its bytes become known at the next look.
     ///
-    /// If the reader waits in its slot, the writer took its waker as it left, and called it. `left`
-    /// stays as it was: the proof alone needs a `&mut`.
+    /// If the reader waits in its slot, the writer has taken its waker and called it, at the latest
+    /// when it left. `left` stays as it was: the proof alone needs a `&mut`.
     ///
     /// Requires: the mark is of the same pipe.
     pub fn meet_finished(&mut self, left: &mut FinishedWriter)
@@ -126,8 +126,8 @@ impl Writer {
 
     /// Heeds the last mark of the reader that was dropped, as `heed_last` does.
     ///
-    /// If the writer waits in its slot, the reader took its waker as it left, and called it. `left`
-    /// stays as it was: the proof alone needs a `&mut`.
+    /// If the writer waits in its slot, the reader has taken its waker and called it, at the latest
+    /// when it left. `left` stays as it was: the proof alone needs a `&mut`.
     ///
     /// Requires: the mark is of the same pipe.
     pub fn meet_finished(&mut self, left: &mut FinishedReader)

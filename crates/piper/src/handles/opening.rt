@@ -15,7 +15,7 @@ use std::alloc::Global;
 /// Requires: `cap` is at least 1 and less than 2^63.
 /// Returns: both handles. The reader's random generator begins at `seed`, the writer's at `seed`
 /// with its lowest bit flipped.
-/// Errors: `OutOfMemory` if memory is refused; what was allocated is freed.
+/// Errors: `OutOfMemory` if memory is refused. Then nothing stays allocated (not proved).
 pub fn pipe(alloc: Global, cap: usize, seed: u64) -> Result<(Reader, Writer), OutOfMemory>
     requires { (0 < cap) × (2 * cap < 2 ^ 64) }
     ensures pair { IfOk result (λ (reader, writer). ArePair reader writer) }

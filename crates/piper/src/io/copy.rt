@@ -28,8 +28,8 @@ pub enum Copied {
 /// Returns: `ToTheEnd` at the reader's end; `UntilClosed` if the writer's pipe is closed and a byte
 /// was known. As long as the writer has not seen its pipe closed, all that was taken is published.
 /// The poll in which it sees the close may have lost bytes that it took, with any answer.
-/// Pending: a call of the reader or of the writer is pending; or 64 pieces were copied, and the
-/// task is polled again. A reader that was told of the end is not waited for.
+/// Pending: a call of the reader or of the writer is pending; or bytes were copied, 64 pieces as it
+/// is now, and the task is polled again. A reader that was told of the end is not waited for.
 /// Errors: that of the reader or of the writer.
 pub fn poll_copy<R: AsyncBufRead, W: AsyncWrite>(
     cx: &mut Context<'_>,

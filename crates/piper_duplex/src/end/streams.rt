@@ -158,7 +158,7 @@ impl AsyncWrite for End {
     /// read.
     ///
     /// Returns: `Ok(())`, at once and always.
-    /// Wakes: the other end's reader, if it waits, and a task that waits here for room.
+    /// Wakes: the other end's reader, if it waits. No waker of this end's writer is left.
     fn poll_close(&mut self, cx: &mut Context<'_>) -> Poll<Result<(), PipeError>>
         ensures answer { result ≡ Poll.Ready (Ok (record {})) }
         ensures woken { NotifiesReader (writing self.new)

@@ -53,9 +53,9 @@ impl LineEcho {
     /// Reads lines, and writes each back once it is whole, up to the reader's end or the close of
     /// the writer's pipe.
     ///
-    /// A line of more than `limit` bytes goes back in pieces of that many, and what follows the
-    /// last line goes back as well. As long as the writer has not seen its pipe closed, all counted
-    /// bytes are published.
+    /// A line of more than `limit` bytes goes back in pieces of that many, unless a call with a
+    /// greater limit kept more of it before. What follows the last line goes back as well. As long
+    /// as the writer has not seen its pipe closed, all counted bytes are published.
     ///
     /// Requires: `limit`, which counts the byte that ends a line, is at least 1.
     /// Returns: why it ended.

@@ -20,8 +20,8 @@ use piper::io::AsyncBufRead;
 
 /// Appends the lines of the reader to `out`, up to the reader's end.
 ///
-/// A line of more than `limit` bytes comes in pieces of that many. The first piece is longer if
-/// more was kept before, by a call with another limit.
+/// A longer line than `limit` bytes comes in pieces of that many if fewer were kept before. The
+/// first piece is longer if a call with another limit kept more.
 ///
 /// Requires: `limit`, which counts the byte that ends a line, is at least 1.
 /// Returns: what follows the last line.

@@ -95,7 +95,7 @@ impl<W: AsyncWrite + Drop> Sink<Vec<u8>> for FrameSink<W> {
     ///
     /// Requires: nothing is left of the last frame, as after `poll_ready`.
     /// Errors: one of the kind `InvalidInput`, if the header can't report the length; or `Memory`,
-    /// if there is no room for it. The body is dropped, and the sink is as it was.
+    /// only if the body has no room for it. The body is dropped, and the sink is as it was.
     fn start_send(&mut self, item: Vec<u8>) -> Result<(), PipeError>
         requires { left_of (frames_below self.old) ≡ [] }
         ensures error { IfErr result

@@ -227,7 +227,7 @@ impl tokio::io::AsyncWrite for CompatWriter {
     /// Closes the pipe for good.
     ///
     /// Returns: `Ok(())`, at once and always.
-    /// Wakes: the reader, if it waits, and a task that waits here for room.
+    /// Wakes: the reader, if it waits. No waker of this writer is left.
     fn poll_shutdown(&mut self, cx: &mut Context<'_>) -> Poll<io::Result<()>>
         ensures answer { result ≡ Poll.Ready (Ok (record {})) }
         ensures bytes { Gave (writing self.old) [] (writing self.new) }
