@@ -17,7 +17,7 @@ use core::task::{Poll, RawWakerVTable, Waker};
 /// The text that `sys` includes is that of the proved library.
 pub(crate) const IS_PROVED: bool = true;
 
-/// Opens a pipe that can hold at least one byte. Where memory is refused the program ends.
+/// Opens a pipe that can hold at least one byte. If memory is refused, the program ends.
 pub(crate) fn open(capacity: usize) -> (ReadEnd, WriteEnd) {
     let mut reader = RawReader {
         at: ptr::null_mut(),

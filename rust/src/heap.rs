@@ -142,7 +142,7 @@ fn claim_block(size: usize, align: usize) -> Option<NonNull<u8>> {
     Some(block)
 }
 
-/// How many bytes were refused last. Of threads that are refused at once one may name another's.
+/// How many bytes were refused last. If threads are refused at once, one may name another's.
 static REFUSED: AtomicUsize = AtomicUsize::new(0);
 
 /// Ends the program as an allocation does that was refused. The library gave back what it got before.

@@ -48,16 +48,16 @@
 //! - [`Writer::produced`] panics where `n` is more than what is left of the slice last lent, and
 //!   [`Reader::consume`] where `amt` is more than [`Reader::peek_buf`] shows, as they are documented
 //!   to. 0.2.5 lets more pass where it can.
-//! - `poll_close` is final for the writer, too: nothing is lent any more, and what was lent is taken
+//! - `poll_close` is final also for the writer: nothing is lent any more, and what was lent is taken
 //!   back. Every copy into the pipe ends with nothing lent.
-//! - Where the reader is dropped during a read of `Writer::poll_fill`, what was read is counted, as in
-//!   0.2.5, and published, too, so that [`Writer::len`] has it.
+//! - If the reader is dropped during a read of `Writer::poll_fill`, what was read is counted, as in
+//!   0.2.5, and it is published: [`Writer::len`] has it.
 //! - [`Reader::try_drain`] and [`Writer::try_fill`] leave the waker of an earlier poll where it is, so
 //!   that a task that waits is not forgotten.
 //! - The waker of a handle is dropped with it, and not called by the other handle later.
 //! - A copy from a slice lends no more room than the slice is long, so that less is set to 0.
 //! - A task whose waker is just being called may be polled once more than with 0.2.5.
-//! - A copy panics where a `Read` or a `Write` claims more bytes than it was handed.
+//! - A copy panics if a `Read` or a `Write` claims more bytes than it was handed.
 //! - Calls through a shared reference that ask the pipe (`len`, `is_empty`, `is_full`, `is_closed`, and
 //!   `peek_buf` after bytes were taken) wait for each other: by a lock, and without `std` by spinning.
 //! - The handles have a `Debug` that prints counts and no bytes.
@@ -65,9 +65,9 @@
 //!
 //! # The stand-in
 //!
-//! Where there is no text of the library, as for WebAssembly or 32 bits, and under Miri, which runs none, a
-//! queue that both sides use in turn stands for the library. It is not proved; all tests of this crate pass
-//! over it, too. It has the bytes of a pipe up to three times. Each call takes a lock, and without `std`
+//! If there is no text of the library, as for WebAssembly or 32 bits, and under Miri, which runs none, a
+//! queue that both sides use in turn stands for the library. It is not proved; all tests of this crate
+//! also pass over it. It has the bytes of a pipe up to three times. Each call takes a lock, and without `std`
 //! spins: there no interrupt may use a side while the code that it stops uses the other.
 //!
 //! # Under sanitizers
@@ -154,7 +154,7 @@ pub const IS_PROVED: bool = ends::IS_PROVED;
 ///
 /// # Panics
 ///
-/// If `cap` is 0, or if `cap * 2` is more than a `usize` can hold. Where memory is refused the
+/// If `cap` is 0, or if `cap * 2` is more than a `usize` can hold. If memory is refused, the
 /// program ends, as at any allocation.
 ///
 /// ```

@@ -39,7 +39,7 @@ pub(crate) struct Side {
 
 pub(crate) use self::{Side as Lender, Side as ReadEnd, Side as WriteEnd};
 
-/// Opens a pipe. Where memory is refused the program ends here.
+/// Opens a pipe. If memory is refused, the program ends here.
 pub(crate) fn open(capacity: usize) -> (ReadEnd, WriteEnd) {
     let shared = Arc::new(Turns::new(Shared::default()));
     let [reader, writer] = [(false, 0), (true, capacity)].map(|(is_writer, known)| Side {
