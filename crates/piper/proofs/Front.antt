@@ -2,7 +2,7 @@
 use Rattle.std.proofs.Common.{◌≡◌, ℕ, ◌+◌, ◌<◌, ◌≤◌, ◌⊎◌, List, [], ◌++◌, take, drop, length, sym, ap, append-nil, ◌∙◌, take_at, drop_at, length-append, length-drop, inl, inr, arith}
 use Rattle.piper.specs.Written.{written}
 use Rattle.piper.specs.declared.handles.Reader.{Reader}
-use Rattle.piper.specs.Ends.{ReaderIsUpToDate}
+use Rattle.piper.specs.Looks.{ReaderIsUpToDate}
 use Rattle.piper.specs.ReaderCalls.{Drained, OnlyLooked}
 
 module _ (old before now new moved : List ℕ) (place n : ℕ) (same : before ≡ old) (first : place ≡ 0) (count : length moved ≡ n) (is : now ≡ written before place moved) (back : new ≡ now) where

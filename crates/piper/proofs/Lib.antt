@@ -12,7 +12,7 @@ mod RoundsIn
 mod RoundsOut
 mod Wrote
 mod StaysNotified
-mod SamePlace
+mod WaitsOn
 pub mod Calling
 mod Pending
 mod RoomOrNone

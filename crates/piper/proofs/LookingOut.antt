@@ -1,8 +1,7 @@
 -- A drain's look, after which nothing was moved, or rounds moved what it found.
-use Rattle.std.proofs.Common.{◌≡◌, ℕ, ◌<◌, ◌⊎◌, [], ◌++◌, length, Result, sym, ap, ◌∙◌, subst, append-nil, length-append, arith}
+use Rattle.std.proofs.Common.{◌≡◌, ℕ, ◌<◌, ◌⊎◌, [], ◌++◌, length, Result, refl, sym, ap, ◌∙◌, subst, append-nil, length-append, arith}
 use Rattle.std.proofs.lemmas.List.{nil_from_length}
 use Rattle.futures.specs.declared.task.Poll.{Poll}
-use Rattle.piper_ring.specs.Shared.{flag}
 use Rattle.piper_ring.specs.ReadView.{ReadView}
 use Rattle.piper.specs.CopyAnswers.{Copies}
 use Rattle.piper.specs.Drains.{Drains, DrainRounds, found_len}
@@ -18,12 +17,12 @@ module _ {S E : Type 0} (takes : Passes S) (is_full : S → Type 0) (fails : S �
       → Drains takes is_full fails r a w s s
   drains_none r a w s looked copied most = record {
     moved = [];
-    taken = looked.taken ∙ sym (append-nil a.taken);
+    taken = ap (λ (v : ReadView). v.taken) looked.rest ∙ sym (append-nil a.taken);
     known = λ some. ap (λ (v : ReadView). v.known) (sym (looked.known some));
     fresh = looked.fresh;
     copied = copied;
     most = most;
-    end = record { end = looked.end; saw = looked.saw };
+    end = record { saw = looked.saw; rest = subst (λ (v : ReadView). v ≡ record a { taken = v.taken; known = v.known; saw = v.saw; all = v.all }) (sym looked.rest) refl };
   }
 
   -- rounds moved bytes after the look
@@ -31,36 +30,34 @@ module _ {S E : Type 0} (takes : Passes S) (is_full : S → Type 0) (fails : S �
     d : DrainRounds takes is_full fails r w b s t
     d = subst (λ v. DrainRounds takes is_full fails r v b s t) same rounds
 
+    same_taken : w.taken ≡ a.taken
+    same_taken = ap (λ (v : ReadView). v.taken) looked.rest
+
     pub drains_rounds : Drains takes is_full fails r a b s t
     drains_rounds = record {
       moved = d.moved;
-      taken = d.taken ∙ ap (λ l. l ++ d.moved) looked.taken;
+      taken = d.taken ∙ ap (λ l. l ++ d.moved) same_taken;
       known = λ some. ap (λ (v : ReadView). v.known) (sym (looked.known some)) ∙ d.known;
       fresh = λ none.
-          (omega (arith, (looked.fresh none).0, d.end.end.told, ap length d.taken, ap length d.known, length-append w.taken w.known, length-append b.taken b.known, length-append w.taken d.moved, length-append d.moved b.known), still_loaded w b d.end.end.ring (omega (arith, ap length d.taken, ap length d.known, length-append w.taken w.known, length-append b.taken b.known, length-append w.taken d.moved, length-append d.moved b.known)) (looked.fresh none).1);
+          (omega (arith, (looked.fresh none).0, ap (λ (v : ReadView). v.told) d.rest, ap length d.taken, ap length d.known, length-append w.taken w.known, length-append b.taken b.known, length-append w.taken d.moved, length-append d.moved b.known), still_loaded w b (ap (λ (v : ReadView). v.ring) d.rest) (omega (arith, ap length d.taken, ap length d.known, length-append w.taken w.known, length-append b.taken b.known, length-append w.taken d.moved, length-append d.moved b.known)) (looked.fresh none).1);
       copied = d.copied;
       most = d.most;
       end = record {
-        end = record {
-          ring = d.end.end.ring ∙ looked.end.ring;
-          capacity = d.end.end.capacity ∙ looked.end.capacity;
-          told = d.end.end.told ∙ looked.end.told;
-          told_shut = d.end.end.told_shut ∙ looked.end.told_shut;
-        };
-        saw = omega (arith, looked.saw, ap flag d.end.saw);
+        saw = λ seen. ap (λ (v : ReadView). v.saw) d.rest ∙ looked.saw seen;
+        rest = subst (λ (v : ReadView). v ≡ record a { taken = v.taken; known = v.known; saw = v.saw; all = v.all })
+            (sym (d.rest ∙ ap (λ (v : ReadView). record v { taken = b.taken; known = b.known }) looked.rest)) refl;
       };
     }
 
     -- which found some
     pub found_some : 0 < length w.known → 0 < found_len a b
-    found_some some = omega (arith, some, ap length looked.taken, ap length d.taken, ap length d.known, length-append w.taken d.moved, length-append d.moved b.known)
+    found_some some = omega (arith, some, ap length same_taken, ap length d.taken, ap length d.known, length-append w.taken d.moved, length-append d.moved b.known)
 
 -- a look that goes on where it found no byte is one look
 pub looked_on : (a b c : ReadView) → ReaderLooked a b → length b.known ≡ 0 → ReaderLooked b c → ReaderLooked a c
 looked_on a b c p none q = record {
-  end = record { ring = q.end.ring ∙ p.end.ring; capacity = q.end.capacity ∙ p.end.capacity; told = q.end.told ∙ p.end.told; told_shut = q.end.told_shut ∙ p.end.told_shut };
-  taken = q.taken ∙ p.taken;
   known = λ some. absurd (omega (arith, some, ap (λ (r : ReadView). length r.known) (p.known some), none));
   fresh = λ empty. q.fresh (nil_from_length b.known none);
-  saw = omega (arith, p.saw, q.saw);
+  saw = λ seen. q.saw (p.saw seen);
+  rest = q.rest ∙ ap (λ (v : ReadView). record v { known = c.known; saw = c.saw; all = c.all }) p.rest;
 }

@@ -1,9 +1,8 @@
 -- A side that was granted a waker, and then found nothing to do, is pending.
-use Rattle.std.proofs.Common.{◌≡◌, ◌+◌, ◌≤◌, ◌++◌, Bool, true, false, length, refl, ap, ◌∙◌, append-nil, inl, inr, arith}
+use Rattle.std.proofs.Common.{◌≡◌, ◌+◌, ◌≤◌, ◌++◌, Bool, true, false, true≢false, length, refl, sym, ap, ◌∙◌, append-nil, inl, inr, arith}
 use Rattle.futures.specs.Task.{Covers}
 use Rattle.futures.specs.declared.task.context.Context.{Context}
 use Rattle.piper_ring.specs.Looks.{IfNotReady, ReaderSees, WriterSees}
-use Rattle.piper_ring.specs.Shared.{flag}
 use Rattle.piper_ring.specs.SlotsView.{SlotsView}
 use Rattle.piper_ring.specs.declared.ends.slots.looks.Look.{Look}
 use Rattle.piper_ring.specs.declared.ends.slots.looks.Look.TheVariants as look
@@ -13,14 +12,14 @@ use Rattle.piper.specs.Waits.{ReaderPends, WriterPends}
 use Rattle.piper.specs.declared.handles.Reader.{Reader}
 use Rattle.piper.specs.declared.handles.Writer.{Writer}
 
-pub not_set : (a b : Bool) → flag a ≤ flag b → b ≡ false → a ≡ false
-not_set false b le none = refl
-not_set true b le none = absurd (omega (arith, le, ap flag none))
+pub not_set : (a b : Bool) → (a ≡ true → b ≡ true) → b ≡ false → a ≡ false
+not_set false b set none = refl
+not_set true b set none = absurd (true≢false (sym (set refl) ∙ none))
 
 pub reader_pends : (found : Look) (a b : Reader) (slots : SlotsView) (cx : Context)
     → ReaderSees found b.side.end → b.side.slots ≡ slots → Covers cx (λ s. s ≡ read_source a)
     → length slots.heard.bytes ≤ length (b.side.end.taken ++ b.side.end.known)
-    → flag slots.heard.closed ≤ flag b.side.end.saw
+    → (slots.heard.closed ≡ true → b.side.end.saw ≡ true)
     → IsGranted a.side.slots slots cx → IfNotReady found (ReaderPends a b cx)
 reader_pends look.Ready a b slots cx sees same covered heard closed granted = tt
 reader_pends look.Closed a b slots cx sees same covered heard closed granted = tt
@@ -28,9 +27,9 @@ reader_pends look.NotReady a b slots cx sees same covered heard closed (inl wait
   nothing = sees;
   covered = covered;
   registered = inl (record {
-    ticket = rw same waits.0.ticket;
+    ticket = rw same (ap (λ (s : SlotsView). s.tickets) waits.0);
     pending = rw same (record {
-      registered = waits.0.place;
+      registered = ap (λ (s : SlotsView). s.owns) waits.0;
       none = sees.known;
       stays_open = sees.saw;
       looked = omega (arith, heard, ap length (ap (λ xs. b.side.end.taken ++ xs) sees.known ∙ append-nil b.side.end.taken));
@@ -56,9 +55,9 @@ writer_pends look.Closed a b slots cx sees same covered heard closed granted = t
 writer_pends look.NotReady a b slots cx sees same covered heard closed (inl waits) = record {
   covered = covered;
   registered = inl (record {
-    ticket = rw same waits.0.ticket;
+    ticket = rw same (ap (λ (s : SlotsView). s.tickets) waits.0);
     pending = rw same (record {
-      registered = waits.0.place;
+      registered = ap (λ (s : SlotsView). s.owns) waits.0;
       none = sees.0;
       stays_open = sees.2;
       looked = omega (arith, heard, sees.0);

@@ -1,10 +1,9 @@
 -- Rounds of a fill, one after the other.
-use Rattle.std.proofs.Common.{◌≡◌, ℕ, ◌+◌, ◌-◌, ◌<◌, ◌≤◌, ◌⊎◌, true, false, List, [], ◌++◌, take, drop, length, Ok, Err, refl, sym, ap, ◌∙◌, subst, append_assoc, append-nil, length-append, length-take-le, inl, inr, arith}
+use Rattle.std.proofs.Common.{◌≡◌, ℕ, ◌+◌, ◌-◌, ◌<◌, ◌≤◌, ◌⊎◌, Bool, true, false, true≢false, List, [], ◌++◌, take, drop, length, Ok, Err, refl, sym, ap, ◌∙◌, subst, append_assoc, append-nil, length-append, length-take-le, inl, inr, arith}
 use Rattle.futures.specs.declared.task.Poll.TheVariants.{Ready}
-use Rattle.piper_ring.specs.Shared.{flag}
-use Rattle.piper_ring.specs.WriteView.{WriteView, SameButSaw}
+use Rattle.piper_ring.specs.WriteView.{WriteView}
 use Rattle.piper.specs.Copies.{IsReplaced}
-use Rattle.piper.specs.Fills.{FillRounds, WriterFilled, WriterRelent, most_of_round}
+use Rattle.piper.specs.Fills.{FillRounds, WriterFilled, most_of_round}
 use Rattle.piper.specs.Like.{Passes, PassesInOrder}
 use Rattle.piper.specs.declared.error.Inner.TheVariants.{Like}
 
@@ -17,29 +16,31 @@ pub record Filled {S : Type 0} (gives : Passes S) (a b : WriteView) (s t : S) (s
   pub room : IsReplaced a b
   pub end : WriterFilled a b
 
--- c is the writer b, but for what it lends
-filled_relent : (a b c : WriteView) → WriterFilled a b → WriterRelent b c → WriterFilled a c
-filled_relent a b c p q = record {
-  end = record { ring = q.end.ring ∙ p.end.ring; capacity = q.end.capacity ∙ p.end.capacity; told = q.end.told ∙ p.end.told };
-  shut = q.shut ∙ p.shut;
-  saw = omega (arith, p.saw, ap flag q.saw);
-}
+-- what rounds change
+rounds_change : (a w : WriteView) (sent : List ℕ) (room : ℕ) (lent : List ℕ) (saw : Bool) → w ≡ record a { sent = sent; room = room; lent = lent; saw = saw }
+    → w ≡ record a { sent = w.sent; room = w.room; lent = w.lent; saw = w.saw }
+rounds_change a w sent room lent saw is = subst (λ (v : WriteView). v ≡ record a { sent = v.sent; room = v.room; lent = v.lent; saw = v.saw }) (sym is) refl
 
--- a round has as many bytes at most
-same_round : (c w : WriteView) → SameButSaw c w → most_of_round w ≡ most_of_round c
-same_round c w saw = λ j. most_of_round (record c { capacity = saw.end.capacity j; sent = saw.sent j; room = saw.room j })
+-- c is the writer b, but for what it lends
+filled_relent : (a b c : WriteView) → WriterFilled a b → c ≡ record b { lent = c.lent } → WriterFilled a c
+filled_relent a b c p q = record {
+  saw = λ seen. ap (λ (v : WriteView). v.saw) q ∙ p.saw seen;
+  rest = rounds_change a c _ _ _ _ (q ∙ ap (λ (v : WriteView). record v { lent = c.lent }) p.rest);
+}
 
 -- and w may have seen closed since
-filled_saw : (a c w : WriteView) → WriterFilled a c → c.saw ≡ false → SameButSaw c w → WriterFilled a w
-filled_saw a c w p unseen q = record {
-  end = record { ring = q.end.ring ∙ p.end.ring; capacity = q.end.capacity ∙ p.end.capacity; told = q.end.told ∙ p.end.told };
-  shut = q.shut ∙ p.shut;
-  saw = omega (arith, p.saw, ap flag unseen);
+filled_saw : (a c w : WriteView) (is_closed : Bool) → WriterFilled a c → c.saw ≡ false → w ≡ record c { saw = is_closed } → WriterFilled a w
+filled_saw a c w is_closed p unseen q = record {
+  saw = λ seen. absurd (true≢false (sym (p.saw seen) ∙ unseen));
+  rest = rounds_change a w _ _ _ _ (q ∙ ap (λ (v : WriteView). record v { saw = is_closed }) p.rest);
 }
 
-module _ {S : Type 0} (gives : Passes S) (in_order : PassesInOrder gives) (a b c : WriteView) (s t u : S) (sum : ℕ) (d : Filled gives a b s t sum) (relent : WriterRelent b c) where
+module _ {S : Type 0} (gives : Passes S) (in_order : PassesInOrder gives) (a b c : WriteView) (s t u : S) (sum : ℕ) (d : Filled gives a b s t sum) (relent : c ≡ record b { lent = c.lent }) where
+  same_sent : c.sent ≡ b.sent
+  same_sent = ap (λ (v : WriteView). v.sent) relent
+
   replaced : IsReplaced a c
-  replaced = omega (arith, d.room, ap length relent.sent, relent.room)
+  replaced = omega (arith, d.room, ap length same_sent, ap (λ (v : WriteView). v.room) relent)
 
   more : (w : WriteView) (n : ℕ) → n ≤ length c.lent → length (d.given ++ take n c.lent) ≡ sum + n
   more w n within = length-append d.given (take n c.lent) ∙ omega (arith, d.count, length-take-le n c.lent within)
@@ -50,7 +51,7 @@ module _ {S : Type 0} (gives : Passes S) (in_order : PassesInOrder gives) (a b c
   fill_ended is_dry fails none most some = record {
     published = d.given;
     lost = [];
-    sent = relent.sent ∙ d.sent;
+    sent = same_sent ∙ d.sent;
     all = λ _. refl;
     last = omega arith;
     room = replaced;
@@ -65,7 +66,7 @@ module _ {S : Type 0} (gives : Passes S) (in_order : PassesInOrder gives) (a b c
   fill_failed is_dry fails e none failed = record {
     published = d.given;
     lost = [];
-    sent = relent.sent ∙ d.sent;
+    sent = same_sent ∙ d.sent;
     all = λ _. refl;
     last = omega arith;
     room = replaced;
@@ -75,32 +76,34 @@ module _ {S : Type 0} (gives : Passes S) (in_order : PassesInOrder gives) (a b c
   }
 
   -- the source gave n bytes to a pipe that was then seen closed
-  pub fill_closed : {E : Type 0} (is_dry : S → Type 0) (fails : S → E → S → Type 0) (w : WriteView) (n : ℕ) → n ≤ length c.lent → n ≤ most_of_round c → gives t (take n c.lent) u → c.saw ≡ false → SameButSaw c w → w.saw ≡ true
+  pub fill_closed : {E : Type 0} (is_dry : S → Type 0) (fails : S → E → S → Type 0) (w : WriteView) (n : ℕ) (is_closed : Bool) → n ≤ length c.lent → n ≤ most_of_round c → gives t (take n c.lent) u → c.saw ≡ false → w ≡ record c { saw = is_closed } → is_closed ≡ true
       → FillRounds gives is_dry fails (Ready (Ok (sum + n))) a w s u
-  fill_closed is_dry fails w n within within_round some unseen saw closed = record {
+  fill_closed is_dry fails w n is_closed within within_round some unseen saw closed = record {
     published = d.given;
     lost = take n c.lent;
-    sent = saw.sent ∙ relent.sent ∙ d.sent;
-    all = λ unclosed. let never = closed in absurd (cc);
-    last = omega (arith, length-take-le n c.lent within, within_round, same_round c w saw);
-    room = omega (arith, replaced, ap length saw.sent, saw.room);
+    sent = ap (λ (v : WriteView). v.sent) saw ∙ same_sent ∙ d.sent;
+    all = λ unclosed. absurd (true≢false (sym (ap (λ (v : WriteView). v.saw) saw ∙ closed) ∙ unclosed));
+    last = omega (arith, length-take-le n c.lent within, within_round, ap most_of_round saw);
+    room = omega (arith, replaced, ap (λ (v : WriteView). length v.sent) saw, ap (λ (v : WriteView). v.room) saw);
     copied = (in_order s d.given t (take n c.lent) u d.passed some, more w n within);
-    most = inr closed;
-    end = filled_saw a c w (filled_relent a b c d.end relent) unseen saw;
+    most = inr (ap (λ (v : WriteView). v.saw) saw ∙ closed);
+    end = filled_saw a c w is_closed (filled_relent a b c d.end relent) unseen saw;
   }
 
   -- the source gave n bytes, which were published
-  pub filled_more : (w x : WriteView) (n : ℕ) → n ≤ length c.lent → gives t (take n c.lent) u → c.saw ≡ false → SameButSaw c w → n ≤ w.room
+  pub filled_more : (w x : WriteView) (n : ℕ) (is_closed : Bool) → n ≤ length c.lent → gives t (take n c.lent) u → c.saw ≡ false → w ≡ record c { saw = is_closed } → n ≤ w.room
       → x ≡ record w { sent = w.sent ++ take n w.lent; lent = drop n w.lent; room = w.room - n }
       → Filled gives a x s u (sum + n)
-  filled_more w x n within some unseen saw fits stored =
-      let before : WriterFilled a w = filled_saw a c w (filled_relent a b c d.end relent) unseen saw in
-      let sent : w.sent ++ take n w.lent ≡ (a.sent ++ d.given) ++ take n c.lent = λ j. (saw.sent ∙ relent.sent ∙ d.sent) j ++ take n (saw.lent j) in
+  filled_more w x n is_closed within some unseen saw fits stored =
+      let before : WriterFilled a w = filled_saw a c w is_closed (filled_relent a b c d.end relent) unseen saw in
+      let lent : w.lent ≡ c.lent = ap (λ (v : WriteView). v.lent) saw in
+      let all : w.sent ≡ a.sent ++ d.given = ap (λ (v : WriteView). v.sent) saw ∙ same_sent ∙ d.sent in
+      let sent : w.sent ++ take n w.lent ≡ (a.sent ++ d.given) ++ take n c.lent = λ j. all j ++ take n (lent j) in
       rw stored (record {
         given = d.given ++ take n c.lent;
         sent = sent ∙ append_assoc a.sent d.given (take n c.lent);
         passed = in_order s d.given t (take n c.lent) u d.passed some;
         count = more w n within;
-        room = omega (arith, replaced, ap length saw.sent, saw.room, fits, length-append w.sent (take n w.lent), ap length (ap (take n) saw.lent), length-take-le n c.lent within);
-        end = record { end = record { ring = before.end.ring; capacity = before.end.capacity; told = before.end.told }; shut = before.shut; saw = before.saw };
+        room = omega (arith, replaced, ap (λ (v : WriteView). length v.sent) saw, ap (λ (v : WriteView). v.room) saw, fits, length-append w.sent (take n w.lent), ap length (ap (take n) lent), length-take-le n c.lent within);
+        end = record { saw = before.saw; rest = ap (λ (v : WriteView). record v { sent = w.sent ++ take n w.lent; lent = drop n w.lent; room = w.room - n }) before.rest };
       })

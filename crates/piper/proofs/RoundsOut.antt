@@ -3,7 +3,6 @@ use Rattle.std.proofs.Common.{◌≡◌, ℕ, ◌+◌, ◌*◌, ◌^◌, ◌<◌
 use Rattle.futures.specs.declared.task.Poll.TheVariants.{Ready}
 use Rattle.piper_ring.specs.ReadView.{ReadView, in_one_piece}
 use Rattle.piper.specs.Drains.{DrainRounds}
-use Rattle.piper.specs.Ends.{ReaderConsumed}
 use Rattle.piper.specs.Like.{Passes, PassesInOrder}
 use Rattle.piper.specs.declared.error.Inner.TheVariants.{Like}
 
@@ -14,7 +13,7 @@ pub record Drained {S : Type 0} (takes : Passes S) (a b : ReadView) (s t : S) (s
   pub known : a.known ≡ moved ++ b.known
   pub passed : takes s moved t
   pub count : length moved ≡ sum
-  pub end : ReaderConsumed a b
+  pub rest : b ≡ record a { taken = b.taken; known = b.known }
 
 -- the sum of the bytes fits, since the ring's capacity does
 pub sum_fits : {S : Type 0} (takes : Passes S) (a b whole : ReadView) (s t : S) (sum n most : ℕ) → Drained takes a b s t sum → whole ≡ a → length whole.known ≤ most → 2 * most < 2 ^ 64
@@ -30,13 +29,13 @@ module _ {S : Type 0} (takes : Passes S) (in_order : PassesInOrder takes) (a b :
   pub drain_ended : {E : Type 0} (is_full : S → Type 0) (fails : S → E → S → Type 0) → takes t [] u → (b.known ≡ []) ⊎ is_full u
       → DrainRounds takes is_full fails (Ready (Ok sum)) a b s u
   drain_ended is_full fails none most =
-      record { moved = d.moved; taken = d.taken; known = d.known; copied = (none_more none, d.count); most = most; end = d.end }
+      record { moved = d.moved; taken = d.taken; known = d.known; copied = (none_more none, d.count); most = most; rest = d.rest }
 
   -- the destination failed
   pub drain_failed : {E : Type 0} (is_full : S → Type 0) (fails : S → E → S → Type 0) (e : E) → takes t [] u → fails t e u
       → DrainRounds takes is_full fails (Ready (Err (Like e))) a b s u
   drain_failed is_full fails e none failed =
-      record { moved = d.moved; taken = d.taken; known = d.known; copied = (none_more none, (t, d.passed, failed)); most = tt; end = d.end }
+      record { moved = d.moved; taken = d.taken; known = d.known; copied = (none_more none, (t, d.passed, failed)); most = tt; rest = d.rest }
 
   -- the destination took n bytes, which were consumed
   pub drained_more : (w : ReadView) (n : ℕ) → n ≤ in_one_piece b → takes t (take n b.known) u → w ≡ record b { taken = b.taken ++ take n b.known; known = drop n b.known }
@@ -49,10 +48,7 @@ module _ {S : Type 0} (takes : Passes S) (in_order : PassesInOrder takes) (a b :
         known = d.known ∙ ap (λ l. d.moved ++ l) (sym (take-append-drop n b.known)) ∙ sym (append_assoc d.moved front (drop n b.known));
         passed = in_order s d.moved t front u d.passed some;
         count = length-append d.moved front ∙ omega (arith, d.count, length-take-le n b.known (omega (arith, within)));
-        end = record {
-          end = record { ring = d.end.end.ring; capacity = d.end.end.capacity; told = d.end.end.told; told_shut = d.end.end.told_shut };
-          saw = d.end.saw;
-        };
+        rest = ap (λ (v : ReadView). record v { taken = b.taken ++ front; known = drop n b.known }) d.rest;
       })
 
 -- before the rounds
@@ -64,5 +60,5 @@ drained_none takes a s none =
       known = refl;
       passed = none;
       count = refl;
-      end = record { end = record { ring = refl; capacity = refl; told = refl; told_shut = refl }; saw = refl };
+      rest = refl;
     }

@@ -6,6 +6,7 @@ use Rattle.futures.specs.declared.task.context.Context.{Context}
 use Rattle.futures.specs.declared.task.Poll.{Poll}
 use Rattle.futures.specs.declared.task.Poll.TheVariants.{Ready, Pending}
 use Rattle.piper_protocol.specs.declared.table.TheConstants.{MOST_A_ROUND}
+use Rattle.piper_ring.specs.ReadView.{ReadView}
 use Rattle.piper.specs.Contexts.{AsksAgain}
 use Rattle.piper.specs.Drains.{found_len}
 use Rattle.piper.specs.Handles.{read_source, write_source}
@@ -51,8 +52,8 @@ pub read_pends : {E : Type 0} (r : Poll (Result ℕ E)) (a b : Reader) (cx : Con
     → OnPending r (Covers cx (λ s. s ≡ read_source b) × (a.side.end.told_shut ≡ true → AsksAgain cx) × ReaderIsWaiting b cx)
 read_pends (Ready x) a b cx same h = tt
 read_pends Pending a b cx same h = (
-  rw same.slots.1 h.covered,
-  λ told. asks (found_len a.side.end b.side.end) b.side.end.told_shut _ _ h.unseen h.yields (same.end.end.told_shut ∙ told),
+  rw same.source h.covered,
+  λ told. asks (found_len a.side.end b.side.end) b.side.end.told_shut _ _ h.unseen h.yields (ap (λ (v : ReadView). v.told_shut) same.end.rest ∙ told),
   waits_or_asks (found_len a.side.end b.side.end) (λ (w : ReaderWaits a b cx). w.pending) h.registered h.yields,
 )
 
@@ -91,6 +92,6 @@ pub write_pends : {E : Type 0} (r : Poll (Result ℕ E)) (a b : Writer) (cx : Co
     → OnPending r (Covers cx (λ s. s ≡ write_source b) × WriterIsWaiting b cx)
 write_pends (Ready x) a b cx same h = tt
 write_pends Pending a b cx same h = (
-  rw same.slots.1 h.covered,
+  rw same.source h.covered,
   waits_or_asks b.side.end.room (λ (w : WriterWaits a b cx). w.pending) h.registered h.yields,
 )

@@ -3,7 +3,7 @@ use Rattle.std.proofs.Common.{◌≡◌, ℕ, ◌+◌, ◌<◌, ◌≤◌, ◌�
 use Rattle.std.proofs.lemmas.List.{nil_from_length, take_at}
 use Rattle.piper_ring.specs.WriteView.{room_in_one_piece}
 use Rattle.piper.specs.Copies.{IsReplaced}
-use Rattle.piper.specs.Ends.{WriterIsUpToDate}
+use Rattle.piper.specs.Looks.{WriterIsUpToDate}
 use Rattle.piper.specs.Fills.{most_of_round}
 use Rattle.piper.specs.WriterCalls.{Filled, OnlyLooked}
 use Rattle.piper.specs.declared.handles.Writer.{Writer}

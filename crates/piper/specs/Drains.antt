@@ -5,7 +5,7 @@ use Rattle.futures.specs.Poll.{OnPending}
 use Rattle.piper_ring.specs.ReadView.{ReadView}
 use Rattle.piper.specs.Copies.{ReaderCopied}
 use Rattle.piper.specs.CopyAnswers.{Copies}
-use Rattle.piper.specs.Ends.{IsEnded, ReaderConsumed, ReaderIsUpToDate}
+use Rattle.piper_ring.specs.Looks.{IsEnded, ReaderIsUpToDate}
 use Rattle.piper.specs.Like.{Passes}
 use Rattle.piper.specs.Polls.{OnReadyOk}
 use Rattle.piper.specs.declared.error.Inner.{Inner}
@@ -38,7 +38,7 @@ pub record DrainRounds {S E : Type 0}
   pub known : a.known ≡ moved ++ b.known
   pub copied : Copies takes fails r s t moved
   pub most : OnReadyOk r ((b.known ≡ []) ⊎ is_full t)
-  pub end : ReaderConsumed a b
+  pub rest : b ≡ record a { taken = b.taken; known = b.known }
 
 -- a drain from a to b, which begins with a look: that finds more only where no byte was known
 pub record Drains {S E : Type 0}

@@ -2,31 +2,21 @@
 use Rattle.std.specs.Prelude.{◌≡◌, ℕ, ◌<◌, ◌≤◌, ◌+◌, ◌⊎◌, true, false, List, [], ◌++◌, length, min, Result, Ok, Err, ⊤}
 use Rattle.futures.specs.declared.task.Poll.{Poll}
 use Rattle.futures.specs.declared.task.Poll.TheVariants.{Ready, Pending}
-use Rattle.piper_ring.specs.Shared.{flag}
-use Rattle.piper_ring.specs.WriteView.{WriteView, SameWriteEnd, room_in_one_piece}
+use Rattle.piper_ring.specs.WriteView.{WriteView, room_in_one_piece}
 use Rattle.piper_protocol.specs.declared.table.TheConstants.{MOST_A_ROUND}
 use Rattle.piper.specs.Copies.{IsReplaced}
 use Rattle.piper.specs.CopyAnswers.{Copies}
-use Rattle.piper.specs.Ends.{WriterIsUpToDate}
+use Rattle.piper_ring.specs.Looks.{WriterIsUpToDate}
 use Rattle.piper.specs.Like.{Passes}
 use Rattle.piper.specs.Polls.{IfReadyOk}
 use Rattle.piper.specs.declared.error.Inner.{Inner}
 use Rattle.piper.specs.declared.error.Inner.TheVariants.{Memory, Like}
 
--- the writer, but for the bytes that it published,
--- its room, and what it lends: it may have seen closed now
+-- rounds of the writer published bytes, and what is left of the last one is still lent. What it saw of
+-- closed it keeps
 pub record WriterFilled (a b : WriteView) : Type 0 where
-  pub end : SameWriteEnd a b
-  pub shut : b.shut ≡ a.shut
-  pub saw : flag a.saw ≤ flag b.saw
-
--- the writer, but for what it lends
-pub record WriterRelent (a b : WriteView) : Type 0 where
-  pub end : SameWriteEnd a b
-  pub sent : b.sent ≡ a.sent
-  pub room : b.room ≡ a.room
-  pub shut : b.shut ≡ a.shut
-  pub saw : b.saw ≡ a.saw
+  pub saw : a.saw ≡ true → b.saw ≡ true
+  pub rest : b ≡ record a { sent = b.sent; room = b.room; lent = b.lent; saw = b.saw }
 
 -- the most bytes of a round: what is lent at once, and at most 131,072 of it
 abbrev pub most_of_round : WriteView → ℕ

@@ -3,7 +3,7 @@ use Rattle.std.specs.Prelude.{◌≡◌, ℕ, true, List, bit_xor}
 use Rattle.std.specs.Borrow.{Fml, MutBor, Array, Lends}
 use denote.Builtin.{u8}
 use Rattle.piper_ring.specs.LendsBuffer.{with_lent}
-use Rattle.piper_ring.specs.SlotsView.{IsAtRest, IsReaderAtRest, SameLooks, SamePlace}
+use Rattle.piper_ring.specs.SlotsView.{IsAtRest, IsReaderAtRest, SlotsView}
 use Rattle.piper_ring.specs.Opened.{FreshReadEnd, FreshWriteEnd}
 use Rattle.piper.specs.Generator.{generator}
 use Rattle.piper.specs.declared.handles.Reader.{Reader}
@@ -44,50 +44,24 @@ pub record DrawFrom (seed : ℕ) (r : Reader) (w : Writer) : Type 0 where
   pub reader : r.rng ≡ generator seed
   pub writer : w.rng ≡ generator (bit_xor seed 1)
 
--- the wakers of b lie where those of a do, and its task waits at the same source
-abbrev pub SameReaderCells : Reader → Reader → Type 0
-SameReaderCells a b = (b.side.cells ≡ a.side.cells) × (b.source ≡ a.source)
+-- what two sides have of their slots, before and after a call
+abbrev pub Slots : Type 1
+Slots = SlotsView → SlotsView → Type 0
 
-abbrev pub SameWriterCells : Writer → Writer → Type 0
-SameWriterCells a b = (b.side.cells ≡ a.side.cells) × (b.source ≡ a.source)
-
--- b waits as a does and wakes at the slots of a, and draws the same numbers next
-pub record SameReaderButWoke (a b : Reader) : Type 0 where
-  pub slots : SameReaderCells a b
+-- the same reader: its waker has the same place, its task the same source, and its generator draws
+-- the same numbers next. What the call did at its slots is said by the first argument
+pub record SameReader (did : Slots) (a b : Reader) : Type 0 where
+  pub cells : b.side.cells ≡ a.side.cells
+  pub source : b.source ≡ a.source
   pub rng : b.rng ≡ a.rng
-  pub waits : SamePlace a.side.slots b.side.slots
+  pub slots : did a.side.slots b.side.slots
 
-pub record SameWriterButWoke (a b : Writer) : Type 0 where
-  pub slots : SameWriterCells a b
+-- the same writer
+pub record SameWriter (did : Slots) (a b : Writer) : Type 0 where
+  pub cells : b.side.cells ≡ a.side.cells
+  pub source : b.source ≡ a.source
   pub rng : b.rng ≡ a.rng
-  pub waits : SamePlace a.side.slots b.side.slots
-
--- since a, b may have woken the other side again, and may wait otherwise
-pub record SameReaderButWaits (a b : Reader) : Type 0 where
-  pub slots : SameReaderCells a b
-  pub rng : b.rng ≡ a.rng
-  pub looks : SameLooks a.side.slots b.side.slots
-
-pub record SameWriterButWaits (a b : Writer) : Type 0 where
-  pub slots : SameWriterCells a b
-  pub rng : b.rng ≡ a.rng
-  pub looks : SameLooks a.side.slots b.side.slots
-
--- b may wait otherwise, and have woken the other side since
-pub record SameWriterButSlots (a b : Writer) : Type 0 where
-  pub slots : SameWriterCells a b
-  pub rng : b.rng ≡ a.rng
-
--- b waits as a does, and since a may have woken the other side again
-pub record SameReader (a b : Reader) : Type 0 where
-  pub slots : SameReaderCells a b
-  pub rng : b.rng ≡ a.rng
-  pub registrations : b.side.slots ≡ a.side.slots
-
-pub record SameWriter (a b : Writer) : Type 0 where
-  pub slots : SameWriterCells a b
-  pub rng : b.rng ≡ a.rng
-  pub registrations : b.side.slots ≡ a.side.slots
+  pub slots : did a.side.slots b.side.slots
 
 -- the handle that writes, once a `&mut` into the slice that
 -- it lent has ended: what is lent holds what was written there

@@ -10,7 +10,6 @@ pub mod Called
 pub mod Contexts
 pub mod Copies
 pub mod Counts
-pub mod Ends
 pub mod Failed
 pub mod Generator
 pub mod Handles

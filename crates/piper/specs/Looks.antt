@@ -2,7 +2,8 @@
 use Rattle.std.specs.Prelude.{◌≡◌, ◌<◌, Bool, true, false, [], length, Result, Ok, Err, ⊤}
 use Rattle.futures.specs.declared.task.Poll.{Poll}
 use Rattle.futures.specs.declared.task.Poll.TheVariants.{Ready, Pending}
-use Rattle.piper_ring.specs.Looks.{IfNotReady, IsEnded, NothingYet, ReaderSees, WriterSees}
+use Rattle.piper_ring.specs.Looks.{IfNotReady, NothingYet, ReaderSees, WriterSees}
+pub use Rattle.piper_ring.specs.Looks.{IsEnded, ReaderIsUpToDate, WriterIsUpToDate}
 use Rattle.piper_ring.specs.ReadView.{ReadView}
 use Rattle.piper_ring.specs.WriteView.{WriteView}
 use Rattle.piper_ring.specs.declared.ends.slots.looks.Look.{Look}

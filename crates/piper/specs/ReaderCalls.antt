@@ -7,18 +7,17 @@ use Rattle.futures.specs.declared.task.Poll.{Poll}
 use Rattle.futures.specs.declared.task.Poll.TheVariants.{Ready}
 use Rattle.std.specs.Io.{StartsWith}
 use denote.Ref.{Bor}
-use Rattle.piper_ring.specs.ReadView.{KnowsEnd, MayBeUnread as EndMayHave, SameButTold, in_one_piece}
-use Rattle.piper_ring.specs.SlotsView.{IsPending, IsWriterPending, SamePlace}
+use Rattle.piper_ring.specs.ReadView.{KeepsAll as EndKeepsAll, KnowsEnd, MayBeUnread as EndMayHave, in_one_piece}
+use Rattle.piper_ring.specs.SlotsView.{IsPending, IsWriterPending, KeepsSlots, OnlyWaits, WaitsAsBefore}
 use Rattle.piper.specs.Called.{CallsTaken}
 use Rattle.piper.specs.Contexts.{AsksAgain, WantsWaker}
 use Rattle.piper.specs.Copies.{ReaderCopied}
 use Rattle.piper.specs.CopyAnswers.{OnMemory}
 use Rattle.piper.specs.Drains.{Drains, EndIsTrue, EndIsUnseen, found_len}
 use Rattle.piper.specs.Draws.{Draws, Undrawn}
-use Rattle.piper.specs.Ends.{IsEnded, ReaderConsumed, ReaderIsUpToDate, ReaderRefreshed, WriterRefreshed}
-use Rattle.piper.specs.Handles.{NotifiesReader, NotifiesWriter, SameReader, SameReaderButWaits, SameWriter, SameReaderButWoke, SameReaderCells, read_source}
+use Rattle.piper.specs.Handles.{NotifiesReader, NotifiesWriter, SameReader, SameWriter, read_source}
 use Rattle.piper.specs.Like.{Passes, appends_to}
-use Rattle.piper_ring.specs.Looks.{ReaderLooked}
+use Rattle.piper_ring.specs.Looks.{IsEnded, ReaderIsUpToDate, ReaderLooked}
 use Rattle.piper.specs.Looks.{ReaderFound}
 use Rattle.piper.specs.Polls.{After, Count, IfReadyErr, IfReadyOk, Lends, TakesNone}
 use Rattle.piper.specs.Waits.{ReaderIsRefused, ReaderIsRemembered, ReaderIsWaiting, ReaderPends, WriterIsRemembered, ReaderLeavesNone, ReaderRegistered}
@@ -40,7 +39,7 @@ MayBeUnread reader n = EndMayHave reader.side.end n
 
 -- what the reader knows to be all that was ever published is so still
 abbrev pub KeepsAll : Reader → Reader → Type 0
-KeepsAll a b = KnowsEnd a.side.end → b.side.end.all ≡ a.side.end.all
+KeepsAll a b = EndKeepsAll a.side.end b.side.end
 
 -- the reader looked, which takes no byte
 abbrev pub Looks : Reader → Reader → Type 0
@@ -82,7 +81,7 @@ pub record PollsPiece (r : Poll (Result (Bor (List ℕ)) PipeError)) (a b : Read
   pub looked : ReaderLooked a.side.end b.side.end
   pub pending : OnPending r (ReaderPends a b cx)
   pub all : KeepsAll a b
-  pub rest : SameReaderButWaits a b
+  pub rest : SameReader OnlyWaits a b
 
 -- n bytes were drained into a slice: they are at its front, and the rest of it stays. They are the
 -- first that were known, or that were found where none was known; and as many as fit
@@ -155,7 +154,7 @@ pub record DrainsAtOnce {E : Type 0} (r : Poll (Result ℕ (Inner E))) (a b : Re
   pub undrawn : Undrawn (0 < found_len a.side.end b.side.end) r a.rng b.rng
   pub unseen : EndIsUnseen r a.side.end b.side.end
   pub memory : OnMemory r ⊥
-  pub place : SamePlace a.side.slots b.side.slots
+  pub place : WaitsAsBefore a.side.slots b.side.slots
 
 -- each waker of the writer's that was taken was called; and if the writer's slot had been checked
 -- after all that was consumed, it was so after all that was consumed since
@@ -166,7 +165,8 @@ pub record WakesWriter (a b : Reader) : Type 0 where
 -- the same reader of the same pipe, but for bytes that it took and knows of, for how it waits, and
 -- for what its generator draws next: it may have seen closed now
 pub record SameReaderButMoved (a b : Reader) : Type 0 where
-  pub slots : SameReaderCells a b
+  pub cells : b.side.cells ≡ a.side.cells
+  pub source : b.source ≡ a.source
   pub end : ReaderCopied a.side.end b.side.end
 
 -- all that a read says of a handle, its answer, the slice and the context: it drains. A `&mut` to the
@@ -181,16 +181,11 @@ pub record ReadsAsDrain (a b : Reader) (r : Count) (old new : List ℕ)
   pub woken : WakesWriter a b
   pub rest : SameReaderButMoved a b
 
--- and it waits as it did, and draws the same numbers next
-pub record SameReaderButTried (a b : Reader) : Type 0 where
-  pub handle : SameReaderButWoke a b
-  pub end : ReaderCopied a.side.end b.side.end
-
 -- the reader, but for the bytes that it took and knows of
 pub record SameReaderButConsumed (a b : Reader) : Type 0 where
-  pub handle : SameReaderButWoke a b
-  pub end : ReaderConsumed a.side.end b.side.end
-  pub all : b.side.end.all ≡ a.side.end.all
+  pub handle : SameReader WaitsAsBefore a b
+  pub end : b.side.end
+      ≡ record a.side.end { taken = b.side.end.taken; known = b.side.end.known }
 
 -- the reader learned that these bytes are all that was ever published: what it took and knows of is
 -- their front
@@ -206,8 +201,9 @@ WasWoken reader left =
 
 -- the reader, but for what marks reported to it
 pub record SameReaderButTold (a b : Reader) : Type 0 where
-  pub end : SameButTold a.side.end b.side.end
-  pub handle : SameReader a b
+  pub end : b.side.end ≡ record a.side.end
+      { told = b.side.end.told; told_shut = b.side.end.told_shut; all = b.side.end.all }
+  pub handle : SameReader KeepsSlots a b
   pub log : b.side.log ≡ a.side.log
 
 -- where two handles met: what each of them knows of more than before
@@ -249,7 +245,8 @@ pub record MeetWoken (a b : Reader) (c d : Writer) : Type 0 where
 
 -- and both are else as they were
 pub record MeetSame (a b : Reader) (c d : Writer) : Type 0 where
-  pub reader : ReaderRefreshed a.side.end b.side.end
-  pub writer : WriterRefreshed c.side.end d.side.end
-  pub handles : SameReader a b × SameWriter c d
+  pub reader : b.side.end
+      ≡ record a.side.end { known = b.side.end.known; all = b.side.end.all }
+  pub writer : d.side.end ≡ record c.side.end { room = d.side.end.room }
+  pub handles : SameReader KeepsSlots a b × SameWriter KeepsSlots c d
   pub logs : (b.side.log ≡ a.side.log) × (d.side.log ≡ c.side.log)

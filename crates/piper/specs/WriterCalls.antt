@@ -6,18 +6,17 @@ use Rattle.futures.specs.Poll.{OnPending}
 use Rattle.futures.specs.declared.task.context.Context.{Context}
 use Rattle.futures.specs.declared.task.Poll.{Poll}
 use Rattle.futures.specs.declared.task.Poll.TheVariants.{Ready}
-use Rattle.piper_ring.specs.SlotsView.{IsWriterPending, SamePlace}
+use Rattle.piper_ring.specs.SlotsView.{EmptiesOwn, IsWriterPending, KeepsSlots, WaitsAsBefore}
 use Rattle.piper_ring.specs.WriteView.{Lendable, MayBeUnread as EndMayHave}
 use Rattle.piper.specs.Called.{CallsTaken}
 use Rattle.piper.specs.Contexts.{AsksAgain}
 use Rattle.piper.specs.Copies.{IsReplaced, WriterCopied}
 use Rattle.piper.specs.CopyAnswers.{OnMemory, inner_of}
 use Rattle.piper.specs.Draws.{Draws, Undrawn}
-use Rattle.piper.specs.Ends.{WriterIsUpToDate, WriterPublished}
 use Rattle.piper.specs.Fills.{Fills, FoundRoom, LosesOneRound, OnNoCount}
-use Rattle.piper.specs.Handles.{NotifiesReader, SameWriter, SameWriterButSlots, SameWriterButWoke, SameWriterCells, write_source}
+use Rattle.piper.specs.Handles.{NotifiesReader, SameWriter, write_source}
 use Rattle.piper.specs.Like.{Passes, consumes_of}
-use Rattle.piper_ring.specs.Looks.{WriterLooked}
+use Rattle.piper_ring.specs.Looks.{WriterIsUpToDate, WriterLooked}
 use Rattle.piper.specs.Looks.{WriterFound}
 use Rattle.piper.specs.Polls.{Count, IfReadyErr, IfReadyOk}
 use Rattle.piper.specs.Waits.{WriterIsRefused, WriterLeavesNone, WriterRegistered}
@@ -117,7 +116,7 @@ pub record FillsWaiting {E : Type 0} (r : Poll (Result ℕ (Inner E)))
 pub record FillsAtOnce {E : Type 0} (r : Poll (Result ℕ (Inner E))) (a b : Writer) : Type 0 where
   pub undrawn : Undrawn (FoundRoom r b.side.end) r a.rng b.rng
   pub memory : OnMemory r ⊥
-  pub place : SamePlace a.side.slots b.side.slots
+  pub place : WaitsAsBefore a.side.slots b.side.slots
 
 -- each waker of the reader's that was taken was called; and if the reader's slot had been checked
 -- after all that was published, it was so after all that was published since
@@ -128,7 +127,8 @@ pub record WakesReader (a b : Writer) : Type 0 where
 -- the same writer of the same pipe, but for bytes that it published and its room, for how it waits,
 -- and for what its generator draws next: it may have seen closed now, and lends nothing
 pub record SameWriterButMoved (a b : Writer) : Type 0 where
-  pub slots : SameWriterCells a b
+  pub cells : b.side.cells ≡ a.side.cells
+  pub source : b.source ≡ a.source
   pub end : WriterCopied a.side.end b.side.end
 
 -- all that a write says of a handle, its answer, the slice and the context: it fills. A `&mut` to the
@@ -143,29 +143,12 @@ pub record WritesAsFill (a b : Writer) (r : Count) (bytes : List ℕ)
   pub woken : WakesReader a b
   pub rest : SameWriterButMoved a b
 
--- and it waits as it did, and draws the same numbers next
-pub record SameWriterButTried (a b : Writer) : Type 0 where
-  pub handle : SameWriterButWoke a b
-  pub end : WriterCopied a.side.end b.side.end
-
--- the writer, but for the bytes that it published, and the room and the slice that they were in
-pub record SameWriterButPublished (a b : Writer) : Type 0 where
-  pub handle : SameWriterButWoke a b
-  pub end : WriterPublished a.side.end b.side.end
-
 -- the writer, which has closed the pipe for good: it lends nothing any more
 pub record SameWriterButShut (a b : Writer) : Type 0 where
-  pub handle : SameWriterButSlots a b
+  pub handle : SameWriter EmptiesOwn a b
   pub end : b.side.end ≡ record a.side.end { shut = true; saw = true; lent = [] }
 
--- the writer, but for what marks reported to it
+-- the writer made no call: it only learned something
 pub record SameWriterButTold (a b : Writer) : Type 0 where
-  pub handle : SameWriter a b
+  pub handle : SameWriter KeepsSlots a b
   pub log : b.side.log ≡ a.side.log
-  pub end : b.side.end ≡ record a.side.end { told = b.side.end.told }
-
--- and that the reader was dropped
-pub record SameWriterButLast (a b : Writer) : Type 0 where
-  pub handle : SameWriter a b
-  pub log : b.side.log ≡ a.side.log
-  pub end : b.side.end ≡ record a.side.end { told = b.side.end.told; saw = true }

@@ -1,10 +1,11 @@
 //! The calls of both handles, but for copies (copies/) and those that their end of the ring answers
 //! (handles/ends.rt).
-ghost use Rattle.std.specs.Prelude.{◌≡◌, ◌+◌, ◌<◌, ◌≤◌, ◌++◌, length, take, drop, IsTrue, Ok, true};
+ghost use Rattle.std.specs.Prelude.{◌≡◌, ◌-◌, ◌<◌, ◌≤◌, ◌++◌, length, take, drop, IsTrue, Ok, true};
 ghost use Rattle.futures.specs.Task.{Keeps};
 ghost use Rattle.futures.specs.Poll.{OnPending};
 ghost use Rattle.piper_protocol.specs.Table.{ends};
 ghost use Rattle.piper_ring.specs.Log.{Opened, Ran};
+ghost use Rattle.piper_ring.specs.SlotsView.{OnlyWaits, WaitsAsBefore};
 ghost use Rattle.piper.specs.Called.{CallsTaken, HasDropped};
 ghost use Rattle.piper.specs.Looks.{OnRefused};
 ghost use Rattle.piper.specs.Runs.{poll_answer};
@@ -21,9 +22,9 @@ use piper_ring::{
 impl Reader {
     ghost use Rattle.piper_ring.specs.Loads.{FoundClosed};
     ghost use Rattle.piper.specs.Counts.{ReaderCompares};
-    ghost use Rattle.piper.specs.Handles.{NotifiesWriter, SameReaderButWaits};
+    ghost use Rattle.piper.specs.Handles.{NotifiesWriter, SameReader};
     ghost use Rattle.piper.specs.OfReader.{ring, capacity, taken, known, end_of, front, log, saw, slots, told_shut};
-    ghost use Rattle.piper.specs.ReaderCalls.{AtEnd, MayBeUnread, Polled, PollsEnd, SameReaderButConsumed};
+    ghost use Rattle.piper.specs.ReaderCalls.{AtEnd, MayBeUnread, Polled, PollsEnd};
     ghost use Rattle.piper_ring.specs.Looks.{looks_at};
     ghost use Rattle.piper.specs.Waits.{ReaderIsRefused, ReaderPends, ReaderWokeLast};
 
@@ -86,7 +87,7 @@ impl Reader {
         ensures pending { OnPending result (ReaderPends self.old self.new cx.new) }
         ensures memory { OnRefused result (ReaderIsRefused self.new cx.new) }
         ensures context { Keeps cx.old cx.new }
-        ensures rest { SameReaderButWaits self.old self.new }
+        ensures rest { SameReader OnlyWaits self.old self.new }
     {
         if !self.side.look_first(Purpose::Poll) {
             match self.look_waiting(Purpose::Poll, cx) {
@@ -122,12 +123,14 @@ impl Reader {
         requires { amt ≤ front self.old }
         ensures ran { Ran (Point.Reader (ReadPoint.StoreHead amt AfterRead.Answer)) Answer.Done
             (log self.old) (log self.new) }
-        ensures taken { taken self.new ≡ taken self.old ++ take amt (known self.old) }
-        ensures known { known self.new ≡ drop amt (known self.old) }
+        ensures taken { end_of self.new ≡ record (end_of self.old) {
+          taken = taken self.old ++ take amt (known self.old);
+          known = drop amt (known self.old);
+        } }
         ensures end { AtEnd self.old → AtEnd self.new }
         ensures woken { NotifiesWriter self.new }
         ensures called { CallsTaken (slots self.old) (slots self.new) }
-        ensures rest { SameReaderButConsumed self.old self.new }
+        ensures rest { SameReader WaitsAsBefore self.old self.new }
     {
         self.side.begin(Point::Reader(ReadPoint::StoreHead(amt, AfterRead::Answer)));
         self.side.store_head(amt);
@@ -182,10 +185,10 @@ impl Reader {
 impl Writer {
     ghost use Rattle.piper_ring.specs.Loads.{FoundClosed};
     ghost use Rattle.piper.specs.Counts.{WriterCompares};
-    ghost use Rattle.piper.specs.Handles.{NotifiesReader, SameWriterButWaits};
-    ghost use Rattle.piper.specs.OfWriter.{ring, capacity, sent, room, lent, log, shut, saw, slots};
+    ghost use Rattle.piper.specs.Handles.{NotifiesReader, SameWriter};
+    ghost use Rattle.piper.specs.OfWriter.{ring, capacity, end_of, sent, room, lent, log, shut, saw, slots};
     ghost use Rattle.piper.specs.Waits.{WriterIsRefused, WriterLeavesNone, WriterPends, WriterWokeLast};
-    ghost use Rattle.piper.specs.WriterCalls.{MayBeUnread, Polled, SameWriterButPublished, SameWriterButShut};
+    ghost use Rattle.piper.specs.WriterCalls.{MayBeUnread, Polled, SameWriterButShut};
 
     /// How many bytes are unread now.
     ///
@@ -243,7 +246,7 @@ impl Writer {
         ensures pending { OnPending result (WriterPends self.old self.new cx.new) }
         ensures memory { OnRefused result (WriterIsRefused self.new cx.new) }
         ensures context { Keeps cx.old cx.new }
-        ensures rest { SameWriterButWaits self.old self.new }
+        ensures rest { SameWriter OnlyWaits self.old self.new }
     {
         match self.side.look_first(Purpose::Poll) {
             Look::Ready => {}
@@ -271,12 +274,15 @@ impl Writer {
         requires { n ≤ length (lent self.old) }
         ensures ran { Ran (Point.Writer (WritePoint.StoreTail n AfterWrite.Answer)) Answer.Done
             (log self.old) (log self.new) }
-        ensures sent { sent self.new ≡ sent self.old ++ take n (lent self.old) }
-        ensures lent { lent self.new ≡ drop n (lent self.old) }
-        ensures room { room self.new + n ≡ room self.old }
+        ensures room { n ≤ room self.old }
+        ensures sent { end_of self.new ≡ record (end_of self.old) {
+          sent = sent self.old ++ take n (lent self.old);
+          lent = drop n (lent self.old);
+          room = room self.old - n;
+        } }
         ensures woken { NotifiesReader self.new }
         ensures called { CallsTaken (slots self.old) (slots self.new) }
-        ensures rest { SameWriterButPublished self.old self.new }
+        ensures rest { SameWriter WaitsAsBefore self.old self.new }
     {
         self.side.begin(Point::Writer(WritePoint::StoreTail(n, AfterWrite::Answer)));
         self.side.store_tail(n);

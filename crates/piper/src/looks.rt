@@ -4,7 +4,8 @@ ghost use Rattle.futures.specs.Task.{Keeps};
 ghost use Rattle.piper_protocol.specs.Table.{goes_on, reader_found, reader_found_none, writer_found, writer_found_none};
 ghost use Rattle.piper_ring.specs.Log.{Comes, Opened, now};
 ghost use Rattle.piper_ring.specs.Looks.{IsEnded, ReaderIsUpToDate, ReaderLooked, WriterIsUpToDate, WriterLooked, looks_at};
-ghost use Rattle.piper_ring.specs.ReadView.{KnowsEnd};
+ghost use Rattle.piper_ring.specs.ReadView.{KeepsAll};
+ghost use Rattle.piper_ring.specs.SlotsView.{OnlyWaits};
 ghost use Rattle.piper.specs.Looks.{IfPending, ReaderWaited, WriterWaited};
 ghost use Rattle.piper.specs.Runs.{wait_next};
 
@@ -15,7 +16,7 @@ use piper_protocol::table::{Point, Purpose, ReadPoint, WritePoint};
 use piper_ring::{Look, OutOfMemory};
 
 impl Reader {
-    ghost use Rattle.piper.specs.Handles.{SameReaderButWaits};
+    ghost use Rattle.piper.specs.Handles.{SameReader};
     ghost use Rattle.piper.specs.Waits.{ReaderIsRefused, ReaderPends};
 
     /// The rest of a look that waits, if no byte was found.
@@ -35,9 +36,9 @@ impl Reader {
         ensures pending { IfPending result (ReaderPends self.old self.new cx.new) }
         ensures refused { OnErr result (ReaderIsRefused self.new cx.new) }
         ensures looked { ReaderLooked self.old.side.end self.new.side.end }
-        ensures all { KnowsEnd self.old.side.end → self.new.side.end.all ≡ self.old.side.end.all }
+        ensures all { KeepsAll self.old.side.end self.new.side.end }
         ensures stays { IsEnded self.old.side.end → IsEnded self.new.side.end }
-        ensures rest { SameReaderButWaits self.old self.new }
+        ensures rest { SameReader OnlyWaits self.old self.new }
         ensures kept { Keeps cx.old cx.new }
     {
         if !register(&mut self.side, &self.source, cx) {
@@ -48,7 +49,7 @@ impl Reader {
 }
 
 impl Writer {
-    ghost use Rattle.piper.specs.Handles.{SameWriterButWaits};
+    ghost use Rattle.piper.specs.Handles.{SameWriter};
     ghost use Rattle.piper.specs.Waits.{WriterIsRefused, WriterPends};
 
     /// The rest of a look that waits, if the pipe is open and no room was found.
@@ -69,7 +70,7 @@ impl Writer {
         ensures pending { IfPending result (WriterPends self.old self.new cx.new) }
         ensures refused { OnErr result (WriterIsRefused self.new cx.new) }
         ensures looked { WriterLooked self.old.side.end self.new.side.end }
-        ensures rest { SameWriterButWaits self.old self.new }
+        ensures rest { SameWriter OnlyWaits self.old self.new }
         ensures kept { Keeps cx.old cx.new }
     {
         if !register(&mut self.side, &self.source, cx) {

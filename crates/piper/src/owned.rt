@@ -5,7 +5,7 @@ ghost use Rattle.std.specs.Io.BufRead.{Rests};
 ghost use Rattle.futures.specs.Task.{Keeps};
 ghost use Rattle.piper.specs.Called.{CallsTaken, HasDropped};
 ghost use Rattle.piper.specs.Contexts.{WantsWaker};
-ghost use Rattle.piper.specs.Ends.{IsEnded};
+ghost use Rattle.piper.specs.Looks.{IsEnded};
 ghost use Rattle.piper.specs.Waits.{ReaderIsWaiting, WriterIsWaiting, WriterLeavesNone};
 ghost use Rattle.piper.specs.Handles.{AreFresh, ArePair, DrawFrom};
 ghost use Rattle.piper_protocol.specs.Reported.{HasFailed};

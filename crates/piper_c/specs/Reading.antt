@@ -1,9 +1,9 @@
 -- What the calls of the reading side find, and what they leave of it.
 use Rattle.std.specs.Prelude.{◌≡◌, ℕ, ◌<◌, ◌≤◌, ◌+◌, ◌-◌, min, ◌++◌, take, drop, Bool, true, false, List, [], ◌⊎◌, length, Option}
-use Rattle.piper_ring.specs.Shared.{flag}
 use Rattle.piper_ring.specs.Loads.{FoundClosed, IsAway}
-use Rattle.piper_ring.specs.ReadView.{HasLoaded, ReadView, SameReadEnd, SameButSaw, in_one_piece, read_place}
-use Rattle.piper_ring.specs.SlotsView.{SlotsView, IsPending, IsReaderAtRest, SameLooks, SamePlace}
+use Rattle.piper_ring.specs.Looks.{IsEnded, ReaderLooked as EndLooked}
+use Rattle.piper_ring.specs.ReadView.{HasLoaded, ReadView, KeepsAll, in_one_piece, read_place}
+use Rattle.piper_ring.specs.SlotsView.{SlotsView, IsPending, IsReaderAtRest, OnlyWaits, WaitsAsBefore}
 use Rattle.piper_c.specs.declared.halves.ReadHalf.{ReadHalf}
 use Rattle.piper_c.specs.declared.outcome.Outcome.{Outcome}
 use Rattle.piper_c.specs.declared.outcome.Outcome.TheVariants.{Pending, Ready, End, Again, Refused}
@@ -15,12 +15,6 @@ use Rattle.piper_c.specs.declared.words.PiperMoved.{PiperMoved}
 use Rattle.piper_c.specs.declared.words.PiperWords.{PiperWords}
 use Rattle.piper_c.specs.Outcome.{code}
 use Rattle.piper_c.specs.Waiting.{GotBack, IsRefusal, IsTold, Took, HandedOut}
-
--- the pipe was seen closed, and all that was ever published has been taken
-pub record IsEnded (r : ReadView) : Type 0 where
-  pub known : r.known ≡ []
-  pub saw : r.saw ≡ true
-  pub all : r.taken ≡ r.all
 
 -- what a poll found; it has to be made again only where the place of the words is away
 abbrev pub ReaderFound : Outcome → ReadHalf → Type 0
@@ -38,15 +32,10 @@ ReaderSaw Pending r = (r.side.end.known ≡ []) × (r.side.end.saw ≡ false)
 ReaderSaw Again r = ⊥
 ReaderSaw Refused r = ⊥
 
--- a poll takes no byte, and what it saw of closed it keeps; nobody is taken from the writer's slot.
--- Where no byte was known it has loaded the tail
+-- a poll looked, which takes no byte, and nobody was taken from the writer's slot
 pub record ReaderLooked (a b : ReadHalf) : Type 0 where
-  pub end : SameReadEnd a.side.end b.side.end
-  pub taken : b.side.end.taken ≡ a.side.end.taken
-  pub known : 0 < length a.side.end.known → b.side.end ≡ a.side.end
-  pub loaded : a.side.end.known ≡ [] → HasLoaded b.side.end
-  pub saw : flag a.side.end.saw ≤ flag b.side.end.saw
-  pub looks : SameLooks a.side.slots b.side.slots
+  pub end : EndLooked a.side.end b.side.end
+  pub waits : OnlyWaits a.side.slots b.side.slots
   pub places : b.side.cells ≡ a.side.cells
 
 -- a poll gives back the words that it took out of its slot, and those that it didn't leave; it
@@ -65,7 +54,7 @@ pub record ReaderGotBack (mine : Waiter) (p : Polled) (a b : ReadHalf) : Type 0 
 pub record TookWriter (taken : Option Waiter) (old : SlotsView) (b : ReadHalf) : Type 0 where
   pub rests : IsReaderAtRest b.side.end b.side.slots
   pub took : Took taken old.names old.taken b.side.slots.taken
-  pub own : SamePlace old b.side.slots
+  pub own : WaitsAsBefore old b.side.slots
 
 -- after the close by which a left, the writer's slot was checked: words come out exactly
 -- where a ticket of the writer's was taken
@@ -76,10 +65,10 @@ pub record LeftReading (a : ReadHalf) (taken : Option Waiter) (left : SlotsView)
 
 -- the pipe was checked for its end: what the answer says was seen, and what was seen once stays
 pub record ReaderAsked (is_closed : Bool) (a b : ReadHalf) : Type 0 where
-  pub saw : is_closed ≡ b.side.end.saw
   pub found : FoundClosed a.side.end.ring.names is_closed
-  pub stays : flag a.side.end.saw ≤ flag b.side.end.saw
-  pub end : SameButSaw a.side.end b.side.end
+  pub stays : a.side.end.saw ≡ true → is_closed ≡ true
+  pub all : KeepsAll a.side.end b.side.end
+  pub end : b.side.end ≡ record a.side.end { saw = is_closed; all = b.side.end.all }
   pub slots : b.side.slots ≡ a.side.slots
   pub places : b.side.cells ≡ a.side.cells
 
@@ -94,8 +83,9 @@ pub record ReadsInto (old new : List ℕ) (n : ℕ) (a b : ReadHalf) : Type 0 wh
   pub most : n ≡ min (length old)
       (min (n + length b.side.end.known) (a.side.end.capacity - read_place a.side.end))
   pub none : n ≡ 0 → (old ≡ []) ⊎ (b.side.end.known ≡ [])
-  pub end : SameReadEnd a.side.end b.side.end
-  pub saw : flag a.side.end.saw ≤ flag b.side.end.saw
+  pub saw : a.side.end.saw ≡ true → b.side.end.saw ≡ true
+  pub end : b.side.end ≡ record a.side.end
+      { taken = b.side.end.taken; known = b.side.end.known; saw = b.side.end.saw; all = b.side.end.all }
   pub places : b.side.cells ≡ a.side.cells
 
 -- the exports
@@ -115,7 +105,7 @@ pub record ReaderTold (mine : PiperWords) (p : PiperPolled) (a b : ReadHalf) : T
 pub record WakesWriter (wake : PiperWords) (old : SlotsView) (b : ReadHalf) : Type 0 where
   pub rests : IsReaderAtRest b.side.end b.side.slots
   pub took : HandedOut wake old.names old.taken b.side.slots.taken
-  pub own : SamePlace old b.side.slots
+  pub own : WaitsAsBefore old b.side.slots
 
 -- n bytes were taken, from the front of those that the reader knows of
 pub record ReaderTook (n : ℕ) (wake : PiperWords) (a b : ReadHalf) : Type 0 where

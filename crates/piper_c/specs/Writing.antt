@@ -1,9 +1,9 @@
 -- What the calls of the writing side find, and what they leave of it.
 use Rattle.std.specs.Prelude.{◌≡◌, ℕ, ◌<◌, ◌≤◌, ◌+◌, ◌-◌, ◌++◌, ◌⊎◌, take, drop, Bool, true, false, List, [], length, Option}
-use Rattle.piper_ring.specs.Shared.{flag}
 use Rattle.piper_ring.specs.Loads.{FoundClosed, IsAway}
-use Rattle.piper_ring.specs.WriteView.{HasLoadedHead, Lendable, SameWriteEnd, SameButSaw}
-use Rattle.piper_ring.specs.SlotsView.{SlotsView, IsWriterPending, IsAtRest, SameLooks, SamePlace}
+use Rattle.piper_ring.specs.Looks.{WriterLooked as EndLooked}
+use Rattle.piper_ring.specs.WriteView.{HasLoadedHead, Lendable}
+use Rattle.piper_ring.specs.SlotsView.{SlotsView, IsWriterPending, IsAtRest, OnlyWaits, WaitsAsBefore}
 use Rattle.piper_c.specs.declared.halves.WriteHalf.{WriteHalf}
 use Rattle.piper_c.specs.declared.outcome.Outcome.{Outcome}
 use Rattle.piper_c.specs.declared.outcome.Outcome.TheVariants.{Pending, Ready, End, Again, Refused}
@@ -32,18 +32,10 @@ WriterSaw Pending w = (w.side.end.room ≡ 0) × (w.side.end.saw ≡ false)
 WriterSaw Again w = ⊥
 WriterSaw Refused w = ⊥
 
--- a poll publishes nothing and takes back nothing, and what it saw of closed it keeps; nobody is
--- taken from the reader's slot. Where no room was known and the pipe isn't seen closed, it has loaded
--- the head
+-- a poll looked, which publishes and takes back nothing, and nobody was taken from the reader's slot
 pub record WriterLooked (a b : WriteHalf) : Type 0 where
-  pub end : SameWriteEnd a.side.end b.side.end
-  pub sent : b.side.end.sent ≡ a.side.end.sent
-  pub lent : b.side.end.lent ≡ a.side.end.lent
-  pub shut : b.side.end.shut ≡ a.side.end.shut
-  pub known : 0 < a.side.end.room → b.side.end.room ≡ a.side.end.room
-  pub loaded : a.side.end.room ≡ 0 → b.side.end.saw ≡ false → HasLoadedHead b.side.end
-  pub saw : flag a.side.end.saw ≤ flag b.side.end.saw
-  pub looks : SameLooks a.side.slots b.side.slots
+  pub end : EndLooked a.side.end b.side.end
+  pub waits : OnlyWaits a.side.slots b.side.slots
   pub places : b.side.cells ≡ a.side.cells
 
 -- a poll gives back the words that it took out of its slot, and those that it didn't leave; it
@@ -64,7 +56,7 @@ pub record WriterGotBack (mine : Waiter) (p : Polled) (a b : WriteHalf) : Type 0
 pub record TookReader (taken : Option Waiter) (old : SlotsView) (b : WriteHalf) : Type 0 where
   pub rests : IsAtRest b.side.end b.side.slots
   pub took : Took taken old.names old.taken b.side.slots.taken
-  pub own : SamePlace old b.side.slots
+  pub own : WaitsAsBefore old b.side.slots
 
 -- the same in a close, which takes the writer's own words back, too, and leaves none
 pub record TookReaderLast (taken : Option Waiter) (old : SlotsView) (b : WriteHalf) : Type 0 where
@@ -81,11 +73,10 @@ pub record LeftWriting (a : WriteHalf) (taken : Option Waiter) (left : SlotsView
 
 -- the pipe was checked for its end: what the answer says was seen, and what was seen once stays
 pub record WriterAsked (is_closed : Bool) (a b : WriteHalf) : Type 0 where
-  pub saw : is_closed ≡ b.side.end.saw
   pub found : FoundClosed a.side.end.ring.names is_closed
-  pub stays : flag a.side.end.saw ≤ flag b.side.end.saw
+  pub stays : a.side.end.saw ≡ true → is_closed ≡ true
   pub shut : a.side.end.shut ≡ true → is_closed ≡ true
-  pub end : SameButSaw a.side.end b.side.end
+  pub end : b.side.end ≡ record a.side.end { saw = is_closed }
   pub slots : b.side.slots ≡ a.side.slots
   pub places : b.side.cells ≡ a.side.cells
 
@@ -95,14 +86,13 @@ pub record WriterAsked (is_closed : Bool) (a b : WriteHalf) : Type 0 where
 pub record WritesFrom (from : List ℕ) (n : ℕ) (a b : WriteHalf) : Type 0 where
   pub count : n ≤ length from
   pub sent : b.side.end.sent ≡ a.side.end.sent ++ take n from
-  pub lent : b.side.end.lent ≡ []
   pub none : n ≡ 0 → (from ≡ []) ⊎ ((b.side.end.room ≡ 0) ⊎ (b.side.end.saw ≡ true))
   pub some : 0 < n → b.side.end.saw ≡ false
   pub most : b.side.end.saw ≡ false →
       Lendable (record a.side.end { room = b.side.end.room + n }) (length from) n
   pub loaded : a.side.end.room ≡ 0 → b.side.end.saw ≡ false → HasLoadedHead b.side.end
-  pub end : SameWriteEnd a.side.end b.side.end
-  pub shut : b.side.end.shut ≡ a.side.end.shut
+  pub end : b.side.end ≡ record a.side.end
+      { sent = b.side.end.sent; room = b.side.end.room; lent = []; saw = b.side.end.saw }
   pub places : b.side.cells ≡ a.side.cells
 
 -- the exports
@@ -129,7 +119,7 @@ pub record WriterTold (mine : PiperWords) (p : PiperPolled) (a b : WriteHalf) : 
 pub record WakesReader (wake : PiperWords) (old : SlotsView) (b : WriteHalf) : Type 0 where
   pub rests : IsAtRest b.side.end b.side.slots
   pub took : HandedOut wake old.names old.taken b.side.slots.taken
-  pub own : SamePlace old b.side.slots
+  pub own : WaitsAsBefore old b.side.slots
 
 pub record WriterWrites (from : List ℕ) (moved : PiperMoved) (a b : WriteHalf) : Type 0 where
   pub wrote : WritesFrom from moved.count a b

@@ -5,7 +5,7 @@
 ghost use Rattle.std.specs.Prelude.{◌≡◌, IfErr, IfOk, IsSome, None, Ok, true, false};
 ghost use Rattle.piper_ring.specs.Loads.{CameBack, IsAway, WasPut, WasTakenBack};
 ghost use Rattle.piper_ring.specs.Log.{Comes, WakesNext, made, next, now, other, own, then};
-ghost use Rattle.piper_ring.specs.SlotsView.{Registers, SamePlace};
+ghost use Rattle.piper_ring.specs.SlotsView.{Registers, WaitsAsBefore};
 ghost use Rattle.piper_c.specs.Waiting.{Took, TookBack};
 
 use crate::words::Waiter;
@@ -94,7 +94,7 @@ pub(crate) fn wake_other<E: SlotEnd>(side: &mut Side<E, Waiter>) -> Option<Waite
     ensures log { Comes (then (now side.old.log) (Found.Waker false)) side.old.log side.new.log }
     ensures rests { side.new.slots.stored ≡ E.stored_of side.new.end }
     ensures took { Took result side.old.slots.names side.old.slots.taken side.new.slots.taken }
-    ensures own { SamePlace side.old.slots side.new.slots }
+    ensures own { WaitsAsBefore side.old.slots side.new.slots }
     ensures rest { (side.new.end ≡ side.old.end) × (side.new.cells ≡ side.old.cells) }
 {
     if side.nobody_waits() {
@@ -110,7 +110,7 @@ pub(crate) fn wake_waiting<E: SlotEnd>(side: &mut Side<E, Waiter>) -> Option<Wai
     ensures log { Comes (then (now side.old.log) (Found.Waker false)) side.old.log side.new.log }
     ensures rests { side.new.slots.stored ≡ E.stored_of side.new.end }
     ensures took { Took result side.old.slots.names side.old.slots.taken side.new.slots.taken }
-    ensures own { SamePlace side.old.slots side.new.slots }
+    ensures own { WaitsAsBefore side.old.slots side.new.slots }
     ensures rest { (side.new.end ≡ side.old.end) × (side.new.cells ≡ side.old.cells) }
 {
     let taken = side.take();

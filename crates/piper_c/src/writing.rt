@@ -13,7 +13,7 @@ use piper_ring::{Finished, FinishedWriter, Look};
 
 impl WriteHalf {
     ghost use Rattle.piper_ring.specs.Loads.{FoundWaiter};
-    ghost use Rattle.piper_ring.specs.WriteView.{HasLoadedHead};
+    ghost use Rattle.piper_ring.specs.Looks.{WriterIsUpToDate};
     ghost use Rattle.piper_c.specs.Leaving.{HasLeft};
     ghost use Rattle.piper_c.specs.Waiting.{TookBack};
     ghost use Rattle.piper_c.specs.Writing.{LeftWriting, WriterAsked, WriterFound, WriterSaw, WritesFrom, WriterLooked, WriterGotBack, TookReader, TookReaderLast};
@@ -47,7 +47,7 @@ impl WriteHalf {
             ≡ goes_on (Point.Writer (WritePoint.LookRegister Purpose.Poll)) }
         requires none { self.old.side.end.room ≡ 0 }
         requires open { (self.old.side.end.saw ≡ false) × (self.old.side.end.shut ≡ false) }
-        requires fresh { HasLoadedHead self.old.side.end }
+        requires fresh { WriterIsUpToDate self.old.side.end }
         ensures ran { Comes (ends (Point.Writer WritePoint.Idle) (poll_answer result.outcome))
             self.old.side.log self.new.side.log }
         ensures found { WriterFound result.outcome self.new }

@@ -1,8 +1,9 @@
 -- What is filled in two polls is filled in order.
-use Rattle.std.proofs.Common.{◌≡◌, ◌∙◌, refl, sym, ap, subst, le_trans, ℕ, Bool, true, false, List, [], ◌∷◌, ◌++◌, append_assoc, append-nil, Option, Result, Ok, Err}
+use Rattle.std.proofs.Common.{◌≡◌, ◌∙◌, refl, sym, ap, subst, ℕ, Bool, true, false, List, [], ◌∷◌, ◌++◌, append_assoc, append-nil, Option, Result, Ok, Err}
 use Rattle.std.specs.Io.KnownBytes.{Consumes}
 use Rattle.std.proofs.KnownBytes.{Consumes-trans}
 use Rattle.futures.specs.declared.task.context.Context.{Context}
+use Rattle.piper.specs.WriteView.{WriteView}
 use Rattle.piper.specs.WriterCalls.{SameWriterButMoved}
 use Rattle.piper.specs.declared.error.PipeError.{PipeError}
 use Rattle.piper.specs.declared.handles.Writer.{Writer}
@@ -53,12 +54,11 @@ module _ {W S : Type 0} (sent : W → List ℕ) (saw : W → Bool) (woken : W �
 pub same_then : (a b c : Writer) → SameWriterButMoved a b → SameWriterButMoved b c → SameWriterButMoved a c
 same_then a b c first second =
     record {
-      slots = (second.slots.0 ∙ first.slots.0, second.slots.1 ∙ first.slots.1);
+      cells = second.cells ∙ first.cells;
+      source = second.source ∙ first.source;
       end =
           record {
-            end = record { ring = second.end.end.ring ∙ first.end.end.ring; capacity = second.end.end.capacity ∙ first.end.end.capacity; told = second.end.end.told ∙ first.end.end.told };
-            shut = second.end.shut ∙ first.end.shut;
-            lent = second.end.lent;
-            saw = le_trans first.end.saw second.end.saw;
+            saw = λ seen. second.end.saw (first.end.saw seen);
+            rest = second.end.rest ∙ ap (λ (v : WriteView). record v { sent = c.side.end.sent; room = c.side.end.room; lent = []; saw = c.side.end.saw }) first.end.rest;
           };
     }

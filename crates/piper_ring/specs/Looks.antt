@@ -6,9 +6,8 @@ use Rattle.piper_protocol.specs.declared.table.Point.{Point}
 use Rattle.piper_protocol.specs.declared.table.Point.TheVariants.{Reader, Writer}
 use Rattle.piper_protocol.specs.declared.table.Purpose.{Purpose}
 use Rattle.piper_ring.specs.Log.{idle}
-use Rattle.piper_ring.specs.ReadView.{HasLoaded, ReadView, SameReadEnd}
-use Rattle.piper_ring.specs.Shared.{flag}
-use Rattle.piper_ring.specs.WriteView.{HasLoadedHead, SameWriteEnd, WriteView}
+use Rattle.piper_ring.specs.ReadView.{HasLoaded, ReadView}
+use Rattle.piper_ring.specs.WriteView.{HasLoadedHead, WriteView}
 use Rattle.piper_ring.specs.declared.ends.slots.looks.Look.{Look}
 use Rattle.piper_ring.specs.declared.ends.slots.looks.Look.TheVariants as look
 
@@ -64,11 +63,10 @@ ReaderSees look.NotReady r = NothingYet r
 -- a look of the reader takes no byte, and what it saw of closed it keeps. It checks only where no
 -- byte is known, and then finds at least what the reader was told of
 pub record ReaderLooked (a b : ReadView) : Type 0 where
-  pub end : SameReadEnd a b
-  pub taken : b.taken ≡ a.taken
   pub known : 0 < length a.known → b ≡ a
   pub fresh : a.known ≡ [] → ReaderIsUpToDate b
-  pub saw : flag a.saw ≤ flag b.saw
+  pub saw : a.saw ≡ true → b.saw ≡ true
+  pub rest : b ≡ record a { known = b.known; saw = b.saw; all = b.all }
 
 -- what a look of the writer finds: room, and the pipe open; or the pipe closed; or neither
 abbrev pub WriterSees : Look → WriteView → Type 0
@@ -80,10 +78,7 @@ WriterSees look.NotReady w = (w.room ≡ 0) × (w.shut ≡ false) × (w.saw ≡ 
 -- checks for room only where none is known, and then, unless it saw closed, finds at least what the
 -- writer was told of
 pub record WriterLooked (a b : WriteView) : Type 0 where
-  pub end : SameWriteEnd a b
-  pub sent : b.sent ≡ a.sent
-  pub lent : b.lent ≡ a.lent
-  pub shut : b.shut ≡ a.shut
   pub known : 0 < a.room → b.room ≡ a.room
   pub fresh : a.room ≡ 0 → b.saw ≡ false → WriterIsUpToDate b
-  pub saw : flag a.saw ≤ flag b.saw
+  pub saw : a.saw ≡ true → b.saw ≡ true
+  pub rest : b ≡ record a { room = b.room; saw = b.saw }

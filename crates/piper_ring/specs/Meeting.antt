@@ -1,7 +1,6 @@
 -- What both ends know once one thread held them.
-use Rattle.std.specs.Prelude.{◌≡◌, ◌+◌, ◌≤◌, ◌++◌, length}
+use Rattle.std.specs.Prelude.{◌≡◌, ◌+◌, ◌++◌, true, length}
 use Rattle.piper_ring.specs.ReadView.{KnowsEnd, KnowsMore, ReadView}
-use Rattle.piper_ring.specs.Shared.{flag}
 use Rattle.piper_ring.specs.WriteView.{HasMoreRoom, WriteView}
 
 -- the reader a became b and the writer c became d: they know of all bytes that were published, and of
@@ -9,8 +8,8 @@ use Rattle.piper_ring.specs.WriteView.{HasMoreRoom, WriteView}
 pub record EndsMeet (a b : ReadView) (c d : WriteView) : Type 0 where
   pub fifo : b.taken ++ b.known ≡ d.sent
   pub room : d.room + length b.known ≡ b.capacity
-  pub shut : flag b.saw ≤ flag d.shut
-  pub told : flag b.told_shut ≤ flag d.shut
+  pub shut : b.saw ≡ true → d.shut ≡ true
+  pub told : b.told_shut ≡ true → d.shut ≡ true
   pub last : KnowsEnd b → b.all ≡ d.sent
   pub other_shut : d.saw ≡ d.shut
   pub reader : KnowsMore a b

@@ -86,44 +86,24 @@ pub record MayBeUnread (r : ReadView) (n : ℕ) : Type 0 where
   pub end : KnowsEnd r → length r.taken + n ≡ length r.all
   pub found : FoundPublished r.ring.names (length r.taken + n)
 
--- b is the same end as a, and nothing was told to it since
-pub record SameReadEnd (a b : ReadView) : Type 0 where
-  pub ring : b.ring ≡ a.ring
-  pub capacity : b.capacity ≡ a.capacity
-  pub told : b.told ≡ a.told
-  pub told_shut : b.told_shut ≡ a.told_shut
+-- what the end knows to be all that was ever published is so still
+abbrev pub KeepsAll : ReadView → ReadView → Type 0
+KeepsAll a b = KnowsEnd a → b.all ≡ a.all
 
--- b is a, but for bytes that it came to know of since
+-- since a the end came to know of bytes, and of nothing else
 pub record KnowsMore (a b : ReadView) : Type 0 where
-  pub end : SameReadEnd a b
-  pub taken : b.taken ≡ a.taken
-  pub known : (xs : List ℕ) × (b.known ≡ a.known ++ xs)
-  pub saw : b.saw ≡ a.saw
-  pub all : KnowsEnd a → b.all ≡ a.all
-
--- b is a, but for what was told to it since
-pub record SameButTold (a b : ReadView) : Type 0 where
-  pub ring : b.ring ≡ a.ring
-  pub capacity : b.capacity ≡ a.capacity
-  pub taken : b.taken ≡ a.taken
-  pub known : b.known ≡ a.known
-  pub saw : b.saw ≡ a.saw
-  pub all : KnowsEnd a → b.all ≡ a.all
+  pub more : (xs : List ℕ) × (b.known ≡ a.known ++ xs)
+  pub all : KeepsAll a b
+  pub rest : b ≡ record a { known = b.known; all = b.all }
 
 -- since a, the end b learned from a mark what that reports
 pub record Heeds (mark : WriteMark) (a b : ReadView) : Type 0 where
   pub told : b.told ≡ max a.told (length mark.bytes)
-  pub shut : flag b.told_shut ≡ max (flag a.told_shut) (flag mark.shut)
+  pub shut : b.told_shut ≡ either a.told_shut mark.shut
   pub agree : Agree (b.taken ++ b.known) mark.bytes
   pub last : mark.shut ≡ true → (b.all ≡ mark.bytes) × HasTheRest b
-  pub kept : SameButTold a b
-
--- b is a, but for what it saw of the pipe's end since
-pub record SameButSaw (a b : ReadView) : Type 0 where
-  pub end : SameReadEnd a b
-  pub taken : b.taken ≡ a.taken
-  pub known : b.known ≡ a.known
-  pub all : KnowsEnd a → b.all ≡ a.all
+  pub all : KeepsAll a b
+  pub rest : b ≡ record a { told = b.told; told_shut = b.told_shut; all = b.all }
 
 -- how the end keeps its view
 pub record IsReadEnd (e : ReadParts) : Type 0 where

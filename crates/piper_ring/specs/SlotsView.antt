@@ -61,22 +61,27 @@ pub record IsSlots {H : Type 0} (r : Bool) (tells : H → Names → Stored → T
   pub rests : s.wakes.holds ≡ false
   pub of_one_ring : s.wakes.names ≡ s.waits.names
 
--- nothing changed of how the side waits
-abbrev pub SamePlace : SlotsView → SlotsView → Type 0
-SamePlace a b =
-    (b.names ≡ a.names) × (b.owns ≡ a.owns) × (b.tickets ≡ a.tickets) × (b.heard ≡ a.heard)
-    × (b.maybe_registered ≡ a.maybe_registered)
+-- the side is registered in its slot, under a new ticket
+abbrev pub Registers : SlotsView → SlotsView → Type 0
+Registers a b =
+    b ≡ record a { owns = false; maybe_registered = true; tickets = a.tickets + 1; heard = b.heard }
 
--- whom the side took stays the same, and so does what it had stored when it last checked
-abbrev pub SameLooks : SlotsView → SlotsView → Type 0
-SameLooks a b = (b.names ≡ a.names) × (b.taken ≡ a.taken) × (b.stored ≡ a.stored)
+-- the side waits as it did: since a it has at most checked the other's slot
+abbrev pub WaitsAsBefore : SlotsView → SlotsView → Type 0
+WaitsAsBefore a b = b ≡ record a { taken = b.taken; stored = b.stored }
 
--- the side is registered in its slot
-pub record Registers (old new : SlotsView) : Type 0 where
-  pub place : new.owns ≡ false
-  pub maybe : new.maybe_registered ≡ true
-  pub ticket : new.tickets ≡ old.tickets + 1
-  pub looks : SameLooks old new
+-- the side has not checked the other's slot since a: it waits as it did, or otherwise
+abbrev pub OnlyWaits : SlotsView → SlotsView → Type 0
+OnlyWaits a b = b ≡ slots_of a.names b.owns b.maybe_registered b.tickets b.heard a.taken a.stored
+
+-- the side emptied its own slot, and may have checked the other's
+abbrev pub EmptiesOwn : SlotsView → SlotsView → Type 0
+EmptiesOwn a b =
+    b ≡ record a { owns = b.owns; maybe_registered = false; taken = b.taken; stored = b.stored }
+
+-- nothing changed of the slots
+abbrev pub KeepsSlots : SlotsView → SlotsView → Type 0
+KeepsSlots a b = b ≡ a
 
 -- the reader waits: it has registered, and its look after that found nothing to do
 pub record IsPending (r : ReadView) (s : SlotsView) : Type 0 where

@@ -81,28 +81,10 @@ pub record MayBeUnread (w : WriteView) (n : ℕ) : Type 0 where
   pub told : n + w.told ≤ length w.sent
   pub found : FoundConsumed w.ring.names (length w.sent - n)
 
--- b is the same end as a, and nothing was told to it since
-pub record SameWriteEnd (a b : WriteView) : Type 0 where
-  pub ring : b.ring ≡ a.ring
-  pub capacity : b.capacity ≡ a.capacity
-  pub told : b.told ≡ a.told
-
--- b is a, but for room that it came to know of since
+-- since a the end came to know of room, and of nothing else
 pub record HasMoreRoom (a b : WriteView) : Type 0 where
-  pub end : SameWriteEnd a b
-  pub sent : b.sent ≡ a.sent
-  pub room : a.room ≤ b.room
-  pub lent : b.lent ≡ a.lent
-  pub shut : b.shut ≡ a.shut
-  pub saw : b.saw ≡ a.saw
-
--- b is a, but for what it saw of the pipe's end since
-pub record SameButSaw (a b : WriteView) : Type 0 where
-  pub end : SameWriteEnd a b
-  pub sent : b.sent ≡ a.sent
-  pub room : b.room ≡ a.room
-  pub lent : b.lent ≡ a.lent
-  pub shut : b.shut ≡ a.shut
+  pub more : a.room ≤ b.room
+  pub rest : b ≡ record a { room = b.room }
 
 -- how the end keeps its view
 pub record IsWriteEnd (e : WriteParts) : Type 0 where

@@ -1,5 +1,6 @@
 -- What a write counted was given, and a front of it published.
-use Rattle.std.proofs.Common.{◌≡◌, ℕ, ◌≤◌, ◌++◌, true, List, [], take, drop, length, sym, ap, ◌∙◌, arith, take-take, take-append-drop, drop_of_length-le, length-take}
+use Rattle.std.proofs.Common.{◌≡◌, ℕ, ◌≤◌, ◌++◌, true, List, [], take, drop, length, refl, subst, sym, ap, ◌∙◌, arith, take-take, take-append-drop, drop_of_length-le, length-take}
+use Rattle.piper.specs.WriteView.{WriteView}
 use Rattle.piper.specs.WriterCalls.{Filled, SameWriterButMoved}
 use Rattle.piper.specs.declared.handles.Writer.{Writer}
 use Rattle.piper.proofs.Traits.{as_many}
@@ -24,7 +25,9 @@ gave_front a b n xs filled over same =
       sent = filled.front.2;
       all = λ unseen. none_lost n m xs (as_many a.side.end.sent b.side.end.sent xs m n filled.front.1 filled.count filled.front.2 (filled.all unseen));
       over = λ seen. let none : n ≡ 0 = over seen in let zero : m ≡ 0 = omega (arith, filled.front.1) in ap (λ k. take k xs) zero;
-      saw = same.end.saw;
-      end = same.end.end;
-      slots = same.slots;
+      end = record {
+        saw = same.end.saw;
+        rest = subst (λ (v : WriteView). v ≡ record a.side.end { sent = v.sent; room = v.room; lent = v.lent; saw = v.saw }) (sym same.end.rest) refl;
+      };
+      handle = (same.cells, same.source);
     }

@@ -7,9 +7,8 @@ use Rattle.std.specs.declared.convert.Infallible.{Infallible}
 use Rattle.futures.specs.declared.task.context.Context.{Context}
 use Rattle.futures.specs.declared.task.Poll.{Poll}
 use Rattle.futures.specs.declared.task.Poll.TheVariants.{Ready, Pending}
-use Rattle.piper.specs.ReadView.{SameReadEnd}
-use Rattle.piper.specs.WriteView.{SameWriteEnd}
-use Rattle.piper.specs.Shared.{flag}
+use Rattle.piper.specs.Copies.{ReaderCopied}
+use Rattle.piper.specs.Fills.{WriterFilled}
 use Rattle.piper.specs.declared.error.Inner.{Inner}
 use Rattle.piper.specs.declared.error.Inner.TheVariants.{Memory}
 use Rattle.piper.specs.declared.handles.Reader.{Reader}
@@ -19,9 +18,8 @@ use Rattle.piper.specs.declared.handles.Writer.{Writer}
 -- an end of the same pipe, and what it saw of closed it keeps
 pub record Took (a : Reader) (xs : List ℕ) (b : Reader) : Type 0 where
   pub taken : b.side.end.taken ≡ a.side.end.taken ++ xs
-  pub saw : flag a.side.end.saw ≤ flag b.side.end.saw
-  pub end : SameReadEnd a.side.end b.side.end
-  pub slots : (b.side.cells ≡ a.side.cells) × (b.source ≡ a.source)
+  pub end : ReaderCopied a.side.end b.side.end
+  pub handle : (b.side.cells ≡ a.side.cells) × (b.source ≡ a.source)
 
 -- the writer a was given the bytes xs, in this order, and is b now:
 -- an end of the same pipe. What it published of them is their front,
@@ -33,9 +31,8 @@ pub record Gave (a : Writer) (xs : List ℕ) (b : Writer) : Type 0 where
   pub sent : b.side.end.sent ≡ a.side.end.sent ++ published
   pub all : b.side.end.saw ≡ false → lost ≡ []
   pub over : a.side.end.saw ≡ true → published ≡ []
-  pub saw : flag a.side.end.saw ≤ flag b.side.end.saw
-  pub end : SameWriteEnd a.side.end b.side.end
-  pub slots : (b.side.cells ≡ a.side.cells) × (b.source ≡ a.source)
+  pub end : WriterFilled a.side.end b.side.end
+  pub handle : (b.side.cells ≡ a.side.cells) × (b.source ≡ a.source)
 
 -- want of memory, since no waker could be made
 abbrev pub WantsMemory : Context → Error → Type 0

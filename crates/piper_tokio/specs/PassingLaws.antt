@@ -1,40 +1,33 @@
 -- What passes in two steps passes in order, and where nothing passes a handle is as it was.
 use Rattle.std.specs.Prelude.{◌≡◌, ◌≤◌, ◌++◌, Bool, true, false, List, [], ℕ, refl}
 use Rattle.std.proofs.Common.{sym, ap, ap₂, ◌∙◌, append_assoc, append-nil, le_refl, le_trans, not-suc-le-zero, true≢false}
-use Rattle.piper.specs.ReadView.{ReadView, SameReadEnd}
-use Rattle.piper.specs.WriteView.{WriteView, SameWriteEnd}
-use Rattle.piper.specs.Shared.{flag}
+use Rattle.piper.specs.Copies.{ReaderCopied}
+use Rattle.piper.specs.Fills.{WriterFilled}
+use Rattle.piper.specs.ReadView.{ReadView}
+use Rattle.piper.specs.WriteView.{WriteView}
 use Rattle.piper.specs.declared.handles.Reader.{Reader}
 use Rattle.piper.specs.declared.handles.Writer.{Writer}
 use Rattle.piper_tokio.specs.Passing.{Took, Gave}
 
--- what was seen stays seen
-pub seen_on : (a b : Bool) → flag a ≤ flag b → a ≡ true → b ≡ true
-seen_on true true le e = refl
-seen_on true false le e = absurd (not-suc-le-zero le)
-seen_on false b le e = absurd (true≢false (sym e))
-
 -- what is unseen was unseen
-pub unseen_before : (a b : Bool) → flag a ≤ flag b → b ≡ false → a ≡ false
-unseen_before false b le e = refl
-unseen_before true true le e = absurd (true≢false e)
-unseen_before true false le e = absurd (not-suc-le-zero le)
+pub unseen_before : (a b : Bool) → (a ≡ true → b ≡ true) → b ≡ false → a ≡ false
+unseen_before false b seen e = refl
+unseen_before true b seen e = absurd (true≢false (sym (seen refl) ∙ e))
 
-pub same_read_end : (a b c : ReadView) → SameReadEnd a b → SameReadEnd b c → SameReadEnd a c
-same_read_end a b c p q =
+pub copied_on : (a b c : ReadView) → ReaderCopied a b → ReaderCopied b c → ReaderCopied a c
+copied_on a b c p q =
     record {
-      ring = q.ring ∙ p.ring;
-      capacity = q.capacity ∙ p.capacity;
-      told = q.told ∙ p.told;
-      told_shut = q.told_shut ∙ p.told_shut;
+      saw = λ seen. q.saw (p.saw seen);
+      rest = q.rest
+          ∙ ap (λ (v : ReadView). record v { taken = c.taken; known = c.known; saw = c.saw; all = c.all }) p.rest;
     }
 
-pub same_write_end : (a b c : WriteView) → SameWriteEnd a b → SameWriteEnd b c → SameWriteEnd a c
-same_write_end a b c p q =
+pub filled_on : (a b c : WriteView) → WriterFilled a b → WriterFilled b c → WriterFilled a c
+filled_on a b c p q =
     record {
-      ring = q.ring ∙ p.ring;
-      capacity = q.capacity ∙ p.capacity;
-      told = q.told ∙ p.told;
+      saw = λ seen. q.saw (p.saw seen);
+      rest = q.rest
+          ∙ ap (λ (v : WriteView). record v { sent = c.sent; room = c.room; lent = c.lent; saw = c.saw }) p.rest;
     }
 
 -- bytes joined on after others
@@ -45,9 +38,8 @@ pub took_nothing : (a : Reader) → Took a [] a
 took_nothing a =
     record {
       taken = sym (append-nil a.side.end.taken);
-      saw = le_refl (flag a.side.end.saw);
-      end = record { ring = refl; capacity = refl; told = refl; told_shut = refl };
-      slots = (refl, refl);
+      end = record { saw = λ seen. seen; rest = refl };
+      handle = (refl, refl);
     }
 
 pub took_in_order : (a : Reader) (xs : List ℕ) (b : Reader) (ys : List ℕ) (c : Reader)
@@ -55,9 +47,8 @@ pub took_in_order : (a : Reader) (xs : List ℕ) (b : Reader) (ys : List ℕ) (c
 took_in_order a xs b ys c p q =
     record {
       taken = joined_on a.side.end.taken b.side.end.taken c.side.end.taken xs ys p.taken q.taken;
-      saw = le_trans p.saw q.saw;
-      end = same_read_end a.side.end b.side.end c.side.end p.end q.end;
-      slots = (q.slots.0 ∙ p.slots.0, q.slots.1 ∙ p.slots.1);
+      end = copied_on a.side.end b.side.end c.side.end p.end q.end;
+      handle = (q.handle.0 ∙ p.handle.0, q.handle.1 ∙ p.handle.1);
     }
 
 pub gave_nothing : (a : Writer) → Gave a [] a
@@ -69,9 +60,8 @@ gave_nothing a =
       sent = sym (append-nil a.side.end.sent);
       all = λ _. refl;
       over = λ _. refl;
-      saw = le_refl (flag a.side.end.saw);
-      end = record { ring = refl; capacity = refl; told = refl };
-      slots = (refl, refl);
+      end = record { saw = λ seen. seen; rest = refl };
+      handle = (refl, refl);
     }
 
 -- two pieces were given: of the first nothing was lost, or of the second nothing was published
@@ -106,12 +96,11 @@ gave_in_order a xs b ys c p q =
           joined_on a.side.end.sent b.side.end.sent c.side.end.sent
           p.published q.published p.sent q.sent;
       all = λ unseen.
-          both_nil p.lost q.lost (p.all (unseen_before b.side.end.saw c.side.end.saw q.saw unseen))
+          both_nil p.lost q.lost (p.all (unseen_before b.side.end.saw c.side.end.saw q.end.saw unseen))
           (q.all unseen);
       over = λ seen.
           both_nil p.published q.published (p.over seen)
-          (q.over (seen_on a.side.end.saw b.side.end.saw p.saw seen));
-      saw = le_trans p.saw q.saw;
-      end = same_write_end a.side.end b.side.end c.side.end p.end q.end;
-      slots = (q.slots.0 ∙ p.slots.0, q.slots.1 ∙ p.slots.1);
+          (q.over (p.end.saw seen));
+      end = filled_on a.side.end b.side.end c.side.end p.end q.end;
+      handle = (q.handle.0 ∙ p.handle.0, q.handle.1 ∙ p.handle.1);
     }

@@ -2,9 +2,8 @@
 use Rattle.std.proofs.Common.{◌≡◌, ◌<◌, ◌+◌, ℕ, Bool, true, false, true≢false, List, [], ◌++◌, Option, refl, sym, ap, ◌∙◌, append_assoc, append-nil, arith, subst, length, length-append}
 use Rattle.std.proofs.KnownBytes.{Consumes-nil, Consumes-trans, Appends-nil, Appends-trans, Appends-kept}
 use Rattle.std.specs.Io.KnownBytes.{Keeps}
-use Rattle.piper.specs.ReadView.{ReadView, SameReadEnd}
+use Rattle.piper.specs.ReadView.{ReadView}
 use Rattle.piper.specs.WriteView.{WriteView}
-use Rattle.piper.specs.Ends.{ReaderRefreshed, WriterRefreshed}
 use Rattle.piper_ring.specs.Looks.{ReaderLooked, WriterLooked}
 use Rattle.piper_transfer.specs.Taken.{StaysTaken}
 use Rattle.piper_transfer.specs.Transfer.{Fed, Gets, IsOpen, Poured, PouredAll}
@@ -26,13 +25,13 @@ fed_same i j a b c p sent ring = record { given = p.given; consumed = p.consumed
 
 -- what was given before a look, and after it
 pub fed_looked : (i j : Option (List ℕ)) (a b c : WriteView) → Fed i j a b → WriterLooked b c → Fed i j a c
-fed_looked i j a b c p look = fed_same i j a b c p look.sent look.end.ring
+fed_looked i j a b c p look = fed_same i j a b c p (ap (λ (v : WriteView). v.sent) look.rest) (ap (λ (v : WriteView). v.ring) look.rest)
 
 -- what was given before the handles met, and after it
-pub fed_refreshed : (i j : Option (List ℕ)) (a b c : WriteView) → Fed i j a b → WriterRefreshed b c → Fed i j a c
-fed_refreshed i j a b c p met = fed_same i j a b c p met.sent met.end.ring
+pub fed_refreshed : (i j : Option (List ℕ)) (a b c : WriteView) → Fed i j a b → c ≡ record b { room = c.room } → Fed i j a c
+fed_refreshed i j a b c p met = fed_same i j a b c p (ap (λ (v : WriteView). v.sent) met) (ap (λ (v : WriteView). v.ring) met)
 
-pub fed_met : (i j : Option (List ℕ)) (a b c : WriteView) → WriterRefreshed a b → Fed i j b c → Fed i j a c
+pub fed_met : (i j : Option (List ℕ)) (a b c : WriteView) → b ≡ record a { room = b.room } → Fed i j b c → Fed i j a c
 fed_met i j a b c met p = fed_more i i j a b c (fed_refreshed i i a a b (fed_none i a) met) p
 
 pub fed_round : (i j k : Option (List ℕ)) (a b c d : WriteView) → Fed i j a b → WriterLooked b c → Fed j k c d → Fed i k a d
@@ -75,9 +74,18 @@ poured_more C T d e f a b c p q = record {
 }
 
 pub poured_same : {D : Type 0} (C : D → Option (List ℕ)) (T : D → List (List ℕ) → List ℕ → Type 0) (d e : D) (a b c : ReadView)
-    → PouredAll C T d e a b → c.taken ≡ b.taken → SameReadEnd b c → PouredAll C T d e a c
-poured_same C T d e a b c p taken end =
-    record { written = p.written; gets = p.gets; taken = taken ∙ p.taken; ring = end.ring ∙ p.ring; capacity = end.capacity ∙ p.capacity }
+    → PouredAll C T d e a b → c ≡ record b { known = c.known; saw = c.saw; all = c.all } → PouredAll C T d e a c
+poured_same C T d e a b c p same = record {
+  written = p.written;
+  gets = p.gets;
+  taken = ap (λ (v : ReadView). v.taken) same ∙ p.taken;
+  ring = ap (λ (v : ReadView). v.ring) same ∙ p.ring;
+  capacity = ap (λ (v : ReadView). v.capacity) same ∙ p.capacity;
+}
+
+-- a meet changes nothing but what a look changes
+pub met_same : (a b : ReadView) → b ≡ record a { known = b.known; all = b.all } → b ≡ record a { known = b.known; saw = b.saw; all = b.all }
+met_same a b met = subst (λ (v : ReadView). v ≡ record a { known = v.known; saw = v.saw; all = v.all }) (sym met) refl
 
 -- where nothing was dropped, that is none of what was taken
 pub poured_of_all : {D : Type 0} (C : D → Option (List ℕ)) (T : D → List (List ℕ) → List ℕ → Type 0) (d e : D) (a b : ReadView) → PouredAll C T d e a b → Poured C T d e a b
@@ -93,11 +101,11 @@ poured_of_all C T d e a b p = record {
 -- what was written before a look, and after it
 pub poured_looked : {D : Type 0} (C : D → Option (List ℕ)) (T : D → List (List ℕ) → List ℕ → Type 0) (d e : D) (a b c : ReadView)
     → PouredAll C T d e a b → ReaderLooked b c → PouredAll C T d e a c
-poured_looked C T d e a b c p look = poured_same C T d e a b c p look.taken look.end
+poured_looked C T d e a b c p look = poured_same C T d e a b c p look.rest
 
 pub poured_met : {D : Type 0} (C : D → Option (List ℕ)) (T : D → List (List ℕ) → List ℕ → Type 0) (d e : D) (a b c : ReadView)
-    → ReaderRefreshed a b → PouredAll C T d e b c → PouredAll C T d e a c
-poured_met C T d e a b c met p = poured_more C T d d e a b c (poured_same C T d d a a b (poured_none C T d a) met.taken met.end) p
+    → b ≡ record a { known = b.known; all = b.all } → PouredAll C T d e b c → PouredAll C T d e a c
+poured_met C T d e a b c met p = poured_more C T d d e a b c (poured_same C T d d a a b (poured_none C T d a) (met_same a b met)) p
 
 not_seen : (saw : Bool) → ¬ (saw ≡ true) → saw ≡ false
 not_seen true seen = absurd (seen refl)

@@ -5,7 +5,6 @@ use Rattle.std.specs.Prelude.{OnOk}
 use Rattle.std.specs.Io.KnownBytes.{Consumes, IsAtEnd}
 use Rattle.std.proofs.KnownBytes.{Consumes-nil}
 use Rattle.piper.proofs.Ended.{ended_knows}
-use Rattle.piper.specs.Ends.{ReaderRefreshed}
 use Rattle.piper.specs.ReadView.{ReadView, KnowsEnd}
 use Rattle.piper.specs.WriteView.{WriteView, either}
 use Rattle.piper_transfer.proofs.Sides.{gets_none}
@@ -55,11 +54,11 @@ nothing_lost C T d e r i j w0 w1 r0 r1 new_writer new_reader fed poured fifo all
     }
 
 -- the handles meet after a reported end, or where all was taken: nothing is known
-pub none_known : (r1 r2 : ReadView) (w1 w2 : WriteView) → IsDrained r1 w1 → ReaderRefreshed r1 r2 → r2.taken ++ r2.known ≡ w2.sent → w2.sent ≡ w1.sent
+pub none_known : (r1 r2 : ReadView) (w1 w2 : WriteView) → IsDrained r1 w1 → r2 ≡ record r1 { known = r2.known; all = r2.all } → r2.taken ++ r2.known ≡ w2.sent → w2.sent ≡ w1.sent
     → (KnowsEnd r2 → r2.all ≡ w2.sent) → (KnowsEnd r1 → r2.all ≡ r1.all) → r2.known ≡ []
 none_known r1 r2 w1 w2 (inl ended) met fifo sent all same =
     let knows = ended_knows r1 ended in
-    let knows2 : KnowsEnd r2 = subst (λ (b : Bool × Bool). either b.0 b.1 ≡ true) (λ i. (sym met.end.told_shut i, sym met.saw i)) knows in
-    append_cancel_left r2.taken r2.known [] (fifo ∙ sym (all knows2) ∙ same knows ∙ sym ended.all ∙ sym met.taken ∙ sym (append-nil r2.taken))
+    let knows2 : KnowsEnd r2 = subst (λ (b : Bool × Bool). either b.0 b.1 ≡ true) (λ i. ((sym met i).told_shut, (sym met i).saw)) knows in
+    append_cancel_left r2.taken r2.known [] (fifo ∙ sym (all knows2) ∙ same knows ∙ sym ended.all ∙ sym (ap (λ (v : ReadView). v.taken) met) ∙ sym (append-nil r2.taken))
 none_known r1 r2 w1 w2 (inr whole) met fifo sent all same =
-    append_cancel_left r2.taken r2.known [] (fifo ∙ sent ∙ sym whole ∙ sym met.taken ∙ sym (append-nil r2.taken))
+    append_cancel_left r2.taken r2.known [] (fifo ∙ sent ∙ sym whole ∙ sym (ap (λ (v : ReadView). v.taken) met) ∙ sym (append-nil r2.taken))

@@ -7,7 +7,7 @@ use Rattle.std.specs.Io.KnownBytes.{Consumes, Appends, IsAtEnd}
 use Rattle.futures.specs.declared.task.context.Context.{Context}
 use Rattle.piper_protocol.specs.Reported.{HasFailed}
 use Rattle.piper_protocol.specs.declared.memory.OutOfMemory.{OutOfMemory}
-use Rattle.piper.specs.Ends.{IsEnded}
+use Rattle.piper.specs.Looks.{IsEnded}
 use Rattle.piper.specs.ReadView.{ReadView}
 use Rattle.piper.specs.WriteView.{WriteView}
 use Rattle.piper_transfer.specs.Taken.{TakesMore}

@@ -1,7 +1,7 @@
 //! A transfer: both sides, each on a thread.
 ghost use Rattle.std.specs.Prelude.{◌≡◌, ◌<◌, ◌≤◌, ◌*◌, ◌^◌, IfOk, IfErr, OnErr, OnOk, IfSome, IfNone, false};
 ghost use Rattle.std.specs.Io.KnownBytes.{IsAtEnd, Keeps};
-ghost use Rattle.piper.specs.Ends.{IsEnded};
+ghost use Rattle.piper.specs.Looks.{IsEnded};
 ghost use Rattle.piper.specs.Opened.{FreshReadEnd, FreshWriteEnd};
 ghost use Rattle.piper_transfer.specs.Taken.{StaysTaken};
 ghost use Rattle.piper_transfer.specs.Threads.{HasTwoThreads, IsLate, IsSpread, WereAtOnce};

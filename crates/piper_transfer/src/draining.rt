@@ -4,7 +4,7 @@ ghost use Rattle.std.specs.Prelude.{Ok, OnErr, OnOk, IfErr, IfOk, IfSome, IfNone
 ghost use Rattle.futures.specs.Task.{IsArmed};
 ghost use Rattle.futures.specs.Poll.{IfReady, OnPending};
 ghost use Rattle.piper.specs.Drains.{StaysKnown};
-ghost use Rattle.piper.specs.Ends.{IsEnded};
+ghost use Rattle.piper.specs.Looks.{IsEnded};
 ghost use Rattle.piper.specs.Handles.{NotifiesWriter};
 ghost use Rattle.piper.specs.OfReader.{front};
 ghost use Rattle.piper_transfer.specs.Threads.{HasTwoThreads, IsLate};

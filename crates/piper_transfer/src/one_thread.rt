@@ -2,7 +2,6 @@
 ghost use Rattle.std.specs.Prelude.{◌≡◌, ◌<◌, [], OnOk, IfOk, IfErr, false};
 ghost use Rattle.std.specs.Io.KnownBytes.{IsAtEnd};
 ghost use Rattle.piper.specs.Drains.{StaysKnown};
-ghost use Rattle.piper.specs.Ends.{WriterRefreshed};
 ghost use Rattle.piper_transfer.specs.Transfer.{Fed, IsOfDestination, IsOfSource, IsOpen, PouredAll};
 
 use crate::draining::write_some;
@@ -115,7 +114,8 @@ where
     requires chunk { 0 < chunk }
     requires pair { writer.old.side.end.ring ≡ reader.old.side.end.ring }
     requires some { 0 < reader.old.side.end.capacity }
-    ensures writer { WriterRefreshed writer.old.side.end writer.new.side.end }
+    ensures writer { writer.new.side.end
+        ≡ record writer.old.side.end { room = writer.new.side.end.room } }
     ensures poured { PouredAll D.contents D.took dest.old dest.new
         reader.old.side.end reader.new.side.end }
     ensures room { OnOk result (0 < writer.new.side.end.room) }
@@ -143,7 +143,8 @@ where
     requires chunk { 0 < chunk }
     requires pair { writer.old.side.end.ring ≡ reader.old.side.end.ring }
     requires some { 0 < reader.old.side.end.capacity }
-    ensures writer { WriterRefreshed writer.old.side.end writer.new.side.end }
+    ensures writer { writer.new.side.end
+        ≡ record writer.old.side.end { room = writer.new.side.end.room } }
     ensures poured { PouredAll D.contents D.took dest.old dest.new
         reader.old.side.end reader.new.side.end }
     ensures all { OnOk result (reader.new.side.end.taken ≡ writer.new.side.end.sent) }

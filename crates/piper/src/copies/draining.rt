@@ -5,9 +5,11 @@ ghost use Rattle.futures.specs.Poll.{OnPending};
 ghost use Rattle.piper_ring.specs.ReadView.{KnowsEnd, in_one_piece};
 ghost use Rattle.piper_protocol.specs.Table.{ends, goes_on};
 ghost use Rattle.piper_ring.specs.Log.{Comes, Ran, made, next, now};
+ghost use Rattle.piper_ring.specs.SlotsView.{KeepsSlots, WaitsAsBefore};
+ghost use Rattle.piper.specs.Copies.{ReaderCopied};
 ghost use Rattle.piper.specs.CopyAnswers.{OnMemory, CountsFailure, IsAtOnce, inner_of, inner_of_bytes};
 ghost use Rattle.piper.specs.Drains.{DrainRounds, EndIsTrue, EndIsUnseen, found_len};
-ghost use Rattle.piper.specs.Ends.{IsEnded};
+ghost use Rattle.piper.specs.Looks.{IsEnded};
 ghost use Rattle.piper.specs.Like.{Counts, passed};
 ghost use Rattle.piper_ring.specs.Looks.{looks_at};
 ghost use Rattle.piper.specs.Runs.{copy_answer};
@@ -23,9 +25,9 @@ use piper_protocol::table::{Action, Form, Found, MOST_A_ROUND, Point, Purpose, R
 use piper_ring::{Look, OutOfMemory};
 
 impl Reader {
-    ghost use Rattle.piper.specs.Handles.{SameReader, SameReaderButWoke, SameReaderCells};
+    ghost use Rattle.piper.specs.Handles.{SameReader};
     ghost use Rattle.piper.specs.OfReader.{end_of, log};
-    ghost use Rattle.piper.specs.ReaderCalls.{Drained, DrainsAtOnce, DrainsEnd, DrainsLike, DrainsSlice, DrainsStd, DrainsWaiting, DrainPends, DrawsToYield, KeepsEnd, SameReaderButMoved, SameReaderButTried, WakesWriter};
+    ghost use Rattle.piper.specs.ReaderCalls.{Drained, DrainsAtOnce, DrainsEnd, DrainsLike, DrainsSlice, DrainsStd, DrainsWaiting, DrainPends, DrawsToYield, KeepsEnd, SameReaderButMoved, WakesWriter};
 
     /// Moves known bytes into a writer of std.
     ///
@@ -103,7 +105,8 @@ impl Reader {
         ensures drained { Drained result self.old self.new dest.old dest.new }
         ensures end { KeepsEnd self.old self.new }
         ensures woken { WakesWriter self.old self.new }
-        ensures rest { SameReaderButTried self.old self.new }
+        ensures copied { ReaderCopied (end_of self.old) (end_of self.new) }
+        ensures rest { SameReader WaitsAsBefore self.old self.new }
     {
         let mut bytes = WriteBytes::new(dest);
         match self.try_drain_with(&mut bytes) {
@@ -176,7 +179,7 @@ impl Reader {
         ensures end { DrainsEnd result self.old self.new }
         ensures at_once { DrainsAtOnce result self.old self.new }
         ensures woken { WakesWriter self.old self.new }
-        ensures rest { SameReaderButTried self.old self.new }
+        ensures rest { SameReader WaitsAsBefore self.old self.new }
     {
         match self.side.look_now(Purpose::Copy(Form::Try)) {
             Look::Ready => self.drain_rounds(Form::Try, dest),
@@ -201,9 +204,8 @@ impl Reader {
             self.old.side.end self.new.side.end dest.old dest.new }
         ensures failures { CountsFailure result (W.failures dest.old) (W.failures dest.new) }
         ensures ready { IsAtOnce result }
-        ensures all { self.new.side.end.all ≡ self.old.side.end.all }
         ensures woke { WakesWriter self.old self.new }
-        ensures rest { SameReaderButWoke self.old self.new }
+        ensures rest { SameReader WaitsAsBefore self.old self.new }
     {
         // No more can be moved than the capacity, so the sum doesn't overflow.
         let _ = self.end().capacity();
@@ -241,7 +243,7 @@ impl Reader {
         ensures error { IfErr result (λ e. W.fails dest.old e dest.new) }
         ensures failures { Counts result (W.failures dest.old) (W.failures dest.new) }
         ensures end { self.new.side.end ≡ self.old.side.end }
-        ensures rest { SameReader self.old self.new }
+        ensures rest { SameReader KeepsSlots self.old self.new }
     {
         let piece = self.peek_buf();
         match dest.write(&piece[..piece.len().min(MOST_A_ROUND)]) {

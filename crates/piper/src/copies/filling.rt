@@ -4,8 +4,10 @@ ghost use Rattle.futures.specs.Task.{Keeps};
 ghost use Rattle.futures.specs.Poll.{OnPending};
 ghost use Rattle.piper_protocol.specs.Table.{ends, goes_on};
 ghost use Rattle.piper_ring.specs.Log.{Comes, Ran, made, next, now};
+ghost use Rattle.piper_ring.specs.SlotsView.{KeepsSlots, WaitsAsBefore};
+ghost use Rattle.piper.specs.Copies.{WriterCopied};
 ghost use Rattle.piper.specs.CopyAnswers.{OnMemory, CountsFailure, IsAtOnce, inner_of, inner_of_bytes};
-ghost use Rattle.piper.specs.Fills.{FillRounds, FoundRoom, OnNoCount, WriterRelent, most_of_round};
+ghost use Rattle.piper.specs.Fills.{FillRounds, FoundRoom, OnNoCount, most_of_round};
 ghost use Rattle.piper.specs.Like.{Counts, passed};
 ghost use Rattle.piper.specs.Runs.{copy_answer};
 
@@ -22,9 +24,9 @@ use piper_protocol::table::{
 use piper_ring::{Look, OutOfMemory};
 
 impl Writer {
-    ghost use Rattle.piper.specs.Handles.{SameWriter, SameWriterButWoke, SameWriterCells};
-    ghost use Rattle.piper.specs.WriterCalls.{DrawsToYield, Filled, FillPends, FillsAtOnce, FillsEnd, FillsLike, FillsSlice, FillsStd, FillsWaiting, SameWriterButMoved, SameWriterButTried, WakesReader};
-    ghost use Rattle.piper.specs.OfWriter.{log, saw};
+    ghost use Rattle.piper.specs.Handles.{SameWriter};
+    ghost use Rattle.piper.specs.WriterCalls.{DrawsToYield, Filled, FillPends, FillsAtOnce, FillsEnd, FillsLike, FillsSlice, FillsStd, FillsWaiting, SameWriterButMoved, WakesReader};
+    ghost use Rattle.piper.specs.OfWriter.{end_of, log, saw};
 
     /// Publishes bytes that a reader of std gives.
     ///
@@ -103,7 +105,8 @@ impl Writer {
         ensures filled { Filled result self.old self.new bytes.now }
         ensures closed { saw self.old ≡ true → result ≡ 0 }
         ensures woken { WakesReader self.old self.new }
-        ensures rest { SameWriterButTried self.old self.new }
+        ensures copied { WriterCopied (end_of self.old) (end_of self.new) }
+        ensures rest { SameWriter WaitsAsBefore self.old self.new }
     {
         let mut source = ReadBytes::new(bytes);
         match self.try_fill_with(&mut source) {
@@ -187,7 +190,8 @@ impl Writer {
         ensures end { FillsEnd result self.old self.new }
         ensures waiting { FillsWaiting result self.old self.new cx.old cx.new }
         ensures woken { WakesReader self.old self.new }
-        ensures slots { SameWriterCells self.old self.new }
+        ensures same { (self.new.side.cells ≡ self.old.side.cells)
+            × (self.new.source ≡ self.old.source) }
     {
         match self.side.look_first(Purpose::Copy(WAITING)) {
             Look::Ready => {}
@@ -219,7 +223,7 @@ impl Writer {
         ensures waits { OnPending result (self.new.side.end.room ≡ 0) }
         ensures granted { OnMemory result ⊥ }
         ensures woken { WakesReader self.old self.new }
-        ensures rest { SameWriterButWoke self.old self.new }
+        ensures rest { SameWriter WaitsAsBefore self.old self.new }
     {
         match self.side.look_now(Purpose::Copy(Form::Try)) {
             Look::Ready => self.fill_rounds(Form::Try, source),
@@ -248,7 +252,7 @@ impl Writer {
         ensures found { FoundRoom result self.new.side.end }
         ensures ready { IsAtOnce result }
         ensures woke { WakesReader self.old self.new }
-        ensures rest { SameWriterButWoke self.old self.new }
+        ensures rest { SameWriter WaitsAsBefore self.old self.new }
     {
         // No more can be moved than the capacity, so the sum doesn't overflow.
         let _ = self.end().capacity();
@@ -291,8 +295,9 @@ impl Writer {
         ensures dry { result ≡ Ok 0 → (self.new.side.end.room ≡ 0) ⊎ R.is_dry source.new }
         ensures error { IfErr result (λ e. R.fails source.old e source.new) }
         ensures failures { Counts result (R.failures source.old) (R.failures source.new) }
-        ensures end { WriterRelent self.old.side.end self.new.side.end }
-        ensures rest { SameWriter self.old self.new }
+        ensures end { self.new.side.end
+            ≡ record self.old.side.end { lent = self.new.side.end.lent } }
+        ensures rest { SameWriter KeepsSlots self.old self.new }
     {
         match source.read(self.write_buf(asks.min(MOST_A_ROUND))) {
             Ok(n) => {

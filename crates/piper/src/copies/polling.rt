@@ -4,9 +4,10 @@ ghost use Rattle.std.specs.Borrow.{sem};
 ghost use Rattle.std.specs.Io.BufRead.{Rests};
 ghost use Rattle.futures.specs.Poll.{OnPending};
 ghost use Rattle.futures.specs.Task.{Keeps};
+ghost use Rattle.piper_ring.specs.SlotsView.{OnlyWaits};
 ghost use Rattle.piper.specs.Called.{CallsTaken};
 ghost use Rattle.piper.specs.Contexts.{WantsWaker};
-ghost use Rattle.piper.specs.Ends.{IsEnded};
+ghost use Rattle.piper.specs.Looks.{IsEnded};
 ghost use Rattle.piper.specs.Waits.{ReaderIsWaiting, WriterIsWaiting, WriterLeavesNone};
 
 use crate::error::PipeError;
@@ -16,7 +17,7 @@ use futures::task::{Context, Poll};
 use piper_ring::OutOfMemory;
 
 impl Reader {
-    ghost use Rattle.piper.specs.Handles.{SameReaderButWaits};
+    ghost use Rattle.piper.specs.Handles.{SameReader};
     ghost use Rattle.piper.specs.Looks.{OnRefused};
     ghost use Rattle.piper.specs.ReaderCalls.{Polled, PollsEnd};
     ghost use Rattle.piper.specs.Waits.{ReaderIsRefused, ReaderPends};
@@ -29,7 +30,7 @@ impl Reader {
         ensures pending { OnPending result (ReaderPends self.old self.new cx.new) }
         ensures memory { OnRefused result (ReaderIsRefused self.new cx.new) }
         ensures context { Keeps cx.old cx.new }
-        ensures rest { SameReaderButWaits self.old self.new }
+        ensures rest { SameReader OnlyWaits self.old self.new }
     {
         self.poll(cx)
     }

@@ -2,9 +2,8 @@
 ghost use Rattle.std.specs.Prelude.{◌≡◌, ◌↔◌, IsTrue, false};
 ghost use Rattle.piper_protocol.specs.Table.{goes_on, reader_draws, writer_draws};
 ghost use Rattle.piper_ring.specs.Log.{Comes, now};
-ghost use Rattle.piper_ring.specs.SlotsView.{SameLooks};
+ghost use Rattle.piper_ring.specs.SlotsView.{OnlyWaits};
 ghost use Rattle.piper.specs.Draws.{DrawsYield, drawn_from};
-ghost use Rattle.piper.specs.Handles.{SameReaderCells, SameWriterCells};
 ghost use Rattle.piper.specs.Waits.{ReaderLeavesNone, WriterLeavesNone};
 
 use super::waiting::take_own;
@@ -28,8 +27,9 @@ impl Reader {
         ensures draw { IsTrue result ↔ DrawsYield self.old.rng }
         ensures rng { self.new.rng ≡ drawn_from self.old.rng }
         ensures leaves { ReaderLeavesNone self.new }
-        ensures slots { SameReaderCells self.old self.new }
-        ensures looks { SameLooks self.old.side.slots self.new.side.slots }
+        ensures same { (self.new.side.cells ≡ self.old.side.cells)
+            × (self.new.source ≡ self.old.source) }
+        ensures waits { OnlyWaits self.old.side.slots self.new.side.slots }
         ensures end { self.new.side.end ≡ self.old.side.end }
     {
         let is_drawn = draw(&mut self.rng);
@@ -51,8 +51,9 @@ impl Writer {
         ensures draw { IsTrue result ↔ DrawsYield self.old.rng }
         ensures rng { self.new.rng ≡ drawn_from self.old.rng }
         ensures leaves { WriterLeavesNone self.new }
-        ensures slots { SameWriterCells self.old self.new }
-        ensures looks { SameLooks self.old.side.slots self.new.side.slots }
+        ensures same { (self.new.side.cells ≡ self.old.side.cells)
+            × (self.new.source ≡ self.old.source) }
+        ensures waits { OnlyWaits self.old.side.slots self.new.side.slots }
         ensures end { self.new.side.end ≡ self.old.side.end }
     {
         let is_drawn = draw(&mut self.rng);

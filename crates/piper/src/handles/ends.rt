@@ -88,8 +88,8 @@ impl Reader {
 
 impl Writer {
     ghost use Rattle.piper.specs.Handles.{lends_room};
-    ghost use Rattle.piper.specs.OfWriter.{end_of, ring, saw, told};
-    ghost use Rattle.piper.specs.WriterCalls.{MayLend, MustLend, SameWriterButLast, SameWriterButTold, WasWoken};
+    ghost use Rattle.piper.specs.OfWriter.{end_of, ring, told};
+    ghost use Rattle.piper.specs.WriterCalls.{MayLend, MustLend, SameWriterButTold, WasWoken};
 
     /// Its end of the ring.
     pub fn end(&self) -> &WriteEnd
@@ -104,7 +104,8 @@ impl Writer {
     /// Requires: the mark is of the same pipe.
     pub fn heed(&mut self, mark: &ReadMark)
         requires { mark.now.names ≡ (ring self.old).names }
-        ensures told { told self.new ≡ max (told self.old) mark.now.count }
+        ensures told { end_of self.new
+            ≡ record (end_of self.old) { told = max (told self.old) mark.now.count } }
         ensures rest { SameWriterButTold self.old self.new }
     {
         self.side.heed(mark);
@@ -117,9 +118,9 @@ impl Writer {
     /// Requires: the mark is of the same pipe.
     pub fn heed_last(&mut self, mark: &LastReadMark)
         requires { mark.now.consumed.names ≡ (ring self.old).names }
-        ensures saw { saw self.new ≡ true }
-        ensures told { told self.new ≡ max (told self.old) mark.now.consumed.count }
-        ensures rest { SameWriterButLast self.old self.new }
+        ensures told { end_of self.new ≡ record (end_of self.old)
+            { told = max (told self.old) mark.now.consumed.count; saw = true } }
+        ensures rest { SameWriterButTold self.old self.new }
     {
         self.side.heed_last(mark);
     }
@@ -133,9 +134,9 @@ impl Writer {
     pub fn meet_finished(&mut self, left: &mut FinishedReader)
         requires { left.old.told.consumed.names ≡ (ring self.old).names }
         ensures woken { WasWoken self.old left.old }
-        ensures saw { saw self.new ≡ true }
-        ensures told { told self.new ≡ max (told self.old) left.old.told.consumed.count }
-        ensures rest { SameWriterButLast self.old self.new }
+        ensures told { end_of self.new ≡ record (end_of self.old)
+            { told = max (told self.old) left.old.told.consumed.count; saw = true } }
+        ensures rest { SameWriterButTold self.old self.new }
         ensures kept { left.new ≡ left.old }
     {
         self.side.meet_slot(&mut left.slots);

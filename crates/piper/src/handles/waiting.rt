@@ -2,7 +2,7 @@
 ghost use Rattle.std.specs.Prelude.{◌≡◌, ◌⊎◌, IsTrue, IsFalse, IfNone, IfSome, None, true, false};
 ghost use Rattle.futures.specs.Task.{Covers, Keeps, Wakes};
 ghost use Rattle.piper_ring.specs.Log.{Comes, WakesNext, made, next, now, other, own, then};
-ghost use Rattle.piper_ring.specs.SlotsView.{SameLooks, SamePlace};
+ghost use Rattle.piper_ring.specs.SlotsView.{OnlyWaits, WaitsAsBefore};
 ghost use Rattle.piper.specs.Called.{CallsOwn, CallsTaken, IsGranted, LetsOwnGo, WasCalled, WasLetGo};
 ghost use Rattle.piper.specs.Contexts.{JustRegistered};
 
@@ -25,7 +25,7 @@ pub(crate) fn register<E: SlotEnd>(
     ensures refused { IsFalse result →
         (cx.new.lacks_waker ≡ true) × (side.new.slots.maybe_registered ≡ false) }
     ensures kept { Keeps cx.old cx.new }
-    ensures looks { SameLooks side.old.slots side.new.slots }
+    ensures waits { OnlyWaits side.old.slots side.new.slots }
     ensures rest { (side.new.end ≡ side.old.end) × (side.new.cells ≡ side.old.cells) }
 {
     let held = match side.reclaim_waker() {
@@ -67,7 +67,7 @@ pub(crate) fn take_own<E: SlotEnd>(side: &mut Side<E, Waker>)
     requires turn { next side.old.log ≡ Action.Take (own E.READS) }
     ensures log { side.new.log ≡ made Found.Nothing side.old.log }
     ensures leaves { side.new.slots.maybe_registered ≡ false }
-    ensures looks { SameLooks side.old.slots side.new.slots }
+    ensures waits { OnlyWaits side.old.slots side.new.slots }
     ensures rest { (side.new.end ≡ side.old.end) × (side.new.cells ≡ side.old.cells) }
 {
     if side.maybe_registered() {
@@ -83,7 +83,7 @@ pub(crate) fn take_own<E: SlotEnd>(side: &mut Side<E, Waker>)
 fn let_own_go<E: SlotEnd>(side: &mut Side<E, Waker>)
     ensures leaves { side.new.slots.maybe_registered ≡ false }
     ensures dropped { LetsOwnGo side.old.slots }
-    ensures looks { SameLooks side.old.slots side.new.slots }
+    ensures waits { OnlyWaits side.old.slots side.new.slots }
     ensures rest { (side.new.end ≡ side.old.end) × (side.new.cells ≡ side.old.cells)
         × (side.new.log ≡ side.old.log) }
 {
@@ -97,9 +97,9 @@ pub(crate) fn wake_own<E: SlotEnd>(side: &mut Side<E, Waker>)
     requires turn { next side.old.log ≡ Action.Take (own E.READS) }
     requires on { WakesNext (now side.old.log) }
     ensures log { Comes (then (now side.old.log) (Found.Waker false)) side.old.log side.new.log }
-    ensures leaves { side.new.slots.maybe_registered ≡ false }
     ensures called { CallsOwn side.old.slots }
-    ensures looks { SameLooks side.old.slots side.new.slots }
+    ensures leaves { side.new.slots ≡ record side.old.slots
+        { owns = side.new.slots.owns; maybe_registered = false } }
     ensures rest { (side.new.end ≡ side.old.end) × (side.new.cells ≡ side.old.cells) }
 {
     if let Some(waker) = side.take_own() {
@@ -142,7 +142,7 @@ pub(crate) fn wake_other<E: SlotEnd>(side: &mut Side<E, Waker>)
     ensures log { Comes (then (now side.old.log) (Found.Waker false)) side.old.log side.new.log }
     ensures rests { side.new.slots.stored ≡ E.stored_of side.new.end }
     ensures called { CallsTaken side.old.slots side.new.slots }
-    ensures own { SamePlace side.old.slots side.new.slots }
+    ensures own { WaitsAsBefore side.old.slots side.new.slots }
     ensures rest { (side.new.end ≡ side.old.end) × (side.new.cells ≡ side.old.cells) }
 {
     if !side.nobody_waits() {
@@ -160,7 +160,7 @@ pub(crate) fn wake_waiting<E: SlotEnd>(side: &mut Side<E, Waker>)
     ensures log { Comes (then (now side.old.log) (Found.Waker false)) side.old.log side.new.log }
     ensures rests { side.new.slots.stored ≡ E.stored_of side.new.end }
     ensures called { CallsTaken side.old.slots side.new.slots }
-    ensures own { SamePlace side.old.slots side.new.slots }
+    ensures own { WaitsAsBefore side.old.slots side.new.slots }
     ensures rest { (side.new.end ≡ side.old.end) × (side.new.cells ≡ side.old.cells) }
 {
     if let Some(waker) = side.take() {

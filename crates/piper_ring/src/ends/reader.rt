@@ -47,10 +47,10 @@ impl Model for ReadEnd {
 }
 
 impl ReadEnd {
-    ghost use Rattle.piper_ring.specs.ReadView.{HasLoaded, Heeds, KnowsMore, SameButSaw, MayBeUnread, KnowsEnd, HasTheRest, in_one_piece};
+    ghost use Rattle.piper_ring.specs.ReadView.{HasLoaded, Heeds, KeepsAll, KnowsMore, MayBeUnread, KnowsEnd, HasTheRest, in_one_piece};
     ghost use Rattle.piper_ring.specs.Meeting.{EndsMeet};
     ghost use Rattle.piper_ring.specs.Loads.{FoundClosed};
-    ghost use Rattle.piper_ring.specs.Shared.{flag, ring_of};
+    ghost use Rattle.piper_ring.specs.Shared.{ring_of};
 
     /// The capacity of the ring. No more bytes are known than that.
     pub fn capacity(&self) -> usize
@@ -164,8 +164,8 @@ impl ReadEnd {
     pub(crate) fn hear(&mut self, mark: &WriteMark)
         requires { mark.now.names ≡ self.old.ring.names }
         ensures heard { length mark.now.bytes ≤ length self.new.all }
-        ensures saw { self.new.saw ≡ self.old.saw }
-        ensures kept { SameButSaw self.old self.new }
+        ensures all { KeepsAll self.old self.new }
+        ensures rest { self.new ≡ record self.old { all = self.new.all } }
     {
         self.parts.heard.heed(mark);
     }
@@ -207,12 +207,12 @@ impl ReadEnd {
     /// Loads closed, and keeps what it saw. Where it is, it is known from then
     /// on where the pipe ends.
     pub fn load_closed(&mut self) -> bool
-        ensures saw { result ≡ self.new.saw }
         ensures end { IsTrue result → HasTheRest self.new }
-        ensures stays { flag self.old.saw ≤ flag self.new.saw }
-        ensures told { flag self.old.told_shut ≤ flag self.new.saw }
+        ensures stays { self.old.saw ≡ true → result ≡ true }
+        ensures told { self.old.told_shut ≡ true → result ≡ true }
         ensures found { FoundClosed self.old.ring.names result }
-        ensures kept { SameButSaw self.old self.new }
+        ensures all { KeepsAll self.old self.new }
+        ensures rest { self.new ≡ record self.old { saw = result; all = self.new.all } }
     {
         let told = self.parts.told.again();
         self.load_closed_knowing(&told)
@@ -221,13 +221,13 @@ impl ReadEnd {
     /// `load_closed`, with evidence of what the writer did besides: it finds that, too.
     pub(crate) fn load_closed_knowing(&mut self, more: &WriteMark) -> bool
         requires { more.now.names ≡ self.old.ring.names }
-        ensures more { flag more.now.shut ≤ flag self.new.saw }
-        ensures saw { result ≡ self.new.saw }
+        ensures more { more.now.shut ≡ true → result ≡ true }
         ensures end { HasTheRest self.new }
-        ensures stays { flag self.old.saw ≤ flag self.new.saw }
-        ensures told { flag self.old.told_shut ≤ flag self.new.saw }
+        ensures stays { self.old.saw ≡ true → result ≡ true }
+        ensures told { self.old.told_shut ≡ true → result ≡ true }
         ensures found { FoundClosed self.old.ring.names result }
-        ensures kept { SameButSaw self.old self.new }
+        ensures all { KeepsAll self.old self.new }
+        ensures rest { self.new ≡ record self.old { saw = result; all = self.new.all } }
     {
         let parts = &mut self.parts;
         let mut told = parts.told.again();

@@ -44,10 +44,10 @@ impl Model for WriteEnd {
 
 impl WriteEnd {
     ghost use Rattle.piper_ring.specs.Loads.{FoundClosed};
-    ghost use Rattle.piper_ring.specs.WriteView.{HasLoadedHead, HasMoreRoom, SameButSaw, MayBeUnread, Lendable};
+    ghost use Rattle.piper_ring.specs.WriteView.{HasLoadedHead, HasMoreRoom, MayBeUnread, Lendable};
     ghost use Rattle.piper_ring.specs.LendsBuffer.{lends_buffer};
     ghost use Rattle.std.specs.Borrow.{sem};
-    ghost use Rattle.piper_ring.specs.Shared.{flag, ring_of};
+    ghost use Rattle.piper_ring.specs.Shared.{ring_of};
 
     /// The capacity of the ring. No more room is known than that.
     pub fn capacity(&self) -> usize
@@ -173,11 +173,10 @@ impl WriteEnd {
     /// Loads closed, and keeps what it saw. What this end closed it finds
     /// closed.
     pub fn load_closed(&mut self) -> bool
-        ensures saw { result ≡ self.new.saw }
-        ensures shut { self.new.shut ≡ true → self.new.saw ≡ true }
-        ensures stays { flag self.old.saw ≤ flag self.new.saw }
+        ensures end { self.new ≡ record self.old { saw = result } }
+        ensures shut { self.new.shut ≡ true → result ≡ true }
+        ensures stays { self.old.saw ≡ true → result ≡ true }
         ensures found { FoundClosed self.old.ring.names result }
-        ensures kept { SameButSaw self.old self.new }
     {
         let parts = &mut self.parts;
         parts.seat.load_closed(&mut parts.saw) != 0
@@ -188,11 +187,10 @@ impl WriteEnd {
     pub(crate) fn load_closed_knowing(&mut self, more: &Saw) -> bool
         requires ring { more.now.names ≡ self.old.ring.names }
         requires open { self.old.saw ≡ false }
-        ensures more { flag more.now.seen ≤ flag self.new.saw }
-        ensures saw { result ≡ self.new.saw }
+        ensures end { self.new ≡ record self.old { saw = result } }
+        ensures more { more.now.seen ≡ true → result ≡ true }
         ensures shut { self.new.shut ≡ false }
         ensures found { FoundClosed self.old.ring.names result }
-        ensures kept { SameButSaw self.old self.new }
     {
         let parts = &mut self.parts;
         let mut saw = more.again();

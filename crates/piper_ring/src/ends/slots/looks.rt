@@ -3,8 +3,7 @@
 ghost use Rattle.std.specs.Prelude.{◌≡◌, ◌+◌, ◌<◌, ◌≤◌, ◌++◌, IsTrue, IsFalse, length, not, true, false};
 ghost use Rattle.piper_protocol.specs.Table.{goes_on, reader_found, reader_found_none, reader_looked, writer_found, writer_found_none};
 ghost use Rattle.piper_ring.specs.Log.{Comes, Opened, now};
-ghost use Rattle.piper_ring.specs.ReadView.{KnowsEnd};
-ghost use Rattle.piper_ring.specs.Shared.{flag};
+ghost use Rattle.piper_ring.specs.ReadView.{KeepsAll};
 
 use crate::ends::reader::ReadEnd;
 use crate::ends::slots::side::Side;
@@ -34,7 +33,7 @@ impl<T> Side<ReadEnd, T> {
         ensures none { IsFalse result →
             (length self.new.end.known ≡ 0) × ReaderIsUpToDate self.new.end }
         ensures looked { ReaderLooked self.old.end self.new.end }
-        ensures all { KnowsEnd self.old.end → self.new.end.all ≡ self.old.end.all }
+        ensures all { KeepsAll self.old.end self.new.end }
         ensures stays { IsEnded self.old.end → IsEnded self.new.end }
         ensures rest { (self.new.slots ≡ self.old.slots) × (self.new.cells ≡ self.old.cells) }
     {
@@ -56,9 +55,9 @@ impl<T> Side<ReadEnd, T> {
         ensures found { ReaderSees result self.new.end }
         ensures after { (length self.old.slots.heard.bytes
             ≤ length (self.new.end.taken ++ self.new.end.known))
-            × (flag self.old.slots.heard.closed ≤ flag self.new.end.saw) }
+            × (self.old.slots.heard.closed ≡ true → self.new.end.saw ≡ true) }
         ensures looked { ReaderLooked self.old.end self.new.end }
-        ensures all { KnowsEnd self.old.end → self.new.end.all ≡ self.old.end.all }
+        ensures all { KeepsAll self.old.end self.new.end }
         ensures stays { IsEnded self.old.end → IsEnded self.new.end }
         ensures rest { (self.new.slots ≡ self.old.slots) × (self.new.cells ≡ self.old.cells) }
     {
@@ -82,7 +81,7 @@ impl<T> Side<ReadEnd, T> {
             self.old.log self.new.log }
         ensures found { ReaderSees result self.new.end }
         ensures looked { ReaderLooked self.old.end self.new.end }
-        ensures all { KnowsEnd self.old.end → self.new.end.all ≡ self.old.end.all }
+        ensures all { KeepsAll self.old.end self.new.end }
         ensures stays { IsEnded self.old.end → IsEnded self.new.end }
         ensures rest { (self.new.slots ≡ self.old.slots) × (self.new.cells ≡ self.old.cells) }
     {

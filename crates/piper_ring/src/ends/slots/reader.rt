@@ -67,10 +67,10 @@ impl SlotEnd for ReadEnd {
 impl<T> Side<ReadEnd, T> {
     ghost use Rattle.piper_ring.specs.Cells.{GetsLeft};
     ghost use Rattle.piper_ring.specs.Loads.{FoundClosed, FoundWaiter, WasTaken};
-    ghost use Rattle.piper_ring.specs.ReadView.{HasLoaded, HasTheRest, KnowsEnd, KnowsMore, SameButSaw, Heeds, in_one_piece};
+    ghost use Rattle.piper_ring.specs.ReadView.{HasLoaded, HasTheRest, KeepsAll, KnowsEnd, KnowsMore, Heeds, in_one_piece};
     ghost use Rattle.piper_ring.specs.Shared.{flag};
     ghost use Rattle.piper_ring.specs.Meeting.{EndsMeet};
-    ghost use Rattle.piper_ring.specs.SlotsView.{IsPending, HasNews, SamePlace, IsWriterPending, HasRoomNews};
+    ghost use Rattle.piper_ring.specs.SlotsView.{IsPending, HasNews, WaitsAsBefore, IsWriterPending, HasRoomNews};
 
     /// Loads the tail, as `load_tail` of its end, and returns whether no byte is known even now.
     /// Once it has registered it finds all that the writer had stored before its last check of the
@@ -103,13 +103,14 @@ impl<T> Side<ReadEnd, T> {
     pub fn load_closed(&mut self) -> bool
         requires turn { next self.old.log ≡ Action.LoadClosed }
         ensures log { self.new.log ≡ made (Found.Flag result) self.old.log }
-        ensures after { flag self.old.slots.heard.closed ≤ flag self.new.end.saw }
-        ensures saw { result ≡ self.new.end.saw }
-        ensures end { IsTrue result → HasTheRest self.new.end }
-        ensures stays { (flag self.old.end.saw ≤ flag self.new.end.saw)
-            × (flag self.old.end.told_shut ≤ flag self.new.end.saw) }
+        ensures after { self.old.slots.heard.closed ≡ true → result ≡ true }
+        ensures stays { (self.old.end.saw ≡ true → result ≡ true)
+            × (self.old.end.told_shut ≡ true → result ≡ true) }
         ensures found { FoundClosed self.old.end.ring.names result }
-        ensures kept { SameButSaw self.old.end self.new.end }
+        ensures all { (IsTrue result → HasTheRest self.new.end)
+            × KeepsAll self.old.end self.new.end }
+        ensures end { self.new.end
+            ≡ record self.old.end { saw = result; all = self.new.end.all } }
         ensures rest { (self.new.slots ≡ self.old.slots) × (self.new.cells ≡ self.old.cells) }
     {
         let is_closed = self.end.load_closed_knowing(&self.slots.parts.heard);
@@ -143,7 +144,7 @@ impl<T> Side<ReadEnd, T> {
         ensures last { (result.side.told.consumed.names ≡ self.end.ring.names)
             × (result.side.told.consumed.count ≡ length self.end.taken) }
         ensures looked { (result.side.slots.stored.count ≡ length self.end.taken)
-            × (result.side.slots.stored.closed ≡ true) × SamePlace self.slots result.side.slots }
+            × (result.side.slots.stored.closed ≡ true) × WaitsAsBefore self.slots result.side.slots }
         ensures ticket { (result.taken ≡ None → result.side.slots.taken ≡ self.slots.taken)
             × (IsSome result.taken → self.slots.taken < result.side.slots.taken) }
         ensures waker { WasTaken self.slots.names

@@ -28,7 +28,7 @@ pub struct Side<E: SlotEnd, T> {
 impl<E: SlotEnd, T> Side<E, T> {
     ghost use Rattle.piper_ring.specs.Loads.{CameBack, FoundFlag, FoundWaiter, IsAway, IsUnregistered, WasPut, WasTaken, WasTakenBack};
     ghost use Rattle.piper_ring.specs.Shared.{flag};
-    ghost use Rattle.piper_ring.specs.SlotsView.{Registers, SamePlace};
+    ghost use Rattle.piper_ring.specs.SlotsView.{Registers, WaitsAsBefore};
 
     /// Its end of the ring.
     #[inline(always)]
@@ -222,8 +222,8 @@ impl<E: SlotEnd, T> Side<E, T> {
             × (self.new.log ≡ made (Found.Waker false) self.old.log) }
         ensures some { IsFalse result → (self.new.slots ≡ self.old.slots)
             × (self.new.log ≡ self.old.log) × FoundWaiter self.old.slots.names 1 }
-        ensures kept { (self.new.slots.taken ≡ self.old.slots.taken)
-            × SamePlace self.old.slots self.new.slots }
+        ensures kept { self.new.slots
+            ≡ record self.old.slots { stored = self.new.slots.stored } }
         ensures rest { (self.new.end ≡ self.old.end) × (self.new.cells ≡ self.old.cells) }
     {
         let wakes = &mut self.slots.parts.wakes;
@@ -246,7 +246,7 @@ impl<E: SlotEnd, T> Side<E, T> {
         ensures waker { WasTaken self.old.slots.names
             self.old.slots.taken self.new.slots.taken result }
         ensures found { FoundWaiter self.old.slots.names (flag (is_some result)) }
-        ensures own { SamePlace self.old.slots self.new.slots }
+        ensures own { WaitsAsBefore self.old.slots self.new.slots }
         ensures rest { (self.new.end ≡ self.old.end) × (self.new.cells ≡ self.old.cells) }
     {
         let wakes = &mut self.slots.parts.wakes;

@@ -76,9 +76,9 @@ impl<T> Side<WriteEnd, T> {
     ghost use Rattle.piper_ring.specs.Cells.{GetsLeft};
     ghost use Rattle.piper_ring.specs.Loads.{FoundClosed, FoundWaiter, WasTaken};
     ghost use Rattle.piper_ring.specs.Shared.{flag};
-    ghost use Rattle.piper_ring.specs.SlotsView.{SamePlace};
+    ghost use Rattle.piper_ring.specs.SlotsView.{WaitsAsBefore};
     ghost use Rattle.piper_ring.specs.LendsBuffer.{lends_side};
-    ghost use Rattle.piper_ring.specs.WriteView.{HasLoadedHead, HasMoreRoom, Lendable, SameButSaw};
+    ghost use Rattle.piper_ring.specs.WriteView.{HasLoadedHead, HasMoreRoom, Lendable};
 
     /// Loads the head, as `load_head` of its end, and returns whether no room is known even now.
     /// Once it has registered it finds all that the reader had given back before its last check of
@@ -107,10 +107,9 @@ impl<T> Side<WriteEnd, T> {
     pub fn load_closed_first(&mut self) -> bool
         requires turn { next self.old.log ≡ Action.LoadClosed }
         ensures log { self.new.log ≡ looked (self.old.end.room == 0) result self.old.log }
-        ensures saw { result ≡ self.new.end.saw }
-        ensures shut { self.new.end.shut ≡ true → self.new.end.saw ≡ true }
-        ensures stays { flag self.old.end.saw ≤ flag self.new.end.saw }
-        ensures kept { SameButSaw self.old.end self.new.end }
+        ensures end { self.new.end ≡ record self.old.end { saw = result } }
+        ensures shut { self.new.end.shut ≡ true → result ≡ true }
+        ensures stays { self.old.end.saw ≡ true → result ≡ true }
         ensures rest { (self.new.slots ≡ self.old.slots) × (self.new.cells ≡ self.old.cells) }
     {
         let none = self.end.knows_none();
@@ -127,10 +126,9 @@ impl<T> Side<WriteEnd, T> {
         requires turn { next self.old.log ≡ Action.LoadClosed }
         requires unseen { self.old.end.saw ≡ false }
         ensures log { self.new.log ≡ made (Found.Flag result) self.old.log }
-        ensures after { flag self.old.slots.heard.closed ≤ flag self.new.end.saw }
-        ensures saw { result ≡ self.new.end.saw }
+        ensures end { self.new.end ≡ record self.old.end { saw = result } }
+        ensures after { self.old.slots.heard.closed ≡ true → result ≡ true }
         ensures shut { self.new.end.shut ≡ false }
-        ensures kept { SameButSaw self.old.end self.new.end }
         ensures rest { (self.new.slots ≡ self.old.slots) × (self.new.cells ≡ self.old.cells) }
     {
         let is_closed = self.end.load_closed_knowing(&self.slots.parts.heard.closed);
@@ -142,11 +140,10 @@ impl<T> Side<WriteEnd, T> {
     pub fn check_closed(&mut self) -> bool
         requires turn { next self.old.log ≡ Action.LoadClosed }
         ensures log { self.new.log ≡ made (Found.Flag result) self.old.log }
-        ensures saw { result ≡ self.new.end.saw }
-        ensures shut { self.new.end.shut ≡ true → self.new.end.saw ≡ true }
-        ensures stays { flag self.old.end.saw ≤ flag self.new.end.saw }
+        ensures end { self.new.end ≡ record self.old.end { saw = result } }
+        ensures shut { self.new.end.shut ≡ true → result ≡ true }
+        ensures stays { self.old.end.saw ≡ true → result ≡ true }
         ensures found { FoundClosed self.old.end.ring.names result }
-        ensures kept { SameButSaw self.old.end self.new.end }
         ensures rest { (self.new.slots ≡ self.old.slots) × (self.new.cells ≡ self.old.cells) }
     {
         let is_closed = self.end.load_closed();
@@ -214,7 +211,7 @@ impl<T> Side<WriteEnd, T> {
         ensures last { (result.side.told.names ≡ self.end.ring.names)
             × (result.side.told.bytes ≡ self.end.sent) × (result.side.told.shut ≡ true) }
         ensures looked { (result.side.slots.stored.bytes ≡ self.end.sent)
-            × (result.side.slots.stored.closed ≡ true) × SamePlace self.slots result.side.slots }
+            × (result.side.slots.stored.closed ≡ true) × WaitsAsBefore self.slots result.side.slots }
         ensures ticket { (result.taken ≡ None → result.side.slots.taken ≡ self.slots.taken)
             × (IsSome result.taken → self.slots.taken < result.side.slots.taken) }
         ensures waker { WasTaken self.slots.names

@@ -1,9 +1,10 @@
-use Rattle.std.proofs.Common.{rules, ◌≡◌, [], OnOk, IfErr, ◌∙◌}
+use Rattle.std.proofs.Common.{rules, ◌≡◌, [], OnOk, IfErr, ap, ◌∙◌}
 use Rattle.std.specs.Result.{result_and}
 use Rattle.std.specs.Io.KnownBytes.{IsAtEnd}
-use Rattle.piper.specs.Ends.{ReaderRefreshed}
+use Rattle.piper.specs.ReadView.{ReadView}
+use Rattle.piper.specs.WriteView.{WriteView}
 use Rattle.piper_transfer.specs.Transfer.{IsDrained, IsOfDestination, IsOfMemory, IsOfSource, PouredAll, WritesAll}
-use Rattle.piper_transfer.proofs.Sides.{poured_kept, poured_same}
+use Rattle.piper_transfer.proofs.Sides.{met_same, poured_kept, poured_same}
 use Rattle.piper_transfer.proofs.Told.{refused_writes_none, refused_is_told, flushed_first, flush_is_told, ends_with_both, failed_writes_not, failure_is_told, holds_on_ok}
 use Rattle.piper_transfer.proofs.Whole.{nothing_moved, none_known, output_failed, nothing_lost}
 use Rattle.piper_transfer.proofs.both_sides.transfer.Goals.{in-Ok, in-Err}
@@ -38,14 +39,14 @@ returns g c =
     let s = g.S.Source.fails both.new.source in
     let new_writer = c.in_ok-input.ensures.input.sent in
     let new_reader = c.in_ok-input.ensures.output.taken in
-    let met : ReaderRefreshed r1 r2 = c.meet.ensures.rest.reader in
-    let sent : c.meet.new.other.side.end.sent ≡ w1.sent = c.meet.ensures.rest.writer.sent in
+    let met : r2 ≡ record r1 { known = r2.known; all = r2.all } = c.meet.ensures.rest.reader in
+    let sent : c.meet.new.other.side.end.sent ≡ w1.sent = ap (λ (v : WriteView). v.sent) c.meet.ensures.rest.writer in
     let fifo = c.meet.ensures.fifo ∙ sent in
     elim c.match-both.branch [
       | in-Ok w ↦
           let q = w.flush.new.dest in
           let drained : PouredAll contents took o p r0 r1 = search rules in
-          let poured : PouredAll contents took o q r0 r2 = poured_kept contents took o p q r0 r2 (poured_same contents took o p r0 r1 r2 drained met.taken met.end) w.flush.ensures.kept w.flush.ensures.taken in
+          let poured : PouredAll contents took o q r0 r2 = poured_kept contents took o p q r0 r2 (poured_same contents took o p r0 r1 r2 drained (met_same r1 r2 met)) w.flush.ensures.kept w.flush.ensures.taken in
           let filled = w.in-Ok.filled in
           let whole : IsDrained r1 w1 = rw w.in-Ok.is at both.ensures.drained in
           let input_ended : OnOk filled (IsAtEnd j) = rw w.in-Ok.is at both.ensures.input_ended in
@@ -68,7 +69,7 @@ returns g c =
           let failed : ¬ WritesAll c.match-both.ended = failed_writes_not c.match-both.ended w.in-Err.error d full w.ended-is reported in
           let ended : OnOk c.match-both.ended (IsAtEnd j) = rw w.ended-is tt in
           rw w.dest-is (record {
-            moved = output_failed contents took o p c.match-both.ended i j w0 w1 r0 r1 r2 new_writer new_reader both.ensures.fed both.ensures.poured met.taken fifo failed ended;
+            moved = output_failed contents took o p c.match-both.ended i j w0 w1 r0 r1 r2 new_writer new_reader both.ensures.fed both.ensures.poured (ap (λ (v : ReadView). v.taken) met) fifo failed ended;
             flushed = λ writes. absurd (failed writes);
             reported = failure_is_told c.match-both.ended w.in-Err.error s d full w.ended-is reported;
             threads = holds_on_ok _ _ both.ensures.threads;

@@ -1,5 +1,6 @@
 -- What the input gave before a look, and what it gives after it.
-use Rattle.std.proofs.Common.{◌∙◌}
+use Rattle.std.proofs.Common.{ap, ◌∙◌}
+use Rattle.piper.specs.WriteView.{WriteView}
 use Rattle.piper_transfer.proofs.Sides.{fed_none, fed_same, fed_looked, fed_round}
 use Rattle.piper_transfer.proofs.Still.{writer_still}
 use Rattle.piper_transfer.proofs.filling.fill_turn.Goals as goal
@@ -20,7 +21,7 @@ pub returns-in-Err-clause-fed : goal.returns-in-Err-clause-fed
 returns-in-Err-clause-fed g c =
     let looked = c.poll.ensures.found.looked in
     let closed = c.close.ensures in
-    fed_same _ _ _ _ _ c.loop.invariant.2 (closed.sent ∙ looked.sent) (closed.ring ∙ looked.end.ring)
+    fed_same _ _ _ _ _ c.loop.invariant.2 (closed.sent ∙ ap (λ (v : WriteView). v.sent) looked.rest) (closed.ring ∙ ap (λ (v : WriteView). v.ring) looked.rest)
 
 pub returns-in-Ok-eq0-clause-fed : goal.returns-in-Ok-eq0-clause-fed
 returns-in-Ok-eq0-clause-fed g c =

@@ -1,5 +1,7 @@
 -- Once all known bytes are written and both handles meet, no byte is known.
-use Rattle.std.proofs.Common.{rules}
+use Rattle.std.proofs.Common.{ap, rules}
+use Rattle.piper.specs.ReadView.{ReadView}
+use Rattle.piper.specs.WriteView.{WriteView}
 use Rattle.piper_transfer.proofs.Sides.{room_again, taken_all}
 use Rattle.piper_transfer.proofs.one_thread.pass_on.Goals as goal
 
@@ -10,7 +12,7 @@ returns-clause-room g c =
     let drained = c.drain_known.ensures in
     room_again c.meet.new.self.side.end c.drain_known.new.reader.side.end c.meet-2.new.self.side.end
     c.meet.new.other.side.end c.meet-2.new.other.side.end
-    first.fifo drained.known (search rules) second.rest.reader.taken second.fifo second.rest.writer.sent
+    first.fifo drained.known (search rules) (ap (λ (v : ReadView). v.taken) second.rest.reader) second.fifo (ap (λ (v : WriteView). v.sent) second.rest.writer)
     second.room (search rules)
 
 pub returns-clause-all : goal.returns-clause-all
@@ -20,4 +22,4 @@ returns-clause-all g c =
     let drained = c.drain_known.ensures in
     taken_all c.meet.new.self.side.end c.drain_known.new.reader.side.end c.meet-2.new.self.side.end
     c.meet.new.other.side.end c.meet-2.new.other.side.end
-    first.fifo drained.known (search rules) second.rest.reader.taken second.rest.writer.sent
+    first.fifo drained.known (search rules) (ap (λ (v : ReadView). v.taken) second.rest.reader) (ap (λ (v : WriteView). v.sent) second.rest.writer)

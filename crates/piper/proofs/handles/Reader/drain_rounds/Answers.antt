@@ -1,5 +1,6 @@
 -- One more round was made, and whom it took was called.
-use Rattle.std.proofs.Common.{rules}
+use Rattle.std.proofs.Common.{ap, rules}
+use Rattle.piper_ring.specs.SlotsView.{SlotsView}
 use Rattle.piper.proofs.Calling.{calls_then}
 use Rattle.piper.proofs.RoundsOut.{drained_more}
 use Rattle.piper.proofs.handles.Reader.drain_rounds.Goals as goal
@@ -10,11 +11,10 @@ rounds-preserved g c =
       ran = search rules;
       drained = search (rules, drained_more);
       failures = search rules;
-      all = search rules;
       rest = search rules;
       woke = record {
-        called = calls_then c.args.self.now.side.slots c.rounds.self.side.slots c.wake_other.new.side.slots before.rest.waits.0 before.woke.called
-            (rw (c.store_head.ensures.rest.0, c.drain_round.ensures.rest.registrations) at c.wake_other.ensures.called);
+        called = calls_then c.args.self.now.side.slots c.rounds.self.side.slots c.wake_other.new.side.slots (ap (λ (s : SlotsView). s.names) before.rest.slots) before.woke.called
+            (rw (c.store_head.ensures.rest.0, c.drain_round.ensures.rest.slots) at c.wake_other.ensures.called);
         notifies = search rules;
       };
     }

@@ -4,7 +4,8 @@ use Rattle.piper_protocol.specs.Table.{goes_on}
 use Rattle.piper_protocol.specs.declared.table.Point.TheVariants.{Reader}
 use Rattle.piper_protocol.specs.declared.table.ReadPoint.TheVariants.{CallDestination}
 use Rattle.piper_ring.specs.Log.{Comes}
-use Rattle.piper.specs.Handles.{SameReaderButWoke}
+use Rattle.piper_ring.specs.SlotsView.{WaitsAsBefore}
+use Rattle.piper.specs.Handles.{SameReader}
 use Rattle.piper.specs.ReaderCalls.{WakesWriter}
 use Rattle.piper.proofs.RoundsOut.{Drained}
 use Rattle.piper.proofs.handles.Reader.drain_rounds.Given as goal
@@ -14,8 +15,7 @@ invariant-rounds g l = record {
   ran : Comes (goes_on (Reader (CallDestination l.fn.form l.moved))) l.fn.self.side.log l.self.side.log;
   drained : Drained g.W.WriteLike.takes l.fn.self.side.end l.self.side.end l.initial.dest l.dest l.moved;
   failures : g.W.WriteLike.failures l.dest ≡ g.W.WriteLike.failures l.initial.dest;
-  all : l.self.side.end.all ≡ l.fn.self.side.end.all;
-  rest : SameReaderButWoke l.fn.self l.self;
+  rest : SameReader WaitsAsBefore l.fn.self l.self;
   woke : WakesWriter l.fn.self l.self;
 }
 

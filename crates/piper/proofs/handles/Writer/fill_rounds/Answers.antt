@@ -1,5 +1,7 @@
 -- The rounds end with what was published so far, or with a round that the close lost.
-use Rattle.std.proofs.Common.{rules, refl, sym, ◌∙◌, inr, arith}
+use Rattle.std.proofs.Common.{ap, rules, refl, ◌∙◌, inr, arith}
+use Rattle.piper_ring.specs.SlotsView.{SlotsView}
+use Rattle.piper_ring.specs.WriteView.{WriteView}
 use Rattle.piper.proofs.Calling.{calls_then}
 use Rattle.piper.proofs.RoundsIn.{fill_ended, fill_closed, filled_more}
 use Rattle.piper.proofs.handles.Writer.fill_rounds.Goals as goal
@@ -8,7 +10,7 @@ pub returns-then-asks-eq0-clause-filled : goal.returns-then-asks-eq0-clause-fill
 returns-then-asks-eq0-clause-filled g c =
     let before = c.rounds.invariant in
     rw c.note.ensures.rest.0 (fill_ended _ g.met.R.ReadLike.gives_in_order _ _ _ _ _ _ _ before.filled
-    (record { end = record { ring = refl; capacity = refl; told = refl }; sent = refl; room = refl; shut = refl; saw = refl }) _ _
+    refl _ _
     (g.met.R.ReadLike.gives_nothing c.rounds.source) (inr (c.asks-asks.ensures.dry c.if-asks-eq0.true))
     (λ full. omega (arith, before.total, c.requires.some, full)))
 
@@ -16,22 +18,22 @@ pub returns-then-load_closed-clause-filled : goal.returns-then-load_closed-claus
 returns-then-load_closed-clause-filled g c =
     let before = c.rounds.invariant in
     let round = c.fill_round.ensures in
-    let saw = c.load_closed.ensures in
     fill_closed _ g.met.R.ReadLike.gives_in_order _ _ _ _ _ _ _ before.filled round.end _ _ _ _
-    c.in-Ok.ensures.bound c.in-Ok.ensures.most c.in-Ok.ensures.bytes (round.end.saw ∙ before.open_yet) saw.kept (sym saw.saw ∙ c.if-load_closed.true)
+    _ c.in-Ok.ensures.bound c.in-Ok.ensures.most c.in-Ok.ensures.bytes (ap (λ (w : WriteView). w.saw) round.end ∙ before.open_yet) c.load_closed.ensures.end c.if-load_closed.true
 
 pub rounds-preserved : goal.rounds-preserved
 rounds-preserved g c =
     let before = c.rounds.invariant in record {
       ran = search rules;
-      filled = search (rules, filled_more);
+      filled = filled_more _ g.met.R.ReadLike.gives_in_order _ _ _ _ _ _ _ before.filled c.fill_round.ensures.end _ _ _ _ c.in-Ok.ensures.bound c.in-Ok.ensures.bytes
+          (ap (λ (w : WriteView). w.saw) c.fill_round.ensures.end ∙ before.open_yet) c.load_closed.ensures.end c.store_tail.ensures.room (c.wake_other.ensures.rest.0 ∙ c.store_tail.ensures.end);
       total = search rules;
       open_yet = search rules;
       failures = search rules;
       rest = search rules;
       woke = record {
-        called = calls_then c.args.self.now.side.slots c.rounds.self.side.slots c.wake_other.new.side.slots before.rest.waits.0 before.woke.called
-            (rw (c.store_tail.ensures.rest.0, c.load_closed.ensures.rest.0, c.fill_round.ensures.rest.registrations) at c.wake_other.ensures.called);
+        called = calls_then c.args.self.now.side.slots c.rounds.self.side.slots c.wake_other.new.side.slots (ap (λ (s : SlotsView). s.names) before.rest.slots) before.woke.called
+            (rw (c.store_tail.ensures.rest.0, c.load_closed.ensures.rest.0, c.fill_round.ensures.rest.slots) at c.wake_other.ensures.called);
         notifies = search rules;
       };
     }

@@ -4,7 +4,8 @@ use Rattle.piper_protocol.specs.Table.{goes_on}
 use Rattle.piper_protocol.specs.declared.table.Point.TheVariants.{Writer}
 use Rattle.piper_protocol.specs.declared.table.WritePoint.TheVariants.{CallSource}
 use Rattle.piper_ring.specs.Log.{Comes}
-use Rattle.piper.specs.Handles.{SameWriterButWoke}
+use Rattle.piper_ring.specs.SlotsView.{WaitsAsBefore}
+use Rattle.piper.specs.Handles.{SameWriter}
 use Rattle.piper.specs.WriterCalls.{WakesReader}
 use Rattle.piper.proofs.RoundsIn.{Filled}
 use Rattle.piper.proofs.handles.Writer.fill_rounds.Given as goal
@@ -16,7 +17,7 @@ invariant-rounds g l = record {
   total : l.moved + l.self.side.end.room ≡ l.fn.self.side.end.room;
   open_yet : l.self.side.end.saw ≡ false;
   failures : g.R.ReadLike.failures l.source ≡ g.R.ReadLike.failures l.initial.source;
-  rest : SameWriterButWoke l.fn.self l.self;
+  rest : SameWriter WaitsAsBefore l.fn.self l.self;
   woke : WakesReader l.fn.self l.self;
 }
 

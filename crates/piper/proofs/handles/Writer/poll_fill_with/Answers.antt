@@ -7,4 +7,4 @@ pub returns-clause-waiting : goal.returns-clause-waiting
 returns-clause-waiting g c =
     let rest = c.unlend.ensures.rest in
     stays_waiting c.fill_waiting-outcome.result c.args.self.now c.fill_waiting-outcome.new.self _ _ c.fill_waiting-outcome.new.cx c.unlend.ensures.end
-    (record { slots = (rest.1, refl); rng = refl; registrations = rest.0 }) c.fill_waiting-outcome.ensures.waiting
+    (record { cells = rest.1; source = refl; rng = refl; slots = rest.0 }) c.fill_waiting-outcome.ensures.waiting

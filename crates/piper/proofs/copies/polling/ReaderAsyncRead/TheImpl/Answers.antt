@@ -1,5 +1,6 @@
 -- The trait says less than the clauses of the handle.
-use Rattle.piper.proofs.Ended.{saw_stays}
+use Rattle.std.proofs.Common.{ap}
+use Rattle.piper_ring.specs.ReadView.{ReadView}
 use Rattle.piper.proofs.Traits.{read_end, read_pends, reads}
 use Rattle.piper.proofs.copies.polling.ReaderAsyncRead.TheImpl.Goals as goal
 
@@ -12,7 +13,7 @@ poll_read-tells c =
       end = read_end c.result a b _ _ own.drained own.end;
       after = own.end.after;
       says = own;
-      stays = (own.rest.end.end.told_shut, saw_stays _ _ own.rest.end.saw, own.woken.notifies);
+      stays = (ap (λ (r : ReadView). r.told_shut) own.rest.end.rest, own.rest.end.saw, own.woken.notifies);
       pending = read_pends c.result a b _ own.rest own.pending;
       error = c.ensures.error;
       kept = c.ensures.context;

@@ -1,5 +1,4 @@
 -- The trait says less than the clauses of the handle.
-use Rattle.piper.proofs.Ended.{saw_stays}
 use Rattle.piper.proofs.Traits.{write_full, write_pends, writes}
 use Rattle.piper.proofs.copies.polling.WriterAsyncWrite.TheImpl.Goals as goal
 
@@ -12,7 +11,7 @@ poll_write-tells c =
       full = write_full c.result a b _ own.filled;
       says = own;
       error = c.ensures.error;
-      over = λ seen. (own.end.over seen, saw_stays _ _ own.rest.end.saw seen);
+      over = λ seen. (own.end.over seen, own.rest.end.saw seen);
       pending = write_pends c.result a b _ own.rest own.pending;
       woken = own.woken.notifies;
       kept = c.ensures.context;

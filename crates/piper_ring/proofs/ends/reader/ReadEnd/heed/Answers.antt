@@ -6,7 +6,7 @@ use Rattle.piper_ring.specs.Streams.{Stream, reaches_trans}
 use Rattle.piper_ring.proofs.ends.reader.ReadEnd.heed.Goals as goal
 
 pub returns : goal.returns
-returns c = record { told = search rules; shut = search rules; agree = grind (arith, common_steps); last = grind (arith, common_steps); kept = search rules }
+returns c = record { told = search rules; shut = search rules; agree = grind (arith, common_steps); last = grind (arith, common_steps); all = search rules; rest = search rules }
 
 pub invariant_of-self : goal.invariant_of-self
 invariant_of-self c = let e = c.self.inside.parts in let i = c.self.invariant in let t = c.heed.ensures in let h = c.heed-2.ensures in let g = c.heed.new.self in let k = c.heed-2.new.self in

@@ -100,10 +100,9 @@ returns c = let e = c.self.inside.parts in let i = c.self.invariant in let m = c
       other_shut = grind (arith, common_steps);
       writer = grind (arith, common_steps);
       reader = subst (λ (r : ReadView). KnowsMore r next) c.self.view_is (record {
-        end = record { ring = (λ j. (ring_of (s j).words (s j).at (s j).names)); capacity = cap; told = refl; told_shut = refl };
-        taken = (λ j. take ((s j).head) ((s j).have)) ∙ ap (take head) (sym m.published) ∙ taken_stays e.seat.have e.known.bytes more head i.whole.0 i.whole.1;
-        known = (more, λ j. (k j).bytes);
-        saw = refl;
+        more = (more, λ j. (k j).bytes);
         all = λ known. all_stays e i known now c.heed.ensures.kept;
+        rest = let taken = (λ j. take ((s j).head) ((s j).have)) ∙ ap (take head) (sym m.published) ∙ taken_stays e.seat.have e.known.bytes more head i.whole.0 i.whole.1 in
+            λ j. read_view (ring_of (s j).words (s j).at (s j).names) (cap j) (taken j) c.join.new.self.bytes (length e.told.bytes) e.told.shut e.saw.shut c.heed.new.self.bytes;
       });
     }
