@@ -89,6 +89,6 @@ where
     let child = thread::spawn_with(rt, promise, move || send_all(&theirs, writer, bytes))?;
     let came = receive_all(rt, &mut reader, place);
     let last = child.join(rt);
-    reader.heed(&last);
+    reader.observe(&last);
     Ok(came)
 }

@@ -150,7 +150,7 @@ impl ReadState {
         ensures open { self.new.point ≡ ReadPoint.Idle → IsSome result }
         ensures sound { IsReading self.new }
     {
-        self.indices.sees(tail);
+        self.indices.set_tail(tail);
         let none = self.indices.knows_none();
         let (point, answer) = after(
             self.point,
@@ -172,7 +172,7 @@ impl ReadState {
         ensures open { self.new.point ≡ ReadPoint.Idle → IsSome result }
         ensures sound { IsReading self.new }
     {
-        self.indices.gives(n);
+        self.indices.consume(n);
         let (point, answer) = after(self.point, self.indices.capacity(), Found::Nothing);
         self.point = point;
         answer

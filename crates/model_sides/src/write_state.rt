@@ -158,7 +158,7 @@ impl WriteState {
         ensures open { self.new.point ≡ WritePoint.Idle → IsSome result }
         ensures sound { IsWriting self.new }
     {
-        self.indices.sees(head);
+        self.indices.set_head(head);
         let room = self.indices.room();
         let none = room == 0;
         let (point, answer) = after(
@@ -183,7 +183,7 @@ impl WriteState {
         ensures open { self.new.point ≡ WritePoint.Idle → IsSome result }
         ensures sound { IsWriting self.new }
     {
-        self.indices.publishes(n);
+        self.indices.publish(n);
         let room = self.indices.room();
         let (point, answer) = after(self.point, self.indices.capacity(), room, Found::Nothing);
         self.point = point;

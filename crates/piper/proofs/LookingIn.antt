@@ -10,7 +10,7 @@ use Rattle.piper.specs.Fills.{FillRounds, Fills, WriterFilled}
 use Rattle.piper.specs.Like.{Passes}
 use Rattle.piper_ring.specs.Looks.{WriterIsUpToDate, WriterLooked}
 use Rattle.piper.specs.Polls.{IfReadyOk}
-use Rattle.piper.specs.declared.error.Inner.{Inner}
+use Rattle.piper.specs.declared.error.CopyError.{CopyError}
 
 -- what a load of the head showed stays so while bytes are published into that room
 up_to_date : (a b : WriteView) → WriterFilled a b → IsReplaced a b → WriterIsUpToDate a → WriterIsUpToDate b
@@ -33,7 +33,7 @@ same_sent a w looked = ap (λ (v : WriteView). v.sent) looked.rest
 
 module _ {S E : Type 0} (gives : Passes S) (is_dry : S → Type 0) (fails : S → E → S → Type 0) where
   -- nothing was moved after the look
-  pub fills_none : (r : Poll (Result ℕ (Inner E))) (a w : WriteView) (s : S) → WriterLooked a w → Copies gives fails r s s [] → IfReadyOk r (λ n. (((0 < n) × (w.room ≡ 0)) ⊎ is_dry s) ⊎ (w.saw ≡ true))
+  pub fills_none : (r : Poll (Result ℕ (CopyError E))) (a w : WriteView) (s : S) → WriterLooked a w → Copies gives fails r s s [] → IfReadyOk r (λ n. (((0 < n) × (w.room ≡ 0)) ⊎ is_dry s) ⊎ (w.saw ≡ true))
       → Fills gives is_dry fails r a w s s
   fills_none r a w s looked copied most = record {
     published = [];
@@ -49,7 +49,7 @@ module _ {S E : Type 0} (gives : Passes S) (is_dry : S → Type 0) (fails : S �
   }
 
   -- rounds moved bytes after the look
-  pub fills_rounds : (r : Poll (Result ℕ (Inner E))) (a w m b : WriteView) (s t : S) → WriterLooked a w → m ≡ w → FillRounds gives is_dry fails r m b s t
+  pub fills_rounds : (r : Poll (Result ℕ (CopyError E))) (a w m b : WriteView) (s t : S) → WriterLooked a w → m ≡ w → FillRounds gives is_dry fails r m b s t
       → Fills gives is_dry fails r a b s t
   fills_rounds r a w m b s t looked same rounds =
       let d : FillRounds gives is_dry fails r w b s t = subst (λ v. FillRounds gives is_dry fails r v b s t) same rounds in record {

@@ -9,11 +9,11 @@ use Rattle.piper.specs.Like.{Passes}
 use Rattle.piper_ring.specs.Looks.{ReaderLooked}
 use Rattle.piper.specs.Polls.{OnReadyOk}
 use Rattle.piper_ring.proofs.Loaded.{still_loaded}
-use Rattle.piper.specs.declared.error.Inner.{Inner}
+use Rattle.piper.specs.declared.error.CopyError.{CopyError}
 
 module _ {S E : Type 0} (takes : Passes S) (is_full : S → Type 0) (fails : S → E → S → Type 0) where
   -- nothing was moved after the look
-  pub drains_none : (r : Poll (Result ℕ (Inner E))) (a w : ReadView) (s : S) → ReaderLooked a w → Copies takes fails r s s [] → OnReadyOk r ((w.known ≡ []) ⊎ is_full s)
+  pub drains_none : (r : Poll (Result ℕ (CopyError E))) (a w : ReadView) (s : S) → ReaderLooked a w → Copies takes fails r s s [] → OnReadyOk r ((w.known ≡ []) ⊎ is_full s)
       → Drains takes is_full fails r a w s s
   drains_none r a w s looked copied most = record {
     moved = [];
@@ -26,7 +26,7 @@ module _ {S E : Type 0} (takes : Passes S) (is_full : S → Type 0) (fails : S �
   }
 
   -- rounds moved bytes after the look
-  module _ (r : Poll (Result ℕ (Inner E))) (a w m b : ReadView) (s t : S) (looked : ReaderLooked a w) (same : m ≡ w) (rounds : DrainRounds takes is_full fails r m b s t) where
+  module _ (r : Poll (Result ℕ (CopyError E))) (a w m b : ReadView) (s t : S) (looked : ReaderLooked a w) (same : m ≡ w) (rounds : DrainRounds takes is_full fails r m b s t) where
     d : DrainRounds takes is_full fails r w b s t
     d = subst (λ v. DrainRounds takes is_full fails r v b s t) same rounds
 

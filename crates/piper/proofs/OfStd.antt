@@ -10,8 +10,8 @@ use Rattle.piper.specs.Drains.{Drains}
 use Rattle.piper.specs.Fills.{Fills}
 use Rattle.piper.specs.Like.{Passes}
 use Rattle.piper.specs.Polls.{IfReadyOk, OnReadyOk}
-use Rattle.piper.specs.declared.error.Inner.{Inner}
-use Rattle.piper.specs.declared.error.Inner.TheVariants.{Memory, Like}
+use Rattle.piper.specs.declared.error.CopyError.{CopyError}
+use Rattle.piper.specs.declared.error.CopyError.TheVariants.{Memory, Like}
 
 -- a struct of S holds one of T, so that each step of the first is one of the second
 module _ {S T E : Type 0} (held : S → T) (passes : Passes S) (is_last : S → Type 0) (fails : S → E → S → Type 0)
@@ -19,13 +19,13 @@ module _ {S T E : Type 0} (held : S → T) (passes : Passes S) (is_last : S → 
     (pass : (a : S) (xs : List ℕ) (b : S) → passes a xs b → passes_held (held a) xs (held b))
     (last : (a : S) → is_last a → is_last_held (held a))
     (fail : (a : S) (e : E) (b : S) → fails a e b → fails_held (held a) e (held b)) where
-  copied : (r : Poll (Result ℕ (Inner E))) (s t : S) (xs : List ℕ) → Copies passes fails r s t xs → Copies passes_held fails_held r (held s) (held t) xs
+  copied : (r : Poll (Result ℕ (CopyError E))) (s t : S) (xs : List ℕ) → Copies passes fails r s t xs → Copies passes_held fails_held r (held s) (held t) xs
   copied (Ready (Ok n)) s t xs c = (pass s xs t c.0, c.1)
   copied (Ready (Err Memory)) s t xs c = (ap held c.0, c.1)
   copied (Ready (Err (Like e))) s t xs c = (pass s xs t c.0, (held c.1.0, pass s xs c.1.0 c.1.1, fail c.1.0 e t c.1.2))
   copied Pending s t xs c = (ap held c.0, c.1)
 
-  filled_ok : (r : Poll (Result ℕ (Inner E))) (b : WriteView) (t : S) → IfReadyOk r (λ n. (((0 < n) × (b.room ≡ 0)) ⊎ is_last t) ⊎ (b.saw ≡ true))
+  filled_ok : (r : Poll (Result ℕ (CopyError E))) (b : WriteView) (t : S) → IfReadyOk r (λ n. (((0 < n) × (b.room ≡ 0)) ⊎ is_last t) ⊎ (b.saw ≡ true))
       → IfReadyOk r (λ n. (((0 < n) × (b.room ≡ 0)) ⊎ is_last_held (held t)) ⊎ (b.saw ≡ true))
   filled_ok (Ready (Ok n)) b t (inl (inl full)) = inl (inl full)
   filled_ok (Ready (Ok n)) b t (inl (inr dry)) = inl (inr (last t dry))
@@ -33,7 +33,7 @@ module _ {S T E : Type 0} (held : S → T) (passes : Passes S) (is_last : S → 
   filled_ok (Ready (Err e)) b t most = tt
   filled_ok Pending b t most = tt
 
-  drained_ok : (r : Poll (Result ℕ (Inner E))) (b : ReadView) (t : S) → OnReadyOk r ((b.known ≡ []) ⊎ is_last t)
+  drained_ok : (r : Poll (Result ℕ (CopyError E))) (b : ReadView) (t : S) → OnReadyOk r ((b.known ≡ []) ⊎ is_last t)
       → OnReadyOk r ((b.known ≡ []) ⊎ is_last_held (held t))
   drained_ok (Ready (Ok n)) b t (inl none) = inl none
   drained_ok (Ready (Ok n)) b t (inr full) = inr (last t full)
@@ -41,7 +41,7 @@ module _ {S T E : Type 0} (held : S → T) (passes : Passes S) (is_last : S → 
   drained_ok Pending b t most = tt
 
   -- a fill from such a struct, which is told as the answer q
-  module _ (r q : Poll (Result ℕ (Inner E))) (is : r ≡ q) (s t : S) (old new : T) (before : held s ≡ old) (after : held t ≡ new) where
+  module _ (r q : Poll (Result ℕ (CopyError E))) (is : r ≡ q) (s t : S) (old new : T) (before : held s ≡ old) (after : held t ≡ new) where
     pub filled_held : (a b : WriteView) → Fills passes is_last fails r a b s t → Fills passes_held is_last_held fails_held q a b old new
     filled_held a b d =
         let of_held : Fills passes_held is_last_held fails_held r a b (held s) (held t) = record {
@@ -56,7 +56,7 @@ module _ {S T E : Type 0} (held : S → T) (passes : Passes S) (is_last : S → 
           most = filled_ok r b t d.most;
           end = d.end;
         } in
-        subst (λ (v : Poll (Result ℕ (Inner E)) × (T × T)). Fills passes_held is_last_held fails_held v.0 a b v.1.0 v.1.1) (λ j. (is j, (before j, after j))) of_held
+        subst (λ (v : Poll (Result ℕ (CopyError E)) × (T × T)). Fills passes_held is_last_held fails_held v.0 a b v.1.0 v.1.1) (λ j. (is j, (before j, after j))) of_held
 
     -- and a drain into one
     pub drained_held : (a b : ReadView) → Drains passes is_last fails r a b s t → Drains passes_held is_last_held fails_held q a b old new
@@ -70,4 +70,4 @@ module _ {S T E : Type 0} (held : S → T) (passes : Passes S) (is_last : S → 
           most = drained_ok r b t d.most;
           end = d.end;
         } in
-        subst (λ (v : Poll (Result ℕ (Inner E)) × (T × T)). Drains passes_held is_last_held fails_held v.0 a b v.1.0 v.1.1) (λ j. (is j, (before j, after j))) of_held
+        subst (λ (v : Poll (Result ℕ (CopyError E)) × (T × T)). Drains passes_held is_last_held fails_held v.0 a b v.1.0 v.1.1) (λ j. (is j, (before j, after j))) of_held

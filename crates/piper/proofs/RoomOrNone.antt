@@ -1,7 +1,7 @@
 -- What is free where two handles meet is what the writer has as its room.
 use Rattle.std.proofs.Common.{◌≡◌, ℕ, zero, suc, ◌+◌, ◌<◌, ◌⊎◌, Bool, true, false, List, [], ◌∷◌, length, inl, inr, refl, ap, arith}
 use native.Mathlib.Decide.{dec_lt}
-use Rattle.piper_ring.specs.Slots.{Stored, as_stored}
+use Rattle.piper_ring.specs.Slot.{Stored, as_stored}
 
 -- a writer that has room there had given less than the reader consumed and the capacity
 pub room_or_none : (room sent count known capacity : ℕ) (P : Type 0) → room + known ≡ capacity → sent ≡ count + known

@@ -5,7 +5,7 @@ use Rattle.piper_ring.specs.WriteView.{WriteView}
 use Rattle.piper.specs.Copies.{IsReplaced}
 use Rattle.piper.specs.Fills.{FillRounds, WriterFilled, most_of_round}
 use Rattle.piper.specs.Like.{Passes, PassesInOrder}
-use Rattle.piper.specs.declared.error.Inner.TheVariants.{Like}
+use Rattle.piper.specs.declared.error.CopyError.TheVariants.{Like}
 
 -- the source gave `sum` bytes in the rounds so far, which were published
 pub record Filled {S : Type 0} (gives : Passes S) (a b : WriteView) (s t : S) (sum : ℕ) : Type 0 where

@@ -4,7 +4,7 @@ use Rattle.futures.specs.declared.task.Poll.TheVariants.{Ready}
 use Rattle.piper_ring.specs.ReadView.{ReadView, in_one_piece}
 use Rattle.piper.specs.Drains.{DrainRounds}
 use Rattle.piper.specs.Like.{Passes, PassesInOrder}
-use Rattle.piper.specs.declared.error.Inner.TheVariants.{Like}
+use Rattle.piper.specs.declared.error.CopyError.TheVariants.{Like}
 
 -- the rounds so far gave the destination `sum` bytes, which were the front of what was known
 pub record Drained {S : Type 0} (takes : Passes S) (a b : ReadView) (s t : S) (sum : ℕ) : Type 0 where

@@ -9,10 +9,10 @@ use Rattle.piper_ring.specs.SlotsView.{KeepsSlots}
 use Rattle.piper.specs.Handles.{SameWriter}
 use Rattle.piper.specs.Waits.{WriterRegistered}
 use Rattle.piper.specs.WriterCalls.{DrawsToYield, FillPends, FillsWaiting}
-use Rattle.piper.specs.declared.error.Inner.{Inner}
-use Rattle.piper.specs.declared.error.Inner.TheVariants.{Memory, Like}
+use Rattle.piper.specs.declared.error.CopyError.{CopyError}
+use Rattle.piper.specs.declared.error.CopyError.TheVariants.{Memory, Like}
 
-draws : {E : Type 0} (r : Poll (Result ℕ (Inner E))) (a b d : Writer) → d.side.end ≡ record b.side.end { lent = [] } → SameWriter KeepsSlots b d → DrawsToYield r a b → DrawsToYield r a d
+draws : {E : Type 0} (r : Poll (Result ℕ (CopyError E))) (a b d : Writer) → d.side.end ≡ record b.side.end { lent = [] } → SameWriter KeepsSlots b d → DrawsToYield r a b → DrawsToYield r a d
 draws (Ready (Ok n)) a b d end rest h = rw (rest.rng, end) h
 draws (Ready (Err Memory)) a b d end rest h = rw rest.rng h
 draws (Ready (Err (Like e))) a b d end rest h = rw rest.rng h
@@ -43,7 +43,7 @@ pending Pending a b d cx end rest h = record {
 }
 
 -- and the whole fill waits as it did
-pub stays_waiting : {E : Type 0} (r : Poll (Result ℕ (Inner E))) (a b d : Writer) (old left : Context) → d.side.end ≡ record b.side.end { lent = [] } → SameWriter KeepsSlots b d
+pub stays_waiting : {E : Type 0} (r : Poll (Result ℕ (CopyError E))) (a b d : Writer) (old left : Context) → d.side.end ≡ record b.side.end { lent = [] } → SameWriter KeepsSlots b d
     → FillsWaiting r a b old left → FillsWaiting r a d old left
 stays_waiting r a b d old left end rest h = record {
   draws = draws r a b d end rest h.draws;

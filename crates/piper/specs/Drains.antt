@@ -8,7 +8,7 @@ use Rattle.piper.specs.CopyAnswers.{Copies}
 use Rattle.piper_ring.specs.Looks.{IsEnded, ReaderIsUpToDate}
 use Rattle.piper.specs.Like.{Passes}
 use Rattle.piper.specs.Polls.{OnReadyOk}
-use Rattle.piper.specs.declared.error.Inner.{Inner}
+use Rattle.piper.specs.declared.error.CopyError.{CopyError}
 
 -- how many bytes the reader knew of after its look:
 -- those that it took since, and those that it knows of now
@@ -32,7 +32,7 @@ StaysKnown a b = b.taken ++ b.known ≡ a.taken ++ a.known
 -- which was taken; and all of it, or what it took
 pub record DrainRounds {S E : Type 0}
     (takes : Passes S) (is_full : S → Type 0) (fails : S → E → S → Type 0)
-    (r : Poll (Result ℕ (Inner E))) (a b : ReadView) (s t : S) : Type 0 where
+    (r : Poll (Result ℕ (CopyError E))) (a b : ReadView) (s t : S) : Type 0 where
   pub moved : List ℕ
   pub taken : b.taken ≡ a.taken ++ moved
   pub known : a.known ≡ moved ++ b.known
@@ -43,7 +43,7 @@ pub record DrainRounds {S E : Type 0}
 -- a drain from a to b, which begins with a look: that finds more only where no byte was known
 pub record Drains {S E : Type 0}
     (takes : Passes S) (is_full : S → Type 0) (fails : S → E → S → Type 0)
-    (r : Poll (Result ℕ (Inner E))) (a b : ReadView) (s t : S) : Type 0 where
+    (r : Poll (Result ℕ (CopyError E))) (a b : ReadView) (s t : S) : Type 0 where
   pub moved : List ℕ
   pub taken : b.taken ≡ a.taken ++ moved
   pub known : 0 < length a.known → a.known ≡ moved ++ b.known

@@ -9,8 +9,8 @@ use Rattle.piper.specs.CopyAnswers.{Copies}
 use Rattle.piper_ring.specs.Looks.{WriterIsUpToDate}
 use Rattle.piper.specs.Like.{Passes}
 use Rattle.piper.specs.Polls.{IfReadyOk}
-use Rattle.piper.specs.declared.error.Inner.{Inner}
-use Rattle.piper.specs.declared.error.Inner.TheVariants.{Memory, Like}
+use Rattle.piper.specs.declared.error.CopyError.{CopyError}
+use Rattle.piper.specs.declared.error.CopyError.TheVariants.{Memory, Like}
 
 -- rounds of the writer published bytes, and what is left of the last one is still lent. What it saw of
 -- closed it keeps
@@ -30,7 +30,7 @@ LosesOneRound n a b = length a.sent + n ≤ length b.sent + most_of_round b
 -- and all of it unless the pipe was seen closed: then what the last round gave is lost
 pub record FillRounds {S E : Type 0}
     (gives : Passes S) (is_dry : S → Type 0) (fails : S → E → S → Type 0)
-    (r : Poll (Result ℕ (Inner E))) (a b : WriteView) (s t : S) : Type 0 where
+    (r : Poll (Result ℕ (CopyError E))) (a b : WriteView) (s t : S) : Type 0 where
   pub published : List ℕ
   pub lost : List ℕ
   pub sent : b.sent ≡ a.sent ++ published
@@ -44,7 +44,7 @@ pub record FillRounds {S E : Type 0}
 -- a fill from a to b, which begins with a look: that finds more room only where none was known
 pub record Fills {S E : Type 0}
     (gives : Passes S) (is_dry : S → Type 0) (fails : S → E → S → Type 0)
-    (r : Poll (Result ℕ (Inner E))) (a b : WriteView) (s t : S) : Type 0 where
+    (r : Poll (Result ℕ (CopyError E))) (a b : WriteView) (s t : S) : Type 0 where
   pub published : List ℕ
   pub lost : List ℕ
   pub sent : b.sent ≡ a.sent ++ published
@@ -57,7 +57,7 @@ pub record Fills {S E : Type 0}
   pub end : WriterFilled a b
 
 -- by its answer and what it leaves: the look of the fill was true
-abbrev pub FoundRoom : {E : Type 0} → Poll (Result ℕ (Inner E)) → WriteView → Type 0
+abbrev pub FoundRoom : {E : Type 0} → Poll (Result ℕ (CopyError E)) → WriteView → Type 0
 FoundRoom (Ready (Ok n)) w = (0 < n) ⊎ (w.saw ≡ false)
 FoundRoom (Ready (Err Memory)) w = ⊥
 FoundRoom (Ready (Err (Like e))) w = ⊤

@@ -3,7 +3,7 @@ use Rattle.std.specs.Prelude.{◌≡◌, ℕ, true, List, bit_xor}
 use Rattle.std.specs.Borrow.{Fml, MutBor, Array, Lends}
 use denote.Builtin.{u8}
 use Rattle.piper_ring.specs.LendsBuffer.{with_lent}
-use Rattle.piper_ring.specs.SlotsView.{IsAtRest, IsReaderAtRest, SlotsView}
+use Rattle.piper_ring.specs.SlotsView.{IsWriterAtRest, IsReaderAtRest, SlotsView}
 use Rattle.piper_ring.specs.Opened.{FreshReadEnd, FreshWriteEnd}
 use Rattle.piper.specs.Generator.{generator}
 use Rattle.piper.specs.declared.handles.Reader.{Reader}
@@ -30,7 +30,7 @@ NotifiesWriter reader = IsReaderAtRest reader.side.end reader.side.slots
 -- the writer checked the reader's slot after all that it published, and after its close where it
 -- closed the pipe, and took who waited there
 abbrev pub NotifiesReader : Writer → Type 0
-NotifiesReader writer = IsAtRest writer.side.end writer.side.slots
+NotifiesReader writer = IsWriterAtRest writer.side.end writer.side.slots
 
 -- the handles of a pipe that was just opened: nothing was stored, and nobody waits
 pub record AreFresh (cap : ℕ) (r : Reader) (w : Writer) : Type 0 where

@@ -8,7 +8,7 @@ use Rattle.futures.specs.declared.task.Poll.TheVariants.{Ready}
 use Rattle.std.specs.Io.{StartsWith}
 use denote.Ref.{Bor}
 use Rattle.piper_ring.specs.ReadView.{KeepsAll as EndKeepsAll, KnowsEnd, MayBeUnread as EndMayHave, in_one_piece}
-use Rattle.piper_ring.specs.SlotsView.{IsPending, IsWriterPending, KeepsSlots, OnlyWaits, WaitsAsBefore}
+use Rattle.piper_ring.specs.SlotsView.{IsReaderPending, IsWriterPending, KeepsSlots, OnlyWaits, WaitsAsBefore}
 use Rattle.piper.specs.Called.{CallsTaken}
 use Rattle.piper.specs.Contexts.{AsksAgain, WantsWaker}
 use Rattle.piper.specs.Copies.{ReaderCopied}
@@ -21,7 +21,7 @@ use Rattle.piper_ring.specs.Looks.{IsEnded, ReaderIsUpToDate, ReaderLooked}
 use Rattle.piper.specs.Looks.{ReaderFound}
 use Rattle.piper.specs.Polls.{After, Count, IfReadyErr, IfReadyOk, Lends, TakesNone}
 use Rattle.piper.specs.Waits.{ReaderIsRefused, ReaderIsRemembered, ReaderIsWaiting, ReaderPends, WriterIsRemembered, ReaderLeavesNone, ReaderRegistered}
-use Rattle.piper.specs.declared.error.Inner.{Inner}
+use Rattle.piper.specs.declared.error.CopyError.{CopyError}
 use Rattle.piper.specs.declared.error.PipeError.{PipeError}
 use Rattle.piper_ring.specs.declared.ends.finished.FinishedWriter.{FinishedWriter}
 use Rattle.piper.specs.declared.handles.Reader.{Reader}
@@ -107,11 +107,11 @@ DrainsSlice other a b old new = OnlyLooked a b × (new ≡ old)
 
 -- a drain into any destination, and into a writer of std
 abbrev pub DrainsLike : {S E : Type 0} → Passes S → (S → Type 0) → (S → E → S → Type 0)
-    → Poll (Result ℕ (Inner E)) → Reader → Reader → S → S → Type 0
+    → Poll (Result ℕ (CopyError E)) → Reader → Reader → S → S → Type 0
 DrainsLike takes is_full fails r a b s t = Drains takes is_full fails r a.side.end b.side.end s t
 
 abbrev pub DrainsStd : {S E : Type 0} → (S → Option (List ℕ)) → (S → Type 0)
-    → (S → E → S → Type 0) → Poll (Result ℕ (Inner E)) → Reader → Reader → S → S → Type 0
+    → (S → E → S → Type 0) → Poll (Result ℕ (CopyError E)) → Reader → Reader → S → S → Type 0
 DrainsStd contents is_full fails r a b s t =
     Drains (appends_to contents) is_full fails r a.side.end b.side.end s t
 
@@ -141,7 +141,7 @@ abbrev pub DrawsToYield : {E : Type 0} → Poll (Result ℕ E) → Reader → Re
 DrawsToYield r a b = Draws (0 < found_len a.side.end b.side.end) r a.rng b.rng
 
 -- with a context a drain draws, waits, and is refused memory only for its waker
-pub record DrainsWaiting {E : Type 0} (r : Poll (Result ℕ (Inner E)))
+pub record DrainsWaiting {E : Type 0} (r : Poll (Result ℕ (CopyError E)))
     (a b : Reader) (old left : Context) : Type 0 where
   pub draws : DrawsToYield r a b
   pub pending : OnPending r (DrainPends a b left)
@@ -150,7 +150,7 @@ pub record DrainsWaiting {E : Type 0} (r : Poll (Result ℕ (Inner E)))
 
 -- without one it doesn't draw, is pending only where it found no byte and the pipe open, is refused
 -- no memory, and waits as it did
-pub record DrainsAtOnce {E : Type 0} (r : Poll (Result ℕ (Inner E))) (a b : Reader) : Type 0 where
+pub record DrainsAtOnce {E : Type 0} (r : Poll (Result ℕ (CopyError E))) (a b : Reader) : Type 0 where
   pub undrawn : Undrawn (0 < found_len a.side.end b.side.end) r a.rng b.rng
   pub unseen : EndIsUnseen r a.side.end b.side.end
   pub memory : OnMemory r ⊥
@@ -196,7 +196,7 @@ pub record KnowsAll (r : Reader) (bytes : List ℕ) : Type 0 where
 -- where the reader was pending in its slot, the writer took its last waker and woke it as it left
 abbrev pub WasWoken : Reader → FinishedWriter → Type 0
 WasWoken reader left =
-    IsPending reader.side.end reader.side.slots
+    IsReaderPending reader.side.end reader.side.slots
     → left.slots.taken ≡ reader.side.slots.tickets
 
 -- the reader, but for what marks reported to it
@@ -222,7 +222,7 @@ pub record MeetClosed (b : Reader) (d : Writer) : Type 0 where
 -- its last store, the writer took and woke its waker since, or the reader has nothing to do
 abbrev pub MeetReader : Reader → Reader → Writer → Type 0
 MeetReader a b writer =
-    IsPending a.side.end a.side.slots → NotifiesReader writer → ReaderIsRemembered a b writer
+    IsReaderPending a.side.end a.side.slots → NotifiesReader writer → ReaderIsRemembered a b writer
 
 -- nor the writer
 abbrev pub MeetWriter : Writer → Writer → Reader → Type 0
@@ -233,7 +233,7 @@ MeetWriter a b reader =
 -- store, then one took and called the other's waker since
 abbrev pub MeetAwake : Reader → Writer → Type 0
 MeetAwake a c =
-    IsPending a.side.end a.side.slots → NotifiesWriter a
+    IsReaderPending a.side.end a.side.slots → NotifiesWriter a
     → IsWriterPending c.side.end c.side.slots → NotifiesReader c
     → (c.side.slots.taken ≡ a.side.slots.tickets) ⊎ (a.side.slots.taken ≡ c.side.slots.tickets)
 

@@ -12,8 +12,8 @@ use Rattle.piper_protocol.specs.declared.table.Purpose.{Purpose}
 use Rattle.piper_protocol.specs.declared.table.Purpose.TheVariants.{Copy}
 use Rattle.piper_ring.specs.Log.{idle}
 use Rattle.piper_ring.specs.Looks.{look_next}
-use Rattle.piper.specs.declared.error.Inner.{Inner}
-use Rattle.piper.specs.declared.error.Inner.TheVariants.{Memory, Like}
+use Rattle.piper.specs.declared.error.CopyError.{CopyError}
+use Rattle.piper.specs.declared.error.CopyError.TheVariants.{Memory, Like}
 use Rattle.piper_ring.specs.declared.ends.slots.looks.Look.{Look}
 
 -- what a poll returns
@@ -23,7 +23,7 @@ poll_answer (Ready (Err e)) = answers.Poll polled.Memory
 poll_answer Pending = answers.Poll polled.Pending
 
 -- what a copy returns
-abbrev pub copy_answer : {E : Type 0} → Form → Poll (Result ℕ (Inner E)) → Answer
+abbrev pub copy_answer : {E : Type 0} → Form → Poll (Result ℕ (CopyError E)) → Answer
 copy_answer form (Ready (Ok n)) = count_answer form n
 copy_answer form (Ready (Err Memory)) = look_answer (Copy form) polled.Memory
 copy_answer form (Ready (Err (Like e))) = failed_answer

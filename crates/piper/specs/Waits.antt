@@ -3,7 +3,7 @@ use Rattle.std.specs.Prelude.{◌≡◌, ◌+◌, ◌⊎◌, true, false, [], le
 use Rattle.futures.specs.Task.{Covers}
 use Rattle.futures.specs.declared.task.context.Context.{Context}
 use Rattle.piper_ring.specs.Loads.{IsAway}
-use Rattle.piper_ring.specs.SlotsView.{IsPending, IsWriterPending}
+use Rattle.piper_ring.specs.SlotsView.{IsReaderPending, IsWriterPending}
 use Rattle.piper.specs.Called.{CallsTaken, RegistersTask}
 use Rattle.piper.specs.Contexts.{AsksAgain, IsCalm}
 use Rattle.piper.specs.Handles.{read_source, write_source}
@@ -17,7 +17,7 @@ use Rattle.piper_ring.specs.declared.ends.finished.FinishedWriter.{FinishedWrite
 -- that found nothing to do; its task didn't ask for another poll itself
 pub record ReaderWaits (a b : Reader) (cx : Context) : Type 0 where
   pub ticket : b.side.slots.tickets ≡ a.side.slots.tickets + 1
-  pub pending : IsPending b.side.end b.side.slots
+  pub pending : IsReaderPending b.side.end b.side.slots
   pub calm : IsCalm a.side.slots.owns cx
   pub task : RegistersTask b.side.slots cx
 
@@ -75,7 +75,7 @@ pub record WriterPends (a b : Writer) (cx : Context) : Type 0 where
 -- why a call of a trait is pending: the reader is registered and has nothing to do, or its task asked
 -- for another poll itself
 abbrev pub ReaderIsWaiting : Reader → Context → Type 0
-ReaderIsWaiting r cx = IsPending r.side.end r.side.slots ⊎ AsksAgain cx
+ReaderIsWaiting r cx = IsReaderPending r.side.end r.side.slots ⊎ AsksAgain cx
 
 abbrev pub WriterIsWaiting : Writer → Context → Type 0
 WriterIsWaiting w cx = IsWriterPending w.side.end w.side.slots ⊎ AsksAgain cx

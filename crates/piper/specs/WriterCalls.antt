@@ -11,7 +11,7 @@ use Rattle.piper_ring.specs.WriteView.{Lendable, MayBeUnread as EndMayHave}
 use Rattle.piper.specs.Called.{CallsTaken}
 use Rattle.piper.specs.Contexts.{AsksAgain}
 use Rattle.piper.specs.Copies.{IsReplaced, WriterCopied}
-use Rattle.piper.specs.CopyAnswers.{OnMemory, inner_of}
+use Rattle.piper.specs.CopyAnswers.{OnMemory, of_std}
 use Rattle.piper.specs.Draws.{Draws, Undrawn}
 use Rattle.piper.specs.Fills.{Fills, FoundRoom, LosesOneRound, OnNoCount}
 use Rattle.piper.specs.Handles.{NotifiesReader, SameWriter, write_source}
@@ -20,7 +20,7 @@ use Rattle.piper_ring.specs.Looks.{WriterIsUpToDate, WriterLooked}
 use Rattle.piper.specs.Looks.{WriterFound}
 use Rattle.piper.specs.Polls.{Count, IfReadyErr, IfReadyOk}
 use Rattle.piper.specs.Waits.{WriterIsRefused, WriterLeavesNone, WriterRegistered}
-use Rattle.piper.specs.declared.error.Inner.{Inner}
+use Rattle.piper.specs.declared.error.CopyError.{CopyError}
 use Rattle.piper_ring.specs.declared.ends.finished.FinishedReader.{FinishedReader}
 use Rattle.piper.specs.declared.handles.Writer.{Writer}
 
@@ -79,11 +79,11 @@ FillsSlice other a b bytes = OnlyLooked a b
 
 -- a fill from any source, and from a reader of std
 abbrev pub FillsLike : {S E : Type 0} → Passes S → (S → Type 0) → (S → E → S → Type 0)
-    → Poll (Result ℕ (Inner E)) → Writer → Writer → S → S → Type 0
+    → Poll (Result ℕ (CopyError E)) → Writer → Writer → S → S → Type 0
 FillsLike gives is_dry fails r a b s t = Fills gives is_dry fails r a.side.end b.side.end s t
 
 abbrev pub FillsStd : {S E : Type 0} → (S → Option (List ℕ)) → (S → E → S → Type 0)
-    → Poll (Result ℕ (Inner E)) → Writer → Writer → S → S → Type 0
+    → Poll (Result ℕ (CopyError E)) → Writer → Writer → S → S → Type 0
 FillsStd remaining fails r a b s t =
     Fills (consumes_of remaining) (λ u. IsAtEnd (remaining u)) fails r a.side.end b.side.end s t
 
@@ -100,11 +100,11 @@ pub record FillPends (a b : Writer) (cx : Context) : Type 0 where
   pub registered : b.side.end.room ≡ 0 → WriterRegistered a b cx
 
 -- a fill draws from the writer's generator exactly where it found room, and yields by that draw
-abbrev pub DrawsToYield : {E : Type 0} → Poll (Result ℕ (Inner E)) → Writer → Writer → Type 0
+abbrev pub DrawsToYield : {E : Type 0} → Poll (Result ℕ (CopyError E)) → Writer → Writer → Type 0
 DrawsToYield r a b = Draws (FoundRoom r b.side.end) r a.rng b.rng
 
 -- with a context a fill draws, waits, and is refused memory only for its waker
-pub record FillsWaiting {E : Type 0} (r : Poll (Result ℕ (Inner E)))
+pub record FillsWaiting {E : Type 0} (r : Poll (Result ℕ (CopyError E)))
     (a b : Writer) (old left : Context) : Type 0 where
   pub draws : DrawsToYield r a b
   pub pending : OnPending r (FillPends a b left)
@@ -113,7 +113,7 @@ pub record FillsWaiting {E : Type 0} (r : Poll (Result ℕ (Inner E)))
 
 -- without one it doesn't draw, is pending only where it found no room, is refused no memory, and
 -- waits as it did
-pub record FillsAtOnce {E : Type 0} (r : Poll (Result ℕ (Inner E))) (a b : Writer) : Type 0 where
+pub record FillsAtOnce {E : Type 0} (r : Poll (Result ℕ (CopyError E))) (a b : Writer) : Type 0 where
   pub undrawn : Undrawn (FoundRoom r b.side.end) r a.rng b.rng
   pub memory : OnMemory r ⊥
   pub place : WaitsAsBefore a.side.slots b.side.slots
@@ -137,7 +137,7 @@ pub record WritesAsFill (a b : Writer) (r : Count) (bytes : List ℕ)
     (cx : Context) : Type 0 where
   pub filled : FillsSlice r a b bytes
   pub end : FillsEnd r a b
-  pub draws : DrawsToYield (inner_of r) a b
+  pub draws : DrawsToYield (of_std r) a b
   pub pending : OnPending r (FillPends a b cx)
   pub refused : IfReadyErr r (λ _. WriterIsRefused b cx)
   pub woken : WakesReader a b

@@ -137,7 +137,7 @@ impl Reader {
         wake_other(&mut self.side);
     }
 
-    /// Evidence of how many bytes were taken, for the writer to heed.
+    /// Evidence of how many bytes were taken, for the writer to observe.
     pub fn mark(&self) -> ReadMark
         ensures ring { result.names ≡ (ring self.now).names }
         ensures count { result.count ≡ length (taken self.now) }
@@ -312,7 +312,7 @@ impl Writer {
         Poll::Ready(Ok(()))
     }
 
-    /// Evidence of what was published, for the reader to heed.
+    /// Evidence of what was published, for the reader to observe.
     pub fn mark(&self) -> WriteMark
         ensures ring { result.names ≡ (ring self.now).names }
         ensures bytes { result.bytes ≡ sent self.now }

@@ -19,7 +19,7 @@ pub enum PipeError {
 
 /// What a fill or a drain over any source or destination may fail with.
 #[derive(Debug, Drop)]
-pub enum Inner<E> {
+pub enum CopyError<E> {
     /// No waker could be made.
     Memory,
     /// The source or the destination failed, with this error.

@@ -2,8 +2,8 @@
 use Rattle.std.specs.Prelude.{◌≡◌, ℕ, ◌<◌, ◌≤◌, ◌+◌, ◌-◌, min, ◌++◌, take, drop, Bool, true, false, List, [], ◌⊎◌, length, Option}
 use Rattle.piper_ring.specs.Loads.{FoundClosed, IsAway}
 use Rattle.piper_ring.specs.Looks.{IsEnded, ReaderLooked as EndLooked}
-use Rattle.piper_ring.specs.ReadView.{HasLoaded, ReadView, KeepsAll, in_one_piece, read_place}
-use Rattle.piper_ring.specs.SlotsView.{SlotsView, IsPending, IsReaderAtRest, OnlyWaits, WaitsAsBefore}
+use Rattle.piper_ring.specs.ReadView.{HasLoadedTail, ReadView, KeepsAll, in_one_piece, read_place}
+use Rattle.piper_ring.specs.SlotsView.{SlotsView, IsReaderPending, IsReaderAtRest, OnlyWaits, WaitsAsBefore}
 use Rattle.piper_c.specs.declared.halves.ReadHalf.{ReadHalf}
 use Rattle.piper_c.specs.declared.outcome.Outcome.{Outcome}
 use Rattle.piper_c.specs.declared.outcome.Outcome.TheVariants.{Pending, Ready, End, Again, Refused}
@@ -20,7 +20,7 @@ use Rattle.piper_c.specs.Waiting.{GotBack, IsRefusal, IsTold, Took, HandedOut}
 abbrev pub ReaderFound : Outcome → ReadHalf → Type 0
 ReaderFound Ready r = 0 < length r.side.end.known
 ReaderFound End r = IsEnded r.side.end
-ReaderFound Pending r = IsPending r.side.end r.side.slots
+ReaderFound Pending r = IsReaderPending r.side.end r.side.slots
 ReaderFound Again r = (r.side.end.known ≡ []) × (r.side.slots.owns ≡ false)
 ReaderFound Refused r = ⊥
 
@@ -79,7 +79,7 @@ pub record ReadsInto (old new : List ℕ) (n : ℕ) (a b : ReadHalf) : Type 0 wh
   pub rest : drop n new ≡ drop n old
   pub taken : b.side.end.taken ≡ a.side.end.taken ++ take n new
   pub known : 0 < length a.side.end.known → take n new ++ b.side.end.known ≡ a.side.end.known
-  pub loaded : a.side.end.known ≡ [] → HasLoaded b.side.end
+  pub loaded : a.side.end.known ≡ [] → HasLoadedTail b.side.end
   pub most : n ≡ min (length old)
       (min (n + length b.side.end.known) (a.side.end.capacity - read_place a.side.end))
   pub none : n ≡ 0 → (old ≡ []) ⊎ (b.side.end.known ≡ [])

@@ -3,7 +3,7 @@ use Rattle.std.specs.Prelude.{◌≡◌, ℕ, ◌<◌, ◌≤◌, ◌+◌, ◌-�
 use Rattle.piper_ring.specs.Loads.{FoundClosed, IsAway}
 use Rattle.piper_ring.specs.Looks.{WriterLooked as EndLooked}
 use Rattle.piper_ring.specs.WriteView.{HasLoadedHead, Lendable}
-use Rattle.piper_ring.specs.SlotsView.{SlotsView, IsWriterPending, IsAtRest, OnlyWaits, WaitsAsBefore}
+use Rattle.piper_ring.specs.SlotsView.{SlotsView, IsWriterPending, IsWriterAtRest, OnlyWaits, WaitsAsBefore}
 use Rattle.piper_c.specs.declared.halves.WriteHalf.{WriteHalf}
 use Rattle.piper_c.specs.declared.outcome.Outcome.{Outcome}
 use Rattle.piper_c.specs.declared.outcome.Outcome.TheVariants.{Pending, Ready, End, Again, Refused}
@@ -54,13 +54,13 @@ pub record WriterGotBack (mine : Waiter) (p : Polled) (a b : WriteHalf) : Type 0
 -- after all that b published, the reader's slot was checked: words are handed out
 -- exactly where it took a ticket of the reader's
 pub record TookReader (taken : Option Waiter) (old : SlotsView) (b : WriteHalf) : Type 0 where
-  pub rests : IsAtRest b.side.end b.side.slots
+  pub rests : IsWriterAtRest b.side.end b.side.slots
   pub took : Took taken old.names old.taken b.side.slots.taken
   pub own : WaitsAsBefore old b.side.slots
 
 -- the same in a close, which takes the writer's own words back, too, and leaves none
 pub record TookReaderLast (taken : Option Waiter) (old : SlotsView) (b : WriteHalf) : Type 0 where
-  pub rests : IsAtRest b.side.end b.side.slots
+  pub rests : IsWriterAtRest b.side.end b.side.slots
   pub took : Took taken old.names old.taken b.side.slots.taken
   pub own : b.side.slots.tickets ≡ old.tickets
 
@@ -117,7 +117,7 @@ pub record WriterTold (mine : PiperWords) (p : PiperPolled) (a b : WriteHalf) : 
 -- after all that b published, the reader's slot was checked: words come out exactly where
 -- it took a ticket of the reader's
 pub record WakesReader (wake : PiperWords) (old : SlotsView) (b : WriteHalf) : Type 0 where
-  pub rests : IsAtRest b.side.end b.side.slots
+  pub rests : IsWriterAtRest b.side.end b.side.slots
   pub took : HandedOut wake old.names old.taken b.side.slots.taken
   pub own : WaitsAsBefore old b.side.slots
 
@@ -130,7 +130,7 @@ pub record WriterWrites (from : List ℕ) (moved : PiperMoved) (a b : WriteHalf)
 -- come out of its slot, and are not left there, nor are any others
 pub record WriterCloses (left : PiperLeft) (a b : WriteHalf) : Type 0 where
   pub end : b.side.end ≡ record a.side.end { shut = true; saw = true; lent = [] }
-  pub rests : IsAtRest b.side.end b.side.slots
+  pub rests : IsWriterAtRest b.side.end b.side.slots
   pub took : HandedOut left.wake a.side.slots.names a.side.slots.taken b.side.slots.taken
   pub mine : HandedBack left.mine a.side.slots.names a.side.slots.owns a.side.slots.tickets
   pub own : b.side.slots.tickets ≡ a.side.slots.tickets

@@ -124,7 +124,7 @@ impl LentSpace {
 impl<T> Placed<T> {
     /// The same place, for the other owner.
     #[inline(always)]
-    pub fn again(&self) -> Placed<T>
+    pub fn duplicate(&self) -> Placed<T>
         ensures { result ≡ self.now }
     {
         Placed { at: self.at }

@@ -5,7 +5,7 @@ use crate::halt::Halt;
 use futures::task::Poll;
 use futures::test::MockTask;
 use model_sides::calls::Call;
-use piper::{Inner, OutOfMemory, PipeError, Reader, Writer};
+use piper::{CopyError, OutOfMemory, PipeError, Reader, Writer};
 use piper_protocol::answer::{Answer, Failed, Polled};
 use piper_protocol::table::Query;
 use piper_script::command::Refusal;
@@ -143,11 +143,11 @@ pub fn copied(polled: Poll<Result<usize, PipeError>>) -> Polled<Result<usize, Fa
 }
 
 /// What a copy over a source or a destination returns.
-pub fn copied_inner(polled: Poll<Result<usize, Inner<Failed>>>) -> Polled<Result<usize, Failed>> {
+pub fn copied_inner(polled: Poll<Result<usize, CopyError<Failed>>>) -> Polled<Result<usize, Failed>> {
     match polled {
         Poll::Pending => Polled::Pending,
         Poll::Ready(Ok(count)) => Polled::Ready(Ok(count)),
-        Poll::Ready(Err(Inner::Like(Failed))) => Polled::Ready(Err(Failed)),
-        Poll::Ready(Err(Inner::Memory)) => Polled::Memory,
+        Poll::Ready(Err(CopyError::Like(Failed))) => Polled::Ready(Err(Failed)),
+        Poll::Ready(Err(CopyError::Memory)) => Polled::Memory,
     }
 }

@@ -16,7 +16,7 @@ fn poll_close(rt: &impl Abort, cx: &mut Context<'_>, reader: &mut Reader, writer
     same(rt, reader.try_drain(&mut [0; 4]), 2);
 }
 
-/// What a side did, the other heeds; held by one thread both meet.
+/// What a side did, the other observes; held by one thread both meet.
 fn mark_and_meet(rt: &impl Abort, mut reader: Reader, mut writer: Writer)
     requires { ArePair reader writer }
 {
@@ -24,12 +24,12 @@ fn mark_and_meet(rt: &impl Abort, mut reader: Reader, mut writer: Writer)
     writer.try_fill(b"abc");
     reader.try_drain(&mut [0; 1]);
     let (consumed, published) = (reader.mark(), writer.mark());
-    writer.heed(&consumed);
-    reader.heed(&published);
+    writer.observe(&consumed);
+    reader.observe(&published);
     same(rt, reader.end().known_len(), 2);
     same(rt, writer.end().capacity(), 4);
     let last = reader.drop();
-    writer.heed_last(&last.told);
+    writer.observe_last(&last.told);
     confirm(rt, writer.is_closed());
     writer.drop();
 }

@@ -24,7 +24,7 @@ pub fn distance(cap: usize, from: usize, to: usize) -> usize
 }
 
 /// The place in the buffer of the index `i`.
-pub fn real(cap: usize, i: usize) -> usize
+pub fn offset(cap: usize, i: usize) -> usize
     requires { i < 2 * cap }
     ensures value { result ≡ place_of cap i }
     ensures remainder { result ≡ i % cap }
@@ -120,7 +120,7 @@ impl ReadIndices {
         ensures remainder { result ≡ self.now.head % self.now.capacity }
         ensures below { result < self.now.capacity }
     {
-        real(self.capacity, self.head)
+        offset(self.capacity, self.head)
     }
 
     /// How many bytes the reader knows of.
@@ -157,7 +157,7 @@ impl ReadIndices {
     }
 
     /// The writer's index was seen to be here.
-    pub fn sees(&mut self, tail: usize)
+    pub fn set_tail(&mut self, tail: usize)
         requires index { tail < 2 * self.old.capacity }
         requires within { known_in (tail_seen tail self.old) ≤ self.old.capacity }
         ensures after { self.new ≡ tail_seen tail self.old }
@@ -167,7 +167,7 @@ impl ReadIndices {
     }
 
     /// The first `n` known bytes are given up. They may go round the end of the buffer.
-    pub fn gives(&mut self, n: usize)
+    pub fn consume(&mut self, n: usize)
         requires { n ≤ known_in self.old }
         ensures after { self.new ≡ head_passed n self.old }
         ensures remainder { self.new.head ≡ (self.old.head + n) % (2 * self.old.capacity) }
@@ -258,7 +258,7 @@ impl WriteIndices {
         ensures remainder { result ≡ self.now.tail % self.now.capacity }
         ensures below { result < self.now.capacity }
     {
-        real(self.capacity, self.tail)
+        offset(self.capacity, self.tail)
     }
 
     /// How many free places the writer knows of.
@@ -362,7 +362,7 @@ impl WriteIndices {
     }
 
     /// The reader's index was seen to be here.
-    pub fn sees(&mut self, head: usize)
+    pub fn set_head(&mut self, head: usize)
         requires index { head < 2 * self.old.capacity }
         requires within { distance self.old.capacity head self.old.tail ≤ self.old.capacity }
         requires lent { self.old.lent ≤ room_in (head_seen head self.old) }
@@ -373,7 +373,7 @@ impl WriteIndices {
     }
 
     /// The first `n` lent places are published.
-    pub fn publishes(&mut self, n: usize)
+    pub fn publish(&mut self, n: usize)
         requires { n ≤ self.old.lent }
         ensures after { self.new ≡ tail_passed n self.old }
         ensures remainder { self.new.tail ≡ (self.old.tail + n) % (2 * self.old.capacity) }

@@ -23,7 +23,7 @@ use Rattle.piper_ring.specs.contracts.ring.places.Blank as Blank
 use Rattle.piper_ring.specs.contracts.ring.places.Base as Base
 use Rattle.piper_ring.specs.contracts.ring.marks.WriteMark as WriteMark
 use Rattle.piper_ring.specs.contracts.ring.marks.ReadMark as ReadMark
-use Rattle.piper_ring.specs.contracts.ring.marks.Saw as Saw
+use Rattle.piper_ring.specs.contracts.ring.marks.ClosedMark as ClosedMark
 use Rattle.piper_ring.specs.contracts.log.Log as Log
 use Rattle.piper_ring.specs.contracts.ring.slots.WaiterState as Waits
 use Rattle.piper_ring.specs.contracts.ring.slots.Wakes as Wakes
@@ -75,7 +75,7 @@ abbrev pub TookData : RattleType
 TookData = Struct (shape ReadMark.the_type)
 
 abbrev pub SawData : RattleType
-SawData = Struct (shape Saw.the_type)
+SawData = Struct (shape ClosedMark.the_type)
 
 pub read_told : (w : Ptr) (vs : List Val) → Is ReadData (w, tt) vs → vs ≡ seat_val w ∷ []
 read_told w vs is = is.1.0 ∙ ap (λ (ws : List Val). vstruct (of_list (ws ++ [])) ∷ []) is.1.1.0

@@ -11,8 +11,8 @@ use Rattle.piper_cells.specs.Space.{lease}
 use Rattle.piper_ring.specs.Block.{space_room}
 use types.Kit.{group}
 use Rattle.piper_ring.specs.Shared.{block_room, bytes_room, found_left, four_rooms, frame as frame_of, leases, left_in, one_gone, titles, wakers_left, whole}
-use Rattle.piper_ring.specs.Slots.{Where, flag_of, held}
-use Rattle.piper_ring.specs.Slots.Where.{in_slot, with_taker, handed_back}
+use Rattle.piper_ring.specs.Slot.{Where, flag_of, held}
+use Rattle.piper_ring.specs.Slot.Where.{in_slot, with_taker, handed_back}
 
 pub here : (i : ℕ) → i ≤ 1 → gone i ≡ false
 here zero le = refl

@@ -2,7 +2,7 @@
 use Rattle.std.proofs.Common.{◌≡◌, ℕ, ◌++◌, length, sym, subst}
 use Rattle.piper_ring.specs.Shared.{Ring}
 use Rattle.piper_ring.specs.Loads.{FoundPublished}
-use Rattle.piper_ring.specs.ReadView.{HasLoaded, ReadView}
+use Rattle.piper_ring.specs.ReadView.{HasLoadedTail, ReadView}
 
-pub still_loaded : (a b : ReadView) → b.ring ≡ a.ring → length (b.taken ++ b.known) ≡ length (a.taken ++ a.known) → HasLoaded a → HasLoaded b
+pub still_loaded : (a b : ReadView) → b.ring ≡ a.ring → length (b.taken ++ b.known) ≡ length (a.taken ++ a.known) → HasLoadedTail a → HasLoadedTail b
 still_loaded a b ring same = subst (λ (p : Ring × ℕ). FoundPublished p.0.names p.1) (λ i. (sym ring i, sym same i))

@@ -6,7 +6,7 @@ use base.Fml.{fauth}
 use types.Tokens.{name_agree}
 use Rattle.std.specs.Coded.{Coded}
 use Rattle.piper_ring.specs.Places.{fact}
-use Rattle.piper_ring.specs.Slots.{Where, in_slot, with_taker, handed_back, Held, held, flag_of, back_of, Stored, as_stored, stored_code}
+use Rattle.piper_ring.specs.Slot.{Where, in_slot, with_taker, handed_back, Held, held, flag_of, back_of, Stored, as_stored, stored_code}
 use Rattle.piper_ring.specs.Shared.{slot_of, Known, by_reader, by_writer, knows, evidence, flag_word, waiter, waker, waker_place, waits_in, wakes_in}
 use Rattle.piper_ring.proofs.Evidence.{announced_twice, took_twice, raised_twice}
 use Rattle.piper_ring.proofs.Steps.{flag_small, inside, Rest, OneStays, ReaderSees, WriterSees, reader_opens, writer_opens, closes}

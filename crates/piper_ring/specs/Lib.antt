@@ -2,7 +2,7 @@ pub mod Places
 pub mod Streams
 pub mod Words
 pub mod Block
-pub mod Slots
+pub mod Slot
 pub mod Shared
 pub mod Loads
 pub mod Log
@@ -15,7 +15,7 @@ pub mod Meeting
 pub mod LendsBuffer
 pub mod Looks
 pub mod Opened
-pub mod SlotViews
+pub mod SlotValues
 pub mod SlotsView
 pub mod Parts
 pub mod Cells

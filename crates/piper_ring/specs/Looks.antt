@@ -6,7 +6,7 @@ use Rattle.piper_protocol.specs.declared.table.Point.{Point}
 use Rattle.piper_protocol.specs.declared.table.Point.TheVariants.{Reader, Writer}
 use Rattle.piper_protocol.specs.declared.table.Purpose.{Purpose}
 use Rattle.piper_ring.specs.Log.{idle}
-use Rattle.piper_ring.specs.ReadView.{HasLoaded, ReadView}
+use Rattle.piper_ring.specs.ReadView.{HasLoadedTail, ReadView}
 use Rattle.piper_ring.specs.WriteView.{HasLoadedHead, WriteView}
 use Rattle.piper_ring.specs.declared.ends.slots.looks.Look.{Look}
 use Rattle.piper_ring.specs.declared.ends.slots.looks.Look.TheVariants as look
@@ -34,7 +34,7 @@ IfNotReady found P = ⊤
 -- the reader has loaded the tail, and knows, or knew, of just what was published then: also of all
 -- that it was told of
 abbrev pub ReaderIsUpToDate : ReadView → Type 0
-ReaderIsUpToDate r = (r.told ≤ length (r.taken ++ r.known)) × HasLoaded r
+ReaderIsUpToDate r = (r.told ≤ length (r.taken ++ r.known)) × HasLoadedTail r
 
 -- the writer has loaded the head, and knows, or knew, of just the room that there was then: also of
 -- all that it was told of

@@ -3,10 +3,10 @@ use Rattle.std.specs.Prelude.{◌≡◌, ℕ, true, false, []}
 use Rattle.piper_ring.specs.ReadView.{ReadView}
 use Rattle.piper_ring.specs.WriteView.{WriteView}
 use Rattle.piper_ring.specs.Shared.{Names}
-use Rattle.piper_ring.specs.Slots.{nothing_stored}
+use Rattle.piper_ring.specs.Slot.{nothing_stored}
 use Rattle.piper_ring.specs.SlotsView.{SlotsView}
 
--- nothing was consumed, nothing is known, no mark was heeded and nothing was seen
+-- nothing was consumed, nothing is known, no mark was observed and nothing was seen
 pub record FreshReadEnd (cap : ℕ) (r : ReadView) : Type 0 where
   pub capacity : r.capacity ≡ cap
   pub taken : r.taken ≡ []
@@ -14,7 +14,7 @@ pub record FreshReadEnd (cap : ℕ) (r : ReadView) : Type 0 where
   pub told : (r.told ≡ 0) × (r.told_shut ≡ false)
   pub saw : r.saw ≡ false
 
--- nothing was published, all places are its room and nothing is lent, no mark was heeded and
+-- nothing was published, all places are its room and nothing is lent, no mark was observed and
 -- nothing was seen
 pub record FreshWriteEnd (cap : ℕ) (w : WriteView) : Type 0 where
   pub capacity : w.capacity ≡ cap

@@ -62,8 +62,8 @@ abbrev pub in_one_piece : ReadView → ℕ
 in_one_piece r = min (length r.known) (r.capacity - read_place r)
 
 -- the tail was loaded, and the end knows, or knew, of just the bytes that were published then
-abbrev pub HasLoaded : ReadView → Type 0
-HasLoaded r = FoundPublished r.ring.names (length (r.taken ++ r.known))
+abbrev pub HasLoadedTail : ReadView → Type 0
+HasLoadedTail r = FoundPublished r.ring.names (length (r.taken ++ r.known))
 
 -- the end learned from a mark that the pipe is closed, or saw it
 abbrev pub KnowsEnd : ReadView → Type 0
@@ -97,7 +97,7 @@ pub record KnowsMore (a b : ReadView) : Type 0 where
   pub rest : b ≡ record a { known = b.known; all = b.all }
 
 -- since a, the end b learned from a mark what that reports
-pub record Heeds (mark : WriteMark) (a b : ReadView) : Type 0 where
+pub record Observes (mark : WriteMark) (a b : ReadView) : Type 0 where
   pub told : b.told ≡ max a.told (length mark.bytes)
   pub shut : b.told_shut ≡ either a.told_shut mark.shut
   pub agree : Agree (b.taken ++ b.known) mark.bytes

@@ -22,7 +22,7 @@ use Rattle.piper_ring.specs.Places.{fact, byte, unset}
 pub use Rattle.piper_ring.specs.Streams.{Stream}
 use Rattle.piper_ring.specs.Streams.{streams}
 pub use Rattle.piper_ring.specs.Words.{flag, word, word_room, where_gone}
-use Rattle.piper_ring.specs.Slots.{Stored, stored_code, slot, code_of}
+use Rattle.piper_ring.specs.Slot.{Stored, stored_code, slot, code_of}
 
 -- The capacity, and the ghost names under which the ring's history is kept.
 pub record Names : Type 0 where

@@ -2,8 +2,8 @@
 use Rattle.std.specs.Prelude.{◌≡◌, ℕ, ◌+◌, ◌<◌, ◌≤◌, ◌⊎◌, Bool, true, false, not, [], length, refl, is_some, IfSome}
 use Rattle.std.specs.Coded.{Coded, code_by, coded×, coded_ℕ, coded_bool}
 use Rattle.piper_ring.specs.Shared.{Names, names_code, waker_place}
-use Rattle.piper_ring.specs.Slots.{Stored, as_stored, stored_code}
-use Rattle.piper_ring.specs.SlotViews.{IsTokenOf}
+use Rattle.piper_ring.specs.Slot.{Stored, as_stored, stored_code}
+use Rattle.piper_ring.specs.SlotValues.{IsTokenOf}
 use Rattle.piper_ring.specs.ReadView.{ReadView}
 use Rattle.piper_ring.specs.WriteView.{WriteView}
 use Rattle.piper_ring.specs.declared.ends.slots.SlotParts.{SlotParts}
@@ -84,7 +84,7 @@ abbrev pub KeepsSlots : SlotsView → SlotsView → Type 0
 KeepsSlots a b = b ≡ a
 
 -- the reader waits: it has registered, and its look after that found nothing to do
-pub record IsPending (r : ReadView) (s : SlotsView) : Type 0 where
+pub record IsReaderPending (r : ReadView) (s : SlotsView) : Type 0 where
   pub registered : s.owns ≡ false
   pub none : r.known ≡ []
   pub stays_open : r.saw ≡ false
@@ -100,18 +100,18 @@ pub record IsWriterPending (w : WriteView) (s : SlotsView) : Type 0 where
   pub goes_on : s.heard.closed ≡ false
 
 -- the writer is between its calls: it has checked after all that it stored
-abbrev pub IsAtRest : WriteView → SlotsView → Type 0
-IsAtRest w s = s.stored ≡ as_stored w.sent 0 w.shut
+abbrev pub IsWriterAtRest : WriteView → SlotsView → Type 0
+IsWriterAtRest w s = s.stored ≡ as_stored w.sent 0 w.shut
 
 -- the reader is between its calls: it has checked after all that it consumed
 abbrev pub IsReaderAtRest : ReadView → SlotsView → Type 0
 IsReaderAtRest r s = s.stored ≡ as_stored [] (length r.taken) false
 
 -- when the writer checked last it had stored something that the reader has not seen
-abbrev pub HasNews : ReadView → SlotsView → Type 0
-HasNews r s = (length r.taken < length s.stored.bytes) ⊎ (s.stored.closed ≡ true)
+abbrev pub ReaderHasNews : ReadView → SlotsView → Type 0
+ReaderHasNews r s = (length r.taken < length s.stored.bytes) ⊎ (s.stored.closed ≡ true)
 
 -- when the reader checked last it had given room back that the writer has not seen, or had closed
 -- the ring
-abbrev pub HasRoomNews : WriteView → SlotsView → Type 0
-HasRoomNews w s = (length w.sent < s.stored.count + w.capacity) ⊎ (s.stored.closed ≡ true)
+abbrev pub WriterHasNews : WriteView → SlotsView → Type 0
+WriterHasNews w s = (length w.sent < s.stored.count + w.capacity) ⊎ (s.stored.closed ≡ true)

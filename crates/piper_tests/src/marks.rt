@@ -10,7 +10,7 @@ use std::process::Abort;
 fn a_writer_that_heeds_the_last_mark_of_a_reader_sees_the_end(rt: HostRuntime) {
     let (reader, mut writer) = pipe_at_last(&rt, 8);
     let last = reader.drop();
-    writer.heed_last(&last.told);
+    writer.observe_last(&last.told);
     same(&rt, &"closed", writer.is_closed(), true);
     same(&rt, &"taken", writer.try_fill(b"ab"), 0);
     writer.drop();
@@ -21,7 +21,7 @@ fn a_reader_that_heeds_the_last_mark_of_a_writer_knows_how_many_come(rt: HostRun
     let (mut reader, mut writer) = pipe_at_last(&rt, 8);
     same(&rt, &"taken", writer.try_fill(b"abc"), 3);
     let last = writer.drop();
-    reader.heed(&last.told);
+    reader.observe(&last.told);
     same(&rt, &"to come", reader.len(), 3);
     reader.drop();
 }

@@ -39,7 +39,7 @@ fn without_a_meeting_the_writer_takes_one_byte(rt: HostRuntime) {
     same(&rt, &"taken", taken_after(&rt, false), 1);
 }
 
-/// A poll after a heeded mark finds the bytes that were published before it.
+/// A poll after a observed mark finds the bytes that were published before it.
 fn finds_what_was_marked<H>(rt: &H)
 where
     H: Abort + Wait + RandomSource + AllocGlobal,
@@ -47,7 +47,7 @@ where
     let task = task_at_last(rt);
     let (mut reader, mut writer) = pipe_at_last(rt, 8);
     same(rt, &"taken", writer.try_fill(b"ab"), 2);
-    reader.heed(&writer.mark());
+    reader.observe(&writer.mark());
     let found = task.enter(|cx| reader.poll(cx));
     same(rt, &"found", granted(rt, found), Some(true));
     same(rt, &"known", reader.peek_buf(), b"ab".as_slice());

@@ -7,7 +7,7 @@ use crate::ends::End;
 use futures::task::Poll;
 use futures::test::MockTask;
 use piper::io::AsyncWrite;
-use piper::{Inner, OutOfMemory, OwnedReader, OwnedWriter, PipeError, Reader, Writer, pipe};
+use piper::{CopyError, OutOfMemory, OwnedReader, OwnedWriter, PipeError, Reader, Writer, pipe};
 use std::alloc::AllocGlobal;
 use std::fmt::Debug;
 use std::io::{ErrorKind, Read, Write};
@@ -142,12 +142,12 @@ fn told(rt: &impl Abort, polled: Poll<Result<bool, OutOfMemory>>) -> Polled {
 }
 
 /// What a copy over a source or a destination of the test's own returns.
-fn copied_inner(polled: Poll<Result<usize, Inner<ErrorKind>>>) -> Moved<usize> {
+fn copied_inner(polled: Poll<Result<usize, CopyError<ErrorKind>>>) -> Moved<usize> {
     match polled {
         Poll::Pending => Moved::Pending,
         Poll::Ready(Ok(count)) => Moved::Done(count),
-        Poll::Ready(Err(Inner::Like(kind))) => Moved::Failed(kind),
-        Poll::Ready(Err(Inner::Memory)) => Moved::Refused,
+        Poll::Ready(Err(CopyError::Like(kind))) => Moved::Failed(kind),
+        Poll::Ready(Err(CopyError::Memory)) => Moved::Refused,
     }
 }
 

@@ -9,8 +9,8 @@ use Rattle.futures.specs.declared.task.Poll.{Poll}
 use Rattle.futures.specs.declared.task.Poll.TheVariants.{Ready, Pending}
 use Rattle.piper.specs.Copies.{ReaderCopied}
 use Rattle.piper.specs.Fills.{WriterFilled}
-use Rattle.piper.specs.declared.error.Inner.{Inner}
-use Rattle.piper.specs.declared.error.Inner.TheVariants.{Memory}
+use Rattle.piper.specs.declared.error.CopyError.{CopyError}
+use Rattle.piper.specs.declared.error.CopyError.TheVariants.{Memory}
 use Rattle.piper.specs.declared.handles.Reader.{Reader}
 use Rattle.piper.specs.declared.handles.Writer.{Writer}
 
@@ -39,7 +39,7 @@ abbrev pub WantsMemory : Context → Error → Type 0
 WantsMemory cx e = (error_kind e ≡ OutOfMemory) × (cx.lacks_waker ≡ true)
 
 -- the same answer of a copy of the handles over a slice, which fails for want of memory alone
-abbrev pub inner_of_io : Poll (Result ℕ Error) → Poll (Result ℕ (Inner Infallible))
-inner_of_io (Ready (Ok n)) = Ready (Ok n)
-inner_of_io (Ready (Err e)) = Ready (Err Memory)
-inner_of_io Pending = Pending
+abbrev pub of_io : Poll (Result ℕ Error) → Poll (Result ℕ (CopyError Infallible))
+of_io (Ready (Ok n)) = Ready (Ok n)
+of_io (Ready (Err e)) = Ready (Err Memory)
+of_io Pending = Pending

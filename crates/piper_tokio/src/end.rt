@@ -14,7 +14,7 @@ ghost use Rattle.piper.specs.Waits.{ReaderPends, WriterLeavesNone};
 ghost use Rattle.piper.specs.WriterCalls.{DrawsToYield as WriteDraws, FillPends, FillsEnd, FillsSlice, SameWriterButMoved, SameWriterButShut, WakesReader};
 ghost use Rattle.piper_duplex.specs.Crosswise.{reading as reading_of, writing as writing_of};
 ghost use Rattle.piper_tokio.specs.Halves.{read_half, reading, write_half, writing};
-ghost use Rattle.piper_tokio.specs.Passing.{Took, Gave, WantsMemory, inner_of_io};
+ghost use Rattle.piper_tokio.specs.Passing.{Took, Gave, WantsMemory, of_io};
 ghost use Rattle.piper_tokio.specs.Shown.{shown_by, ShowsFront};
 ghost use Rattle.piper_tokio.specs.PassingLaws.{took_nothing, took_in_order, gave_nothing, gave_in_order};
 
@@ -158,7 +158,7 @@ impl AsyncWrite for CompatEnd {
         ensures filled { FillsSlice result (writing self.old) (writing self.new) buf.now
             × SameWriterButMoved (writing self.old) (writing self.new) }
         ensures end { FillsEnd result (writing self.old) (writing self.new) }
-        ensures pending { WriteDraws (inner_of_io result) (writing self.old) (writing self.new)
+        ensures pending { WriteDraws (of_io result) (writing self.old) (writing self.new)
             × OnPending result (FillPends (writing self.old) (writing self.new) cx.new) }
         ensures memory { IfReadyErr result (WantsMemory cx.new) }
         ensures woken { WakesReader (writing self.old) (writing self.new) }

@@ -7,14 +7,14 @@ ghost use Rattle.piper_protocol.specs.Table.{ends, goes_on};
 ghost use Rattle.piper_ring.specs.Log.{Comes, Ran, made, next, now};
 ghost use Rattle.piper_ring.specs.SlotsView.{KeepsSlots, WaitsAsBefore};
 ghost use Rattle.piper.specs.Copies.{ReaderCopied};
-ghost use Rattle.piper.specs.CopyAnswers.{OnMemory, CountsFailure, IsAtOnce, inner_of, inner_of_bytes};
+ghost use Rattle.piper.specs.CopyAnswers.{OnMemory, CountsFailure, IsAtOnce, of_std, of_bytes};
 ghost use Rattle.piper.specs.Drains.{DrainRounds, EndIsTrue, EndIsUnseen, found_len};
 ghost use Rattle.piper.specs.Looks.{IsEnded};
 ghost use Rattle.piper.specs.Like.{Counts, passed};
 ghost use Rattle.piper_ring.specs.Looks.{looks_at};
 ghost use Rattle.piper.specs.Runs.{copy_answer};
 
-use crate::error::{Inner, PipeError};
+use crate::error::{CopyError, PipeError};
 use crate::handles::Reader;
 use crate::handles::draws::WAITING;
 use crate::handles::waiting::wake_other;
@@ -45,11 +45,11 @@ impl Reader {
         dest: &mut W,
     ) -> Poll<Result<usize, PipeError>>
         ensures ran { Ran (looks_at (end_of self.old) (Purpose.Copy (Form.Polling false)))
-            (copy_answer (Form.Polling false) (inner_of result)) (log self.old) (log self.new) }
-        ensures drained { DrainsStd W.contents W.full W.fails (inner_of result)
+            (copy_answer (Form.Polling false) (of_std result)) (log self.old) (log self.new) }
+        ensures drained { DrainsStd W.contents W.full W.fails (of_std result)
             self.old self.new dest.old dest.new }
         ensures end { DrainsEnd result self.old self.new }
-        ensures waiting { DrainsWaiting (inner_of result) self.old self.new cx.old cx.new }
+        ensures waiting { DrainsWaiting (of_std result) self.old self.new cx.old cx.new }
         ensures woken { WakesWriter self.old self.new }
         ensures rest { SameReaderButMoved self.old self.new }
     {
@@ -57,8 +57,8 @@ impl Reader {
         match self.poll_drain_with(cx, &mut dest) {
             Poll::Pending => Poll::Pending,
             Poll::Ready(Ok(count)) => Poll::Ready(Ok(count)),
-            Poll::Ready(Err(Inner::Memory)) => Poll::Ready(Err(PipeError::Memory)),
-            Poll::Ready(Err(Inner::Like(error))) => Poll::Ready(Err(PipeError::Io(error))),
+            Poll::Ready(Err(CopyError::Memory)) => Poll::Ready(Err(PipeError::Memory)),
+            Poll::Ready(Err(CopyError::Like(error))) => Poll::Ready(Err(PipeError::Io(error))),
         }
     }
 
@@ -76,11 +76,11 @@ impl Reader {
         dest: &mut [u8],
     ) -> Poll<Result<usize, OutOfMemory>>
         ensures ran { Ran (looks_at (end_of self.old) (Purpose.Copy (Form.Polling false)))
-            (copy_answer (Form.Polling false) (inner_of_bytes result))
+            (copy_answer (Form.Polling false) (of_bytes result))
             (log self.old) (log self.new) }
         ensures drained { DrainsSlice result self.old self.new dest.old dest.new }
         ensures end { DrainsEnd result self.old self.new }
-        ensures waiting { DrainsWaiting (inner_of_bytes result) self.old self.new cx.old cx.new }
+        ensures waiting { DrainsWaiting (of_bytes result) self.old self.new cx.old cx.new }
         ensures woken { WakesWriter self.old self.new }
         ensures rest { SameReaderButMoved self.old self.new }
     {
@@ -88,8 +88,8 @@ impl Reader {
         match self.poll_drain_with(cx, &mut bytes) {
             Poll::Pending => Poll::Pending,
             Poll::Ready(Ok(count)) => Poll::Ready(Ok(count)),
-            Poll::Ready(Err(Inner::Memory)) => Poll::Ready(Err(OutOfMemory)),
-            Poll::Ready(Err(Inner::Like(never))) => match never {},
+            Poll::Ready(Err(CopyError::Memory)) => Poll::Ready(Err(OutOfMemory)),
+            Poll::Ready(Err(CopyError::Like(never))) => match never {},
         }
     }
 
@@ -111,8 +111,8 @@ impl Reader {
         let mut bytes = WriteBytes::new(dest);
         match self.try_drain_with(&mut bytes) {
             Poll::Ready(Ok(count)) => count,
-            Poll::Ready(Err(Inner::Like(never))) => match never {},
-            Poll::Ready(Err(Inner::Memory)) => unreachable!(),
+            Poll::Ready(Err(CopyError::Like(never))) => match never {},
+            Poll::Ready(Err(CopyError::Memory)) => unreachable!(),
             Poll::Pending => 0,
         }
     }
@@ -130,7 +130,7 @@ impl Reader {
         &mut self,
         cx: &mut Context<'_>,
         dest: &mut W,
-    ) -> Poll<Result<usize, Inner<W::Error>>>
+    ) -> Poll<Result<usize, CopyError<W::Error>>>
         ensures ran { Ran (looks_at (end_of self.old) (Purpose.Copy (Form.Polling false)))
             (copy_answer (Form.Polling false) result) (log self.old) (log self.new) }
         ensures drained { DrainsLike W.takes W.is_full W.fails result
@@ -146,7 +146,7 @@ impl Reader {
                 Ok(Look::Ready) => {}
                 Ok(Look::Closed) => return Poll::Ready(Ok(0)),
                 Ok(Look::NotReady) => return Poll::Pending,
-                Err(OutOfMemory) => return Poll::Ready(Err(Inner::Memory)),
+                Err(OutOfMemory) => return Poll::Ready(Err(CopyError::Memory)),
             }
         }
         if self.draw_and_take_own() {
@@ -170,7 +170,7 @@ impl Reader {
     pub fn try_drain_with<W: WriteLike>(
         &mut self,
         dest: &mut W,
-    ) -> Poll<Result<usize, Inner<W::Error>>>
+    ) -> Poll<Result<usize, CopyError<W::Error>>>
         ensures ran { Ran (looks_at (end_of self.old) (Purpose.Copy Form.Try))
             (copy_answer Form.Try result) (log self.old) (log self.new) }
         ensures drained { DrainsLike W.takes W.is_full W.fails result
@@ -195,7 +195,7 @@ impl Reader {
         &mut self,
         form: Form,
         dest: &mut W,
-    ) -> Poll<Result<usize, Inner<W::Error>>>
+    ) -> Poll<Result<usize, CopyError<W::Error>>>
         requires { now self.old.side.log
             ≡ goes_on (Point.Reader (ReadPoint.CallDestination form 0)) }
         ensures ran { Comes (ends (Point.Reader ReadPoint.Idle) (copy_answer form result))
@@ -217,7 +217,7 @@ impl Reader {
             }
             let n = match self.drain_round(dest) {
                 Ok(n) => n,
-                Err(error) => return Poll::Ready(Err(Inner::Like(error))),
+                Err(error) => return Poll::Ready(Err(CopyError::Like(error))),
             };
             if n == 0 {
                 return Poll::Ready(Ok(moved));

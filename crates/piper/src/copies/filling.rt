@@ -6,12 +6,12 @@ ghost use Rattle.piper_protocol.specs.Table.{ends, goes_on};
 ghost use Rattle.piper_ring.specs.Log.{Comes, Ran, made, next, now};
 ghost use Rattle.piper_ring.specs.SlotsView.{KeepsSlots, WaitsAsBefore};
 ghost use Rattle.piper.specs.Copies.{WriterCopied};
-ghost use Rattle.piper.specs.CopyAnswers.{OnMemory, CountsFailure, IsAtOnce, inner_of, inner_of_bytes};
+ghost use Rattle.piper.specs.CopyAnswers.{OnMemory, CountsFailure, IsAtOnce, of_std, of_bytes};
 ghost use Rattle.piper.specs.Fills.{FillRounds, FoundRoom, OnNoCount, most_of_round};
 ghost use Rattle.piper.specs.Like.{Counts, passed};
 ghost use Rattle.piper.specs.Runs.{copy_answer};
 
-use crate::error::{Inner, PipeError};
+use crate::error::{CopyError, PipeError};
 use crate::handles::Writer;
 use crate::handles::draws::WAITING;
 use crate::handles::waiting::wake_other;
@@ -44,11 +44,11 @@ impl Writer {
         source: &mut R,
     ) -> Poll<Result<usize, PipeError>>
         ensures ran { Ran (Point.Writer (WritePoint.LookClosed (Purpose.Copy (Form.Polling false))))
-            (copy_answer (Form.Polling false) (inner_of result)) (log self.old) (log self.new) }
-        ensures filled { FillsStd R.remaining R.fails (inner_of result)
+            (copy_answer (Form.Polling false) (of_std result)) (log self.old) (log self.new) }
+        ensures filled { FillsStd R.remaining R.fails (of_std result)
             self.old self.new source.old source.new }
         ensures end { FillsEnd result self.old self.new }
-        ensures waiting { FillsWaiting (inner_of result) self.old self.new cx.old cx.new }
+        ensures waiting { FillsWaiting (of_std result) self.old self.new cx.old cx.new }
         ensures woken { WakesReader self.old self.new }
         ensures rest { SameWriterButMoved self.old self.new }
     {
@@ -56,8 +56,8 @@ impl Writer {
         match self.poll_fill_with(cx, &mut source) {
             Poll::Pending => Poll::Pending,
             Poll::Ready(Ok(count)) => Poll::Ready(Ok(count)),
-            Poll::Ready(Err(Inner::Memory)) => Poll::Ready(Err(PipeError::Memory)),
-            Poll::Ready(Err(Inner::Like(error))) => Poll::Ready(Err(PipeError::Io(error))),
+            Poll::Ready(Err(CopyError::Memory)) => Poll::Ready(Err(PipeError::Memory)),
+            Poll::Ready(Err(CopyError::Like(error))) => Poll::Ready(Err(PipeError::Io(error))),
         }
     }
 
@@ -75,11 +75,11 @@ impl Writer {
         bytes: &[u8],
     ) -> Poll<Result<usize, OutOfMemory>>
         ensures ran { Ran (Point.Writer (WritePoint.LookClosed (Purpose.Copy (Form.Polling false))))
-            (copy_answer (Form.Polling false) (inner_of_bytes result))
+            (copy_answer (Form.Polling false) (of_bytes result))
             (log self.old) (log self.new) }
         ensures filled { FillsSlice result self.old self.new bytes.now }
         ensures end { FillsEnd result self.old self.new }
-        ensures waiting { FillsWaiting (inner_of_bytes result) self.old self.new cx.old cx.new }
+        ensures waiting { FillsWaiting (of_bytes result) self.old self.new cx.old cx.new }
         ensures woken { WakesReader self.old self.new }
         ensures rest { SameWriterButMoved self.old self.new }
     {
@@ -87,8 +87,8 @@ impl Writer {
         match self.poll_fill_with(cx, &mut source) {
             Poll::Pending => Poll::Pending,
             Poll::Ready(Ok(count)) => Poll::Ready(Ok(count)),
-            Poll::Ready(Err(Inner::Memory)) => Poll::Ready(Err(OutOfMemory)),
-            Poll::Ready(Err(Inner::Like(never))) => match never {},
+            Poll::Ready(Err(CopyError::Memory)) => Poll::Ready(Err(OutOfMemory)),
+            Poll::Ready(Err(CopyError::Like(never))) => match never {},
         }
     }
 
@@ -111,8 +111,8 @@ impl Writer {
         let mut source = ReadBytes::new(bytes);
         match self.try_fill_with(&mut source) {
             Poll::Ready(Ok(count)) => count,
-            Poll::Ready(Err(Inner::Like(never))) => match never {},
-            Poll::Ready(Err(Inner::Memory)) => unreachable!(),
+            Poll::Ready(Err(CopyError::Like(never))) => match never {},
+            Poll::Ready(Err(CopyError::Memory)) => unreachable!(),
             Poll::Pending => 0,
         }
     }
@@ -130,7 +130,7 @@ impl Writer {
         &mut self,
         cx: &mut Context<'_>,
         source: &mut R,
-    ) -> Poll<Result<usize, Inner<R::Error>>>
+    ) -> Poll<Result<usize, CopyError<R::Error>>>
         ensures ran { Ran (Point.Writer (WritePoint.LookClosed (Purpose.Copy (Form.Polling false))))
             (copy_answer (Form.Polling false) result) (log self.old) (log self.new) }
         ensures filled { FillsLike R.gives R.is_dry R.fails result
@@ -159,7 +159,7 @@ impl Writer {
     pub fn try_fill_with<R: ReadLike>(
         &mut self,
         source: &mut R,
-    ) -> Poll<Result<usize, Inner<R::Error>>>
+    ) -> Poll<Result<usize, CopyError<R::Error>>>
         ensures ran { Ran (Point.Writer (WritePoint.LookClosed (Purpose.Copy Form.Try)))
             (copy_answer Form.Try result) (log self.old) (log self.new) }
         ensures filled { FillsLike R.gives R.is_dry R.fails result
@@ -181,7 +181,7 @@ impl Writer {
         &mut self,
         cx: &mut Context<'_>,
         source: &mut R,
-    ) -> Poll<Result<usize, Inner<R::Error>>>
+    ) -> Poll<Result<usize, CopyError<R::Error>>>
         ensures ran { Ran (Point.Writer (WritePoint.LookClosed (Purpose.Copy (Form.Polling false))))
             (copy_answer (Form.Polling false) result) (log self.old) (log self.new) }
         ensures filled { FillsLike R.gives R.is_dry R.fails result
@@ -200,7 +200,7 @@ impl Writer {
                 Ok(Look::Ready) => {}
                 Ok(Look::Closed) => return Poll::Ready(Ok(0)),
                 Ok(Look::NotReady) => return Poll::Pending,
-                Err(OutOfMemory) => return Poll::Ready(Err(Inner::Memory)),
+                Err(OutOfMemory) => return Poll::Ready(Err(CopyError::Memory)),
             },
         }
         if self.draw_and_take_own() {
@@ -213,7 +213,7 @@ impl Writer {
 
     // The fill without a context: the look, and the rounds.
     #[inline(always)]
-    fn fill_at_once<R: ReadLike>(&mut self, source: &mut R) -> Poll<Result<usize, Inner<R::Error>>>
+    fn fill_at_once<R: ReadLike>(&mut self, source: &mut R) -> Poll<Result<usize, CopyError<R::Error>>>
         ensures ran { Ran (Point.Writer (WritePoint.LookClosed (Purpose.Copy Form.Try)))
             (copy_answer Form.Try result) (log self.old) (log self.new) }
         ensures filled { FillsLike R.gives R.is_dry R.fails result
@@ -239,7 +239,7 @@ impl Writer {
         &mut self,
         form: Form,
         source: &mut R,
-    ) -> Poll<Result<usize, Inner<R::Error>>>
+    ) -> Poll<Result<usize, CopyError<R::Error>>>
         requires at { now self.old.side.log ≡ goes_on (Point.Writer (WritePoint.CallSource form 0)) }
         requires is_open { (self.old.side.end.shut ≡ false) × (self.old.side.end.saw ≡ false) }
         requires some { 0 < self.old.side.end.room }
@@ -265,7 +265,7 @@ impl Writer {
             }
             let n = match self.fill_round(asks, source) {
                 Ok(n) => n,
-                Err(error) => return Poll::Ready(Err(Inner::Like(error))),
+                Err(error) => return Poll::Ready(Err(CopyError::Like(error))),
             };
             if n == 0 {
                 return Poll::Ready(Ok(moved));

@@ -29,7 +29,7 @@ impl Reader {
     /// pipe, they are all bytes that were ever published.
     ///
     /// Requires: the mark is of the same pipe.
-    pub fn heed(&mut self, mark: &WriteMark)
+    pub fn observe(&mut self, mark: &WriteMark)
         requires { mark.now.names ≡ (ring self.old).names }
         ensures told { told self.new ≡ max (told self.old) (length mark.now.bytes) }
         ensures shut { told_shut self.new ≡ either (told_shut self.old) mark.now.shut }
@@ -38,7 +38,7 @@ impl Reader {
         ensures all { KeepsAll self.old self.new }
         ensures rest { SameReaderButTold self.old self.new }
     {
-        self.side.heed(mark);
+        self.side.observe(mark);
     }
 
     /// Tells both handles of each other, once one thread holds both.
@@ -65,7 +65,7 @@ impl Reader {
         self.side.meet(&mut other.side);
     }
 
-    /// Heeds the last mark of the writer that was dropped; its bytes become known at the next look.
+    /// Observes the last mark of the writer that was dropped; its bytes become known at the next look.
     ///
     /// If the reader waits in its slot, the writer has taken its waker and called it, at the latest
     /// when it left. `left` stays as it was: the proof alone needs a `&mut`.
@@ -82,7 +82,7 @@ impl Reader {
         ensures kept { left.new ≡ left.old }
     {
         self.side.meet_slot(&mut left.slots);
-        self.side.heed(&left.told);
+        self.side.observe(&left.told);
     }
 }
 
@@ -102,13 +102,13 @@ impl Writer {
     /// before it.
     ///
     /// Requires: the mark is of the same pipe.
-    pub fn heed(&mut self, mark: &ReadMark)
+    pub fn observe(&mut self, mark: &ReadMark)
         requires { mark.now.names ≡ (ring self.old).names }
         ensures told { end_of self.new
             ≡ record (end_of self.old) { told = max (told self.old) mark.now.count } }
         ensures rest { SameWriterButTold self.old self.new }
     {
-        self.side.heed(mark);
+        self.side.observe(mark);
     }
 
     /// Learns that the reader was dropped, and how many bytes were ever taken.
@@ -116,16 +116,16 @@ impl Writer {
     /// The pipe counts as seen closed: polls answer `false`, and fills 0.
     ///
     /// Requires: the mark is of the same pipe.
-    pub fn heed_last(&mut self, mark: &LastReadMark)
+    pub fn observe_last(&mut self, mark: &LastReadMark)
         requires { mark.now.consumed.names ≡ (ring self.old).names }
         ensures told { end_of self.new ≡ record (end_of self.old)
             { told = max (told self.old) mark.now.consumed.count; saw = true } }
         ensures rest { SameWriterButTold self.old self.new }
     {
-        self.side.heed_last(mark);
+        self.side.observe_last(mark);
     }
 
-    /// Heeds the last mark of the reader that was dropped, as `heed_last` does.
+    /// Observes the last mark of the reader that was dropped, as `observe_last` does.
     ///
     /// If the writer waits in its slot, the reader has taken its waker and called it, at the latest
     /// when it left. `left` stays as it was: the proof alone needs a `&mut`.
@@ -140,7 +140,7 @@ impl Writer {
         ensures kept { left.new ≡ left.old }
     {
         self.side.meet_slot(&mut left.slots);
-        self.side.heed_last(&left.told);
+        self.side.observe_last(&left.told);
     }
 
     /// Lends at most `max` bytes of the known room, in one piece, to be written.

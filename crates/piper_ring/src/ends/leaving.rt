@@ -4,7 +4,7 @@ ghost use Rattle.std.specs.Prelude.{◌≡◌, ◌+◌, ◌*◌, ◌<◌, ◌^�
 ghost use Rattle.piper_ring.specs.Cells.{AreCellsOf, CameOut, GetsLeft};
 ghost use Rattle.piper_ring.specs.Loads.{FoundGone};
 ghost use Rattle.piper_ring.specs.Shared.{flag};
-ghost use Rattle.piper_ring.specs.SlotViews.{IsLeft};
+ghost use Rattle.piper_ring.specs.SlotValues.{IsLeft};
 ghost use Rattle.piper_ring.specs.Stretches.{IsBlankFrom};
 
 use crate::ends::cells::{LeftWakers, WakerCells};

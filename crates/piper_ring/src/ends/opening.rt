@@ -69,7 +69,7 @@ pub fn open_with_slots<T>(
     let (space, lender, first, second) = space.lend();
     let (cells, reader_token, writer_token) = WakerCells::empty();
     let (read_cells, first) = space.place(first, cells);
-    let write_cells = read_cells.again();
+    let write_cells = read_cells.duplicate();
     let (reader, writer, read_slots, write_slots) = open_ends(
         alloc,
         capacity,
@@ -125,14 +125,14 @@ fn open_ends(
         open(parts, lender, &reader_token, &writer_token);
     let told_reader = write_seat.mark();
     let told_writer = read_seat.mark();
-    let read_saw = told_reader.again();
-    let heard = told_reader.again();
+    let read_saw = told_reader.duplicate();
+    let heard = told_reader.duplicate();
     let write_saw = read_seat.unseen();
     let read_slots = SlotParts {
         waits: reader_waits,
         right: Some(reader_token),
         maybe_registered: false,
-        heard: told_reader.again(),
+        heard: told_reader.duplicate(),
         wakes: reader_wakes,
     };
     let write_slots = SlotParts {
@@ -140,7 +140,7 @@ fn open_ends(
         right: Some(writer_token),
         maybe_registered: false,
         heard: ReadStored {
-            count: told_writer.again(),
+            count: told_writer.duplicate(),
             closed: read_seat.unseen(),
         },
         wakes: writer_wakes,

@@ -3,7 +3,7 @@ ghost use Rattle.std.specs.Prelude.{◌≡◌, ℕ, ◌+◌, ◌-◌, ◌*◌, �
 
 use crate::ends::leaving::LeavingReader;
 use crate::ends::writer::WriteEnd;
-use crate::ring::marks::{LastReadMark, ReadMark, Saw, WriteMark};
+use crate::ring::marks::{LastReadMark, ReadMark, ClosedMark, WriteMark};
 use crate::ring::places::Places;
 use crate::ring::seats::ReadSeat;
 use piper_cells::lent_space::Lease;
@@ -16,7 +16,7 @@ pub(crate) struct ReadParts {
     pub(crate) seat: ReadSeat,
     /// The places of the known bytes.
     pub(crate) known: Places,
-    /// What the marks tell that it heeded.
+    /// What the marks tell that it observed.
     pub(crate) told: WriteMark,
     /// What it saw of the pipe's end.
     pub(crate) saw: WriteMark,
@@ -47,7 +47,7 @@ impl Model for ReadEnd {
 }
 
 impl ReadEnd {
-    ghost use Rattle.piper_ring.specs.ReadView.{HasLoaded, Heeds, KeepsAll, KnowsMore, MayBeUnread, KnowsEnd, HasTheRest, in_one_piece};
+    ghost use Rattle.piper_ring.specs.ReadView.{HasLoadedTail, Observes, KeepsAll, KnowsMore, MayBeUnread, KnowsEnd, HasTheRest, in_one_piece};
     ghost use Rattle.piper_ring.specs.Meeting.{EndsMeet};
     ghost use Rattle.piper_ring.specs.Loads.{FoundClosed};
     ghost use Rattle.piper_ring.specs.Shared.{ring_of};
@@ -106,7 +106,7 @@ impl ReadEnd {
         ensures told { self.now.told_shut ≡ true → IsTrue result }
         ensures found { FoundClosed self.now.ring.names result }
     {
-        let mut saw = self.parts.saw.again();
+        let mut saw = self.parts.saw.duplicate();
         self.parts.seat.load_closed(&mut saw, &self.parts.told) != 0
     }
 
@@ -134,12 +134,12 @@ impl ReadEnd {
     /// published before it, and a ring that the writer closed before it is seen closed. Its bytes
     /// and those that this end took and knows of are beginnings of one stream, and those of a mark
     /// that reports of the end are all.
-    pub fn heed(&mut self, mark: &WriteMark)
+    pub fn observe(&mut self, mark: &WriteMark)
         requires { mark.now.names ≡ self.old.ring.names }
-        ensures { Heeds mark.now self.old self.new }
+        ensures { Observes mark.now self.old self.new }
     {
-        self.parts.told.heed(mark);
-        self.parts.heard.heed(mark);
+        self.parts.told.observe(mark);
+        self.parts.heard.observe(mark);
     }
 
     /// Loads the tail, and so knows of bytes that were published: of all there are, once it is known where the pipe
@@ -149,15 +149,15 @@ impl ReadEnd {
         requires { length self.old.known ≡ 0 }
         ensures heard { length self.old.all ≤ length (self.new.taken ++ self.new.known) }
         ensures fresh { self.old.told ≤ length (self.new.taken ++ self.new.known) }
-        ensures found { HasLoaded self.new }
+        ensures found { HasLoadedTail self.new }
         ensures end { KnowsEnd self.old → self.new.taken ++ self.new.known ≡ self.new.all }
         ensures kept { KnowsMore self.old self.new }
     {
         let parts = &mut self.parts;
         let (tail, published) = parts.seat.load_tail(&parts.heard);
         parts.seat.accept(&mut parts.known, &published);
-        parts.heard.heed(&published);
-        parts.indices.sees(tail as usize);
+        parts.heard.observe(&published);
+        parts.indices.set_tail(tail as usize);
     }
 
     /// From now on it has heard of what the mark reports.
@@ -167,7 +167,7 @@ impl ReadEnd {
         ensures all { KeepsAll self.old self.new }
         ensures rest { self.new ≡ record self.old { all = self.new.all } }
     {
-        self.parts.heard.heed(mark);
+        self.parts.heard.observe(mark);
     }
 
     /// `load_tail`, where it knows of no byte.
@@ -176,7 +176,7 @@ impl ReadEnd {
             self.old.told ≤ length (self.new.taken ++ self.new.known) }
         ensures end { self.old.known ≡ [] → KnowsEnd self.old →
             self.new.taken ++ self.new.known ≡ self.new.all }
-        ensures found { self.old.known ≡ [] → HasLoaded self.new }
+        ensures found { self.old.known ≡ [] → HasLoadedTail self.new }
         ensures known { 0 < length self.old.known → self.new ≡ self.old }
         ensures kept { KnowsMore self.old self.new }
     {
@@ -197,11 +197,11 @@ impl ReadEnd {
         let (arrived, freed) = reader
             .seat
             .meet(&mut writer.seat, &reader.heard, &writer.saw);
-        reader.heard.heed(&writer.seat.mark());
+        reader.heard.observe(&writer.seat.mark());
         reader.known.join(arrived);
         writer.room.later.join(freed);
-        reader.indices.sees(writer.indices.tail());
-        writer.indices.sees(reader.indices.head());
+        reader.indices.set_tail(writer.indices.tail());
+        writer.indices.set_head(reader.indices.head());
     }
 
     /// Loads closed, and keeps what it saw. Where it is, it is known from then
@@ -214,7 +214,7 @@ impl ReadEnd {
         ensures all { KeepsAll self.old self.new }
         ensures rest { self.new ≡ record self.old { saw = result; all = self.new.all } }
     {
-        let told = self.parts.told.again();
+        let told = self.parts.told.duplicate();
         self.load_closed_knowing(&told)
     }
 
@@ -230,10 +230,10 @@ impl ReadEnd {
         ensures rest { self.new ≡ record self.old { saw = result; all = self.new.all } }
     {
         let parts = &mut self.parts;
-        let mut told = parts.told.again();
-        told.heed(more);
+        let mut told = parts.told.duplicate();
+        told.observe(more);
         let is_closed = parts.seat.load_closed(&mut parts.saw, &told) != 0;
-        parts.heard.heed(&parts.saw);
+        parts.heard.observe(&parts.saw);
         is_closed
     }
 
@@ -248,7 +248,7 @@ impl ReadEnd {
     {
         let parts = &mut self.parts;
         let back = parts.known.split(n);
-        parts.indices.gives(n);
+        parts.indices.consume(n);
         parts.seat.store_head(back, parts.indices.head() as u64);
     }
 
@@ -269,7 +269,7 @@ impl ReadEnd {
     }
 
     /// Closes the pipe, since this end is about to leave.
-    pub(crate) fn close(self) -> (LeavingReader, Saw)
+    pub(crate) fn close(self) -> (LeavingReader, ClosedMark)
         ensures ring { ring_of result.0.seat.words result.0.seat.at result.0.seat.names
             ≡ self.ring }
         ensures head { result.0.seat.head ≡ length self.taken }

@@ -4,7 +4,7 @@
 ghost use Rattle.std.specs.Prelude.{◌≡◌, ℕ, Bool, true, not, IsFalse};
 ghost use Rattle.piper_ring.specs.Cells.{AreCellsOf};
 ghost use Rattle.piper_ring.specs.Shared.{Names, waker_place};
-ghost use Rattle.piper_ring.specs.Slots.{PublishesWaker, Stored};
+ghost use Rattle.piper_ring.specs.Slot.{PublishesWaker, Stored};
 
 pub(crate) mod looks;
 pub(crate) mod reader;
@@ -24,7 +24,7 @@ pub struct Away;
 
 /// An end at both slots: it waits in its own, and wakes whoever waits in the other's.
 pub trait SlotEnd {
-    ghost use Rattle.piper_ring.specs.SlotViews.{IsTokenOf, SameWaiter, of_waits};
+    ghost use Rattle.piper_ring.specs.SlotValues.{IsTokenOf, SameWaiter, of_waits};
 
     /// Evidence of what the other end had stored.
     type Heard: Drop;

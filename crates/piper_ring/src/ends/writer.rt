@@ -3,7 +3,7 @@ ghost use Rattle.std.specs.Prelude.{◌≡◌, ℕ, ◌+◌, ◌-◌, ◌*◌, �
 
 use crate::ends::leaving::LeavingWriter;
 use crate::ends::room::Room;
-use crate::ring::marks::{LastReadMark, ReadMark, Saw, WriteMark};
+use crate::ring::marks::{LastReadMark, ReadMark, ClosedMark, WriteMark};
 use crate::ring::seats::WriteSeat;
 use piper_cells::lent_space::Lease;
 use piper_protocol::indices::WriteIndices;
@@ -14,9 +14,9 @@ use std::marker::Model;
 pub(crate) struct WriteParts {
     pub(crate) seat: WriteSeat,
     pub(crate) room: Room,
-    /// What the marks tell that it heeded.
+    /// What the marks tell that it observed.
     pub(crate) told: ReadMark,
-    pub(crate) saw: Saw,
+    pub(crate) saw: ClosedMark,
     /// It keeps the space of the wakers' places lent.
     pub(crate) lease: Lease,
     pub(crate) alloc: Global,
@@ -108,7 +108,7 @@ impl WriteEnd {
         ensures saw { self.now.saw ≡ true → IsTrue result }
         ensures found { FoundClosed self.now.ring.names result }
     {
-        let mut saw = self.parts.saw.again();
+        let mut saw = self.parts.saw.duplicate();
         self.parts.seat.load_closed(&mut saw) != 0
     }
 
@@ -123,22 +123,22 @@ impl WriteEnd {
 
     /// From now on it knows what the mark reports: a load of the head finds at least the room that was given
     /// back before it.
-    pub fn heed(&mut self, mark: &ReadMark)
+    pub fn observe(&mut self, mark: &ReadMark)
         requires { mark.now.names ≡ self.old.ring.names }
         ensures { self.new ≡ record self.old { told = max self.old.told mark.now.count } }
     {
-        self.parts.told.heed(mark);
+        self.parts.told.observe(mark);
     }
 
     /// From now on it knows that the reader's end left: the pipe counts as seen closed. And it
     /// knows of all that was consumed.
-    pub fn heed_last(&mut self, mark: &LastReadMark)
+    pub fn observe_last(&mut self, mark: &LastReadMark)
         requires { mark.now.consumed.names ≡ self.old.ring.names }
         ensures { self.new ≡ record self.old
             { told = max self.old.told mark.now.consumed.count; saw = true } }
     {
-        self.parts.told.heed(&mark.consumed);
-        self.parts.saw = mark.closed.again();
+        self.parts.told.observe(&mark.consumed);
+        self.parts.saw = mark.closed.duplicate();
     }
 
     /// Loads the head, and so knows of room that was given back. It is for an end that knows of none,
@@ -149,7 +149,7 @@ impl WriteEnd {
         ensures found { HasLoadedHead self.new }
         ensures kept { HasMoreRoom self.old self.new }
     {
-        let told = self.parts.told.again();
+        let told = self.parts.told.duplicate();
         self.load_head_knowing(&told);
     }
 
@@ -163,11 +163,11 @@ impl WriteEnd {
         ensures kept { HasMoreRoom self.old self.new }
     {
         let parts = &mut self.parts;
-        let mut told = parts.told.again();
-        told.heed(more);
+        let mut told = parts.told.duplicate();
+        told.observe(more);
         let (head, consumed) = parts.seat.load_head(&told);
         parts.seat.accept(&mut parts.room.later, &consumed);
-        parts.indices.sees(head as usize);
+        parts.indices.set_head(head as usize);
     }
 
     /// Loads closed, and keeps what it saw. What this end closed it finds
@@ -184,7 +184,7 @@ impl WriteEnd {
 
     /// `load_closed`, by an end that has not seen the pipe closed, with evidence of what the reader
     /// did: it finds that.
-    pub(crate) fn load_closed_knowing(&mut self, more: &Saw) -> bool
+    pub(crate) fn load_closed_knowing(&mut self, more: &ClosedMark) -> bool
         requires ring { more.now.names ≡ self.old.ring.names }
         requires open { self.old.saw ≡ false }
         ensures end { self.new ≡ record self.old { saw = result } }
@@ -193,7 +193,7 @@ impl WriteEnd {
         ensures found { FoundClosed self.old.ring.names result }
     {
         let parts = &mut self.parts;
-        let mut saw = more.again();
+        let mut saw = more.duplicate();
         let is_closed = parts.seat.load_closed(&mut saw) != 0;
         parts.saw = saw;
         is_closed
@@ -212,7 +212,7 @@ impl WriteEnd {
     {
         let parts = &mut self.parts;
         let gift = parts.room.lent.split(n);
-        parts.indices.publishes(n);
+        parts.indices.publish(n);
         parts.seat.store_tail(gift, parts.indices.tail() as u64);
     }
 

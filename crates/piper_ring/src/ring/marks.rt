@@ -34,21 +34,21 @@ impl Drop for WriteMark {
 
 impl WriteMark {
     /// A copy.
-    pub fn again(&self) -> WriteMark
+    pub fn duplicate(&self) -> WriteMark
         ensures { result ≡ self.now }
     {
         WriteMark { mark: PhantomData }
     }
 
     /// Afterwards it says what either of the two says.
-    pub fn heed(&mut self, other: &WriteMark)
+    pub fn observe(&mut self, other: &WriteMark)
         requires { other.now.names ≡ self.old.names }
         ensures ring { self.new.names ≡ self.old.names }
         ensures bytes { length self.new.bytes
             ≡ max (length self.old.bytes) (length other.now.bytes) }
         ensures shut { flag self.new.shut ≡ max (flag self.old.shut) (flag other.now.shut) }
         ensures kept { Reaches (self.old.bytes, self.old.shut) (self.new.bytes, self.new.shut) }
-        ensures heeded { Reaches (other.now.bytes, other.now.shut) (self.new.bytes, self.new.shut) }
+        ensures observed { Reaches (other.now.bytes, other.now.shut) (self.new.bytes, self.new.shut) }
         ensures no_more { (all : Stream) → Reaches (self.old.bytes, self.old.shut) all
             → Reaches (other.now.bytes, other.now.shut) all
             → Reaches (self.new.bytes, self.new.shut) all }
@@ -80,14 +80,14 @@ impl Drop for ReadMark {
 
 impl ReadMark {
     /// A copy.
-    pub fn again(&self) -> ReadMark
+    pub fn duplicate(&self) -> ReadMark
         ensures { result ≡ self.now }
     {
         ReadMark { mark: PhantomData }
     }
 
     /// Afterwards it says what either of the two says.
-    pub fn heed(&mut self, other: &ReadMark)
+    pub fn observe(&mut self, other: &ReadMark)
         requires { other.now.names ≡ self.old.names }
         ensures ring { self.new.names ≡ self.old.names }
         ensures count { self.new.count ≡ max self.old.count other.now.count }
@@ -98,7 +98,7 @@ impl ReadMark {
 pub struct LastReadMark {
     /// All that was ever consumed.
     pub consumed: ReadMark,
-    pub(crate) closed: Saw,
+    pub(crate) closed: ClosedMark,
     ghost of_one_ring: { closed.names ≡ consumed.names },
     ghost is_closed: { closed.seen ≡ true },
 }
@@ -113,33 +113,33 @@ impl Drop for LastReadMark {
 }
 
 /// Where `seen` is `true`, the ring was seen closed.
-pub struct Saw {
+pub struct ClosedMark {
     pub(crate) mark: PhantomData<*mut u8>,
     pub(crate) ghost names: { Names } by { names_code },
     pub(crate) ghost seen: { Bool },
 }
 
-impl Model for Saw {
+impl Model for ClosedMark {
     ghost also_owns = { λ s. raised s.names.closed s.seen };
 
     ghost also_shares = { λ s _ κ. said (raised s.names.closed s.seen) κ };
 }
 
-unsafe impl Send for Saw {}
+unsafe impl Send for ClosedMark {}
 
-unsafe impl Sync for Saw {}
+unsafe impl Sync for ClosedMark {}
 
-impl Drop for Saw {
+impl Drop for ClosedMark {
     fn drop(self) {
         let Self { mark: _ } = self;
     }
 }
 
-impl Saw {
+impl ClosedMark {
     /// A copy.
-    pub(crate) fn again(&self) -> Saw
+    pub(crate) fn duplicate(&self) -> ClosedMark
         ensures { result ≡ self.now }
     {
-        Saw { mark: PhantomData }
+        ClosedMark { mark: PhantomData }
     }
 }

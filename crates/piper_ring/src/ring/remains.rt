@@ -3,7 +3,7 @@ ghost use Rattle.std.specs.Prelude.{◌≡◌, ◌<◌, ◌^◌, Bool, true, fal
 ghost use denote.RawPtr.{Ptr};
 ghost use Rattle.piper_ring.specs.Block.{space_of, space_words};
 ghost use Rattle.piper_ring.specs.Shared.{Names, names_code, remains_own};
-ghost use Rattle.piper_ring.specs.SlotViews.{IsLeft};
+ghost use Rattle.piper_ring.specs.SlotValues.{IsLeft};
 
 use crate::ring::memory::{Frame, READER_FLAG, SPACE_WORD, WRITER_FLAG};
 use piper_cells::lent_space::{Lease, Lender};

@@ -6,9 +6,9 @@ ghost use Rattle.rtrb.specs.Fifo.{position_of};
 ghost use Rattle.piper_ring.specs.Shared.{Names, names_code, reader_owns, reader_lends, writer_owns, writer_lends, flag};
 ghost use Rattle.piper_ring.specs.Block.{space_of, space_words};
 ghost use Rattle.piper_ring.specs.Loads.{FoundClosed, FoundConsumed, FoundGone, FoundPublished};
-ghost use Rattle.piper_ring.specs.SlotViews.{IsUnused, LooksFirst};
+ghost use Rattle.piper_ring.specs.SlotValues.{IsUnused, LooksFirst};
 
-use crate::ring::marks::{ReadMark, Saw, WriteMark};
+use crate::ring::marks::{ReadMark, ClosedMark, WriteMark};
 use crate::ring::memory::{
     CLOSED_WORD, HEAD_WORD, LEFT_WORD, Parts, READER_BACK, READER_FLAG, TAIL_WORD, WORDS_SIZE,
     WRITER_BACK, WRITER_FLAG,
@@ -153,10 +153,10 @@ impl ReadSeat {
     }
 
     /// Evidence of nothing: closed was not seen yet.
-    pub(crate) fn unseen(&self) -> Saw
+    pub(crate) fn unseen(&self) -> ClosedMark
         ensures { (result.names ≡ self.now.names) × (result.seen ≡ false) }
     {
-        Saw { mark: PhantomData }
+        ClosedMark { mark: PhantomData }
     }
 
     /// Where the tail is: no less than the reader has seen or was told of, and right at the end
@@ -219,14 +219,14 @@ impl ReadSeat {
 
     /// Closes the ring, as `store_shut` of the writer, since the reader is about to leave. With it
     /// comes evidence that the ring is closed.
-    pub(crate) fn store_closed(&mut self) -> Saw
+    pub(crate) fn store_closed(&mut self) -> ClosedMark
         ensures leaving { self.new ≡ record self.old { leaving = true } }
         ensures closed { (result.names ≡ self.old.names) × (result.seen ≡ true) }
     {
         // SAFETY: the seat owns or shares the ring's words (`also_owns`, `also_shares`), which live
         // until the last end is gone.
         unsafe { raw::store::<Brand>(self.words.add(CLOSED_WORD), 1, SeqCst) };
-        Saw { mark: PhantomData }
+        ClosedMark { mark: PhantomData }
     }
 
     /// The reader leaves, and gives up the places of the bytes that it knows of. The answer is 1 if
@@ -255,7 +255,7 @@ impl ReadSeat {
         &mut self,
         other: &mut WriteSeat,
         heard: &WriteMark,
-        other_saw: &Saw,
+        other_saw: &ClosedMark,
     ) -> (Places, Places)
         requires { AreOfOneRing self.old other.old × (heard.now.names ≡ self.old.names)
             × (other_saw.now.names ≡ self.old.names) × (self.old.leaving ≡ false) }
@@ -329,7 +329,7 @@ impl WriteSeat {
 
     /// 1 if the ring is closed, else 0. Once it was seen closed, or the writer closed it, the
     /// answer is 1.
-    pub(crate) fn load_closed(&self, saw: &mut Saw) -> u64
+    pub(crate) fn load_closed(&self, saw: &mut ClosedMark) -> u64
         requires { saw.old.names ≡ self.now.names }
         ensures ring { saw.new.names ≡ saw.old.names }
         ensures answer { result ≡ flag saw.new.seen }

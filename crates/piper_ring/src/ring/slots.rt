@@ -4,9 +4,9 @@ ghost use Rattle.std.specs.Borrow.{ftrue};
 ghost use Rattle.std.specs.Prelude.{◌≡◌, ◌+◌, ◌≤◌, ℕ, Bool, [], true, false};
 ghost use denote.RawPtr.{Ptr};
 ghost use Rattle.piper_ring.specs.Shared.{Names, names_code, waits_in, wakes_in, words_lent};
-ghost use Rattle.piper_ring.specs.Slots.{Stored, as_stored, stored_code};
+ghost use Rattle.piper_ring.specs.Slot.{Stored, as_stored, stored_code};
 
-use crate::ring::marks::{ReadMark, Saw, WriteMark};
+use crate::ring::marks::{ReadMark, ClosedMark, WriteMark};
 use crate::ring::memory::{READER_FLAG, WRITER_FLAG};
 use crate::ring::seats::{ReadSeat, WriteSeat};
 use piper_cells::token_cell::Token;
@@ -90,8 +90,8 @@ impl<'a> Model for SlotWords<'a> {
 impl<'a> SlotWords<'a> {
     ghost use Rattle.piper_ring.specs.Loads.{FoundBack, FoundFlag, FoundWaiter};
     ghost use Rattle.piper_ring.specs.Shared.{flag_word, waker_place};
-    ghost use Rattle.piper_ring.specs.Slots.{GivesBack, IsRemembered, Looks, Reclaims, Takes};
-    ghost use Rattle.piper_ring.specs.SlotViews.{IsTokenOf, SameWaiter, SameWaker, of_waits, of_wakes};
+    ghost use Rattle.piper_ring.specs.Slot.{GivesBack, IsRemembered, Looks, Reclaims, Takes};
+    ghost use Rattle.piper_ring.specs.SlotValues.{IsTokenOf, SameWaiter, SameWaker, of_waits, of_wakes};
 
     /// 1 where this side's waker is registered in its slot, else 0.
     pub(crate) fn is_registered(self, slot: &mut WaiterState, flag: usize) -> u64
@@ -202,8 +202,8 @@ impl<'a> SlotWords<'a> {
 }
 
 impl WriteSeat {
-    ghost use Rattle.piper_ring.specs.Slots.{PublishesWaker};
-    ghost use Rattle.piper_ring.specs.SlotViews.{IsTokenOf, SameWaiter, of_waits};
+    ghost use Rattle.piper_ring.specs.Slot.{PublishesWaker};
+    ghost use Rattle.piper_ring.specs.SlotValues.{IsTokenOf, SameWaiter, of_waits};
 
     /// The words of both slots, with evidence of what the writer published.
     #[inline(always)]
@@ -221,7 +221,7 @@ impl WriteSeat {
 
     /// The writer's waker, which lies in its place, is registered in its slot, under the next
     /// ticket. With it comes evidence of what the reader had stored when it last checked the slot.
-    pub(crate) fn publish_waker(&self, slot: &mut WaiterState, right: Token) -> (ReadMark, Saw)
+    pub(crate) fn publish_waker(&self, slot: &mut WaiterState, right: Token) -> (ReadMark, ClosedMark)
         requires { (slot.old.names ≡ self.now.names) × (slot.old.for_reader ≡ false)
             × (slot.old.owns ≡ true) × IsTokenOf self.now.names.writer_place true true right }
         ensures side { SameWaiter slot.old slot.new }
@@ -235,18 +235,18 @@ impl WriteSeat {
         // SAFETY: the seat owns or shares the ring's words (`also_owns`, `also_shares`), which live
         // until the last end is gone.
         unsafe { raw::store::<Brand>(self.words.add(WRITER_FLAG), 1, SeqCst) };
-        (ReadMark { mark: PhantomData }, Saw { mark: PhantomData })
+        (ReadMark { mark: PhantomData }, ClosedMark { mark: PhantomData })
     }
 }
 
 impl ReadSeat {
-    ghost use Rattle.piper_ring.specs.Slots.{PublishesWaker};
-    ghost use Rattle.piper_ring.specs.SlotViews.{IsTokenOf, SameWaiter, of_waits};
+    ghost use Rattle.piper_ring.specs.Slot.{PublishesWaker};
+    ghost use Rattle.piper_ring.specs.SlotValues.{IsTokenOf, SameWaiter, of_waits};
 
     /// The words of both slots, with evidence of what the reader consumed, and that the ring is
     /// closed, where `saw` says so.
     #[inline(always)]
-    pub(crate) fn slot_words(&self, saw: &Saw) -> SlotWords<'_>
+    pub(crate) fn slot_words(&self, saw: &ClosedMark) -> SlotWords<'_>
         requires { saw.now.names ≡ self.now.names }
         ensures ring { result.names ≡ self.now.names }
         ensures stored { (result.for_reader ≡ false)

@@ -9,7 +9,7 @@ ghost use Rattle.piper.specs.Handles.{NotifiesWriter, SameReaderButWaits, read_s
 ghost use Rattle.piper.specs.OfReader.{known};
 ghost use Rattle.piper.specs.ReaderCalls.{AtEnd, DrainPends, DrainsEnd, DrainsSlice, DrawsToYield as ReadDraws, Looks, PollsEnd, SameReaderButConsumed, WakesWriter};
 ghost use Rattle.piper.specs.Waits.{ReaderPends, WriterLeavesNone};
-ghost use Rattle.piper_tokio.specs.Passing.{Took, WantsMemory, Gave, inner_of_io};
+ghost use Rattle.piper_tokio.specs.Passing.{Took, WantsMemory, Gave, of_io};
 ghost use Rattle.piper_tokio.specs.Shown.{handle_of, shown_by, ShowsFront, writing};
 ghost use Rattle.piper_tokio.specs.PassingLaws.{took_nothing, took_in_order, gave_nothing, gave_in_order};
 ghost use Rattle.piper.specs.OfWriter.{shut, saw};
@@ -199,7 +199,7 @@ impl tokio::io::AsyncWrite for CompatWriter {
         ensures filled { FillsSlice result (writing self.old) (writing self.new) buf.now
             × SameWriterButMoved (writing self.old) (writing self.new) }
         ensures end { FillsEnd result (writing self.old) (writing self.new) }
-        ensures pending { WriteDraws (inner_of_io result) (writing self.old) (writing self.new)
+        ensures pending { WriteDraws (of_io result) (writing self.old) (writing self.new)
             × OnPending result (FillPends (writing self.old) (writing self.new) cx.new) }
         ensures memory { IfReadyErr result (WantsMemory cx.new) }
         ensures woken { WakesReader (writing self.old) (writing self.new) }

@@ -22,7 +22,7 @@ pub type ReadSide<T> = Side<ReadEnd, T>;
 pub type ReadRegistrations = Registrations<ReadEnd>;
 
 impl SlotEnd for ReadEnd {
-    ghost use Rattle.piper_ring.specs.Slots.{as_stored};
+    ghost use Rattle.piper_ring.specs.Slot.{as_stored};
 
     type Heard = WriteMark;
 
@@ -67,10 +67,10 @@ impl SlotEnd for ReadEnd {
 impl<T> Side<ReadEnd, T> {
     ghost use Rattle.piper_ring.specs.Cells.{GetsLeft};
     ghost use Rattle.piper_ring.specs.Loads.{FoundClosed, FoundWaiter, WasTaken};
-    ghost use Rattle.piper_ring.specs.ReadView.{HasLoaded, HasTheRest, KeepsAll, KnowsEnd, KnowsMore, Heeds, in_one_piece};
+    ghost use Rattle.piper_ring.specs.ReadView.{HasLoadedTail, HasTheRest, KeepsAll, KnowsEnd, KnowsMore, Observes, in_one_piece};
     ghost use Rattle.piper_ring.specs.Shared.{flag};
     ghost use Rattle.piper_ring.specs.Meeting.{EndsMeet};
-    ghost use Rattle.piper_ring.specs.SlotsView.{IsPending, HasNews, WaitsAsBefore, IsWriterPending, HasRoomNews};
+    ghost use Rattle.piper_ring.specs.SlotsView.{IsReaderPending, ReaderHasNews, WaitsAsBefore, IsWriterPending, WriterHasNews};
 
     /// Loads the tail, as `load_tail` of its end, and returns whether no byte is known even now.
     /// Once it has registered it finds all that the writer had stored before its last check of the
@@ -84,7 +84,7 @@ impl<T> Side<ReadEnd, T> {
         ensures after { length self.old.slots.heard.bytes
             ≤ length (self.new.end.taken ++ self.new.end.known) }
         ensures fresh { (self.old.end.told ≤ length (self.new.end.taken ++ self.new.end.known))
-            × HasLoaded self.new.end }
+            × HasLoadedTail self.new.end }
         ensures end { KnowsEnd self.old.end →
             self.new.end.taken ++ self.new.end.known ≡ self.new.end.all }
         ensures kept { KnowsMore self.old.end self.new.end }
@@ -179,14 +179,14 @@ impl<T> Side<ReadEnd, T> {
         Finished { side, taken, left }
     }
 
-    /// `heed` of its end.
-    pub fn heed(&mut self, mark: &WriteMark)
+    /// `observe` of its end.
+    pub fn observe(&mut self, mark: &WriteMark)
         requires { mark.now.names ≡ self.old.end.ring.names }
-        ensures end { Heeds mark.now self.old.end self.new.end }
+        ensures end { Observes mark.now self.old.end self.new.end }
         ensures rest { (self.new.slots ≡ self.old.slots) × (self.new.cells ≡ self.old.cells)
             × (self.new.log ≡ self.old.log) }
     {
-        self.end.heed(mark);
+        self.end.observe(mark);
     }
 
     /// `meet` of both ends, held by one thread. And for each side that waits, and since whose
@@ -194,11 +194,11 @@ impl<T> Side<ReadEnd, T> {
     pub fn meet(&mut self, writer: &mut WriteSide<T>)
         requires { writer.old.end.ring ≡ self.old.end.ring }
         ensures ends { EndsMeet self.old.end self.new.end writer.old.end writer.new.end }
-        ensures reader { IsPending self.old.end self.old.slots →
-            HasNews self.old.end writer.old.slots →
+        ensures reader { IsReaderPending self.old.end self.old.slots →
+            ReaderHasNews self.old.end writer.old.slots →
             writer.old.slots.taken ≡ self.old.slots.tickets }
         ensures writer { IsWriterPending writer.old.end writer.old.slots →
-            HasRoomNews writer.old.end self.old.slots →
+            WriterHasNews writer.old.end self.old.slots →
             self.old.slots.taken ≡ writer.old.slots.tickets }
         ensures capacity { (writer.old.end.capacity ≡ self.old.end.capacity)
             × (0 < self.old.end.capacity) }

@@ -8,7 +8,7 @@ use crate::ends::finished::{Finished, FinishedWriter};
 use crate::ends::slots::side::Side;
 use crate::ends::slots::{Registrations, SlotEnd};
 use crate::ends::writer::WriteEnd;
-use crate::ring::marks::{LastReadMark, ReadMark, Saw};
+use crate::ring::marks::{LastReadMark, ReadMark, ClosedMark};
 use crate::ring::memory::{READER_BACK, READER_FLAG};
 use crate::ring::slots::{SlotWords, WaiterState};
 use piper_cells::lent_space::Placed;
@@ -25,11 +25,11 @@ pub type WriteRegistrations = Registrations<WriteEnd>;
 #[derive(Drop)]
 pub struct ReadStored {
     pub(crate) count: ReadMark,
-    pub(crate) closed: Saw,
+    pub(crate) closed: ClosedMark,
 }
 
 impl SlotEnd for WriteEnd {
-    ghost use Rattle.piper_ring.specs.Slots.{as_stored};
+    ghost use Rattle.piper_ring.specs.Slot.{as_stored};
 
     type Heard = ReadStored;
 
@@ -244,25 +244,25 @@ impl<T> Side<WriteEnd, T> {
         Finished { side, taken, left }
     }
 
-    /// `heed` of its end.
-    pub fn heed(&mut self, mark: &ReadMark)
+    /// `observe` of its end.
+    pub fn observe(&mut self, mark: &ReadMark)
         requires { mark.now.names ≡ self.old.end.ring.names }
         ensures end { self.new.end
             ≡ record self.old.end { told = max self.old.end.told mark.now.count } }
         ensures rest { (self.new.slots ≡ self.old.slots) × (self.new.cells ≡ self.old.cells)
             × (self.new.log ≡ self.old.log) }
     {
-        self.end.heed(mark);
+        self.end.observe(mark);
     }
 
-    /// `heed_last` of its end.
-    pub fn heed_last(&mut self, mark: &LastReadMark)
+    /// `observe_last` of its end.
+    pub fn observe_last(&mut self, mark: &LastReadMark)
         requires { mark.now.consumed.names ≡ self.old.end.ring.names }
         ensures end { self.new.end ≡ record self.old.end
             { told = max self.old.end.told mark.now.consumed.count; saw = true } }
         ensures rest { (self.new.slots ≡ self.old.slots) × (self.new.cells ≡ self.old.cells)
             × (self.new.log ≡ self.old.log) }
     {
-        self.end.heed_last(mark);
+        self.end.observe_last(mark);
     }
 }

@@ -4,7 +4,7 @@ use Rattle.std.proofs.Common.{rules, ◌≡◌, Ok, Err, refl, inr}
 use Rattle.futures.specs.Task.{Keeps}
 use Rattle.futures.specs.declared.task.Poll.TheVariants.{Ready, Pending}
 use Rattle.piper_ring.specs.Looks.{WriterLooked}
-use Rattle.piper.specs.declared.error.Inner.TheVariants.{Memory}
+use Rattle.piper.specs.declared.error.CopyError.TheVariants.{Memory}
 use Rattle.piper.proofs.AtOnce.{once_drawn, once_granted, once_pending}
 use Rattle.piper.proofs.LookingIn.{fills_none, fills_rounds, looked_on}
 use Rattle.piper.proofs.handles.Writer.fill_waiting.Goals as goal

@@ -19,8 +19,8 @@ invariant_of-result c = let o = c.open-read_seat.ensures in let seat = c.open-re
       placed = ((λ j. (n.none j).at) ∙ o.room.0, (λ j. (n.none j).capacity) ∙ o.room.1 ∙ c.requires.capacity.2 ∙ sym all, omega arith);
       counts = (omega arith, omega arith);
       cached = (low ∙ position_none c.new.result.capacity seat.head head, high ∙ position_none c.new.result.capacity seat.seen seen);
-      heard = (named, ap (λ (m : WriteMark). m.names) c.again-read_saw.ensures ∙ named, ap (λ (m : WriteMark). m.names) c.again-heard.ensures ∙ named);
-      stream = (subst (λ (l : List ℕ). IsPrefix l c.again-heard.result.bytes) (sym o.reader.2) (c.again-heard.result.bytes, refl), same_as c.mark-told_reader.result c.again-heard.result (sym c.again-heard.ensures), same_as c.again-read_saw.result c.again-heard.result (c.again-read_saw.ensures ∙ sym c.again-heard.ensures));
+      heard = (named, ap (λ (m : WriteMark). m.names) c.duplicate-read_saw.ensures ∙ named, ap (λ (m : WriteMark). m.names) c.duplicate-heard.ensures ∙ named);
+      stream = (subst (λ (l : List ℕ). IsPrefix l c.duplicate-heard.result.bytes) (sym o.reader.2) (c.duplicate-heard.result.bytes, refl), same_as c.mark-told_reader.result c.duplicate-heard.result (sym c.duplicate-heard.ensures), same_as c.duplicate-read_saw.result c.duplicate-heard.result (c.duplicate-read_saw.ensures ∙ sym c.duplicate-heard.ensures));
       leased = (c.requires.leases.0 ∙ sym o.ring.2, c.requires.leases.1);
       whole = (omega arith, o.reader.2 ∙ sym (λ j. take (o.reader.0 j) (o.reader.2 j) ++ (n.none j).bytes));
       here = o.reader.3;

@@ -3,7 +3,7 @@ use Rattle.piper_ring.proofs.Kit.{Bool, nothing_stored, block_of, count_of, at_b
 use types.Run.{assigns}
 use Rattle.piper_ring.specs.Places as P
 use Rattle.piper_ring.proofs.Fields.{seat_val, ghost_val, WaitsData, waits_made, WakesData, wakes_made, seven_val, seven_of, parts_told, lender_told, ReadData, read_made, WriteData, write_made, BlankData, blank_made}
-use Rattle.piper_ring.specs.SlotViews.{IsUnused, LooksFirst}
+use Rattle.piper_ring.specs.SlotValues.{IsUnused, LooksFirst}
 use Rattle.piper_ring.specs.contracts.ring.slots.WaiterState as Waits
 use Rattle.piper_ring.specs.contracts.ring.slots.Wakes as Wakes
 use Rattle.piper_ring.proofs.Opening.{as_places, begins, Slotted, IsNamed}

@@ -10,7 +10,7 @@ use Rattle.piper_ring.proofs.Fields.{seat_val, ghost_val, remains_told, FrameDat
 use Rattle.piper_ring.proofs.Leaving.{frame_rejoins}
 use Rattle.piper_ring.proofs.Steps.{flag_small}
 use Rattle.piper_ring.specs.Loads.{as_lying}
-use Rattle.piper_ring.specs.SlotViews.{IsLeft}
+use Rattle.piper_ring.specs.SlotValues.{IsLeft}
 use Rattle.piper_ring.specs.Shared.{block_room}
 use Rattle.piper_ring.specs.Block.{space_room}
 use Rattle.piper_cells.specs.contracts.token_cell.Token as Token

@@ -5,7 +5,7 @@ use Rattle.piper_ring.proofs.Steps.{flag_small}
 use Rattle.piper_ring.proofs.Closing.{AfterClosed, writer_looks}
 use Rattle.piper_ring.proofs.Fields.{ghost_val, SawData}
 use Rattle.piper_ring.specs.Loads.{FoundClosed, as_closed}
-use Rattle.piper_ring.specs.contracts.ring.marks.Saw as Saw
+use Rattle.piper_ring.specs.contracts.ring.marks.ClosedMark as ClosedMark
 use Rattle.piper_ring.specs.contracts.ring.seats.WriteSeat as Seat
 use Rattle.piper_ring.specs.contracts.ring.seats.WriteSeat.load_closed.{ended, clauses}
 use Rattle.piper_ring.specs.contracts.ring.seats.WriteSeat.load_closed.Key.{name as #self}
@@ -18,7 +18,7 @@ Data = Struct (shape Seat.the_type)
 pub load_closed_spec : {M : Type 1} → statement M
 load_closed_spec 𝓤 𝓛 𝓜 𝓡 wired =
     let H = 𝓛.H in let 𝓣 = tables 𝓤 H 𝓜 𝓡 𝓡.env in let En = ended in let fn = code.function in let c = clauses 𝓛 𝓜.mem 𝓡.returns in
-    let self = RefOf (0 ∷ []) tt (plain (λ _. Seat.the_row)) (λ _. tt) in let SRow : RattleType = Saw.the_row in let other_ref = plain (λ _. SRow) in
+    let self = RefOf (0 ∷ []) tt (plain (λ _. Seat.the_row)) (λ _. tt) in let SRow : RattleType = ClosedMark.the_row in let other_ref = plain (λ _. SRow) in
     let hs : Stays En.signature.params En.kept = (stay_dropped self yes, (stay_ref (1 ∷ []) tt other_ref, tt)) in
     proved 𝓛 En hs c 𝓜 𝓡 (Goes-dropped 𝓛 2 self yes (λ κs x f. refl), (Goes-ref 𝓛 2 1 tt other_ref, tt)) #self fn (code.unfolded 𝓤 H 𝓜 𝓡 wired)
     (λ κs. (shr_vals, (mut_vals, tt))) (λ κs. (shr_Tells (named 0) κs.0 Seat.the_row, (mut_Tells (named 1) κs.1.0 SRow, tt))) (λ κs qs bounds a gh are.

@@ -6,7 +6,7 @@ use Rattle.piper_ring.proofs.Slots.{Waited, publish}
 use Rattle.piper_ring.proofs.Fields.{ghost_val, TookData, took_made, SawData, saw_made}
 use Rattle.piper_ring.specs.contracts.ring.slots.WaiterState as Slot
 use Rattle.piper_ring.specs.contracts.ring.marks.ReadMark as Mark
-use Rattle.piper_ring.specs.contracts.ring.marks.Saw as Saw
+use Rattle.piper_ring.specs.contracts.ring.marks.ClosedMark as ClosedMark
 use Rattle.piper_ring.specs.contracts.ring.seats.WriteSeat as Seat
 use Rattle.piper_ring.specs.contracts.ring.seats.WriteSeat.publish_waker.{ended, clauses}
 use Rattle.piper_ring.specs.contracts.ring.seats.WriteSeat.publish_waker.Key.{name as #self}
@@ -46,9 +46,9 @@ publish_waker_spec 𝓤 𝓛 𝓜 𝓡 wired =
     sets ! (agg ! (and_then ! (lit ! tt) (no_more !))) refl (tt, (record { fits = lit< tt }, tt)) $
     Calls-last ! (fm 𝓛 𝓜 𝓡) (stored (out 0)) (and_then ! (get ! refl) (and_then ! (lit ! tt) (and_then ! (get ! refl) (no_more !)))) (λ u. has_stored ! (out 0) (
     lands_last ! refl (tt, tt) $ exec ! 𝓣.C 𝓣.Λ Ev (tail fn.body) (at_ret Ev Post) $ sets ! (agg ! (no_more !)) refl (tt, tt) $ sets ! (agg ! (and_then ! (get ! refl) (no_more !))) refl (tt, (tt, tt)) $ sets ! (agg ! (no_more !)) refl (tt, tt) $ sets ! (agg ! (and_then ! (get ! refl) (no_more !))) refl (tt, (tt, tt)) $ sets ! (agg ! (and_then ! (get ! refl) (and_then ! (get ! refl) (no_more !)))) refl (tt, ((tt, tt), ((tt, tt), tt))) $
-    fpick ! (λ r. let v : Waits Stored = r.1.0 in let mark : Mark.the_row.Denot = record { mark = record {}; names = z; count = r.0.count } in let saw : Saw.the_row.Denot = record { mark = record {}; names = z; seen = r.0.closed } in let g : Val = ghost_val in
+    fpick ! (λ r. let v : Waits Stored = r.1.0 in let mark : Mark.the_row.Denot = record { mark = record {}; names = z; count = r.0.count } in let saw : ClosedMark.the_row.Denot = record { mark = record {}; names = z; seen = r.0.closed } in let g : Val = ghost_val in
     fsplit3 ! $ fpick ! (λ told. drop ! $ fsplit ! $ use0 𝓛 (‵ (TookData.own_val (record {}, tt) (g ∷ []))) (took_made 𝓛) $ fjoin ! $ move ! (1 ∷ []) $ use0 𝓛 (‵ (SawData.own_val (record {}, tt) (g ∷ []))) (saw_made 𝓛) $ fjoin ! $ move ! (1 ∷ 0 ∷ []) $
-    use2 𝓛 (‵ ((denote.Struct.Tuple.Tuple (Mark.the_row ∷ Saw.the_row ∷ [])).own_val (mark, saw) (pair_val g g ∷ []))) (pair_of 𝓛 Mark.the_row Saw.the_row mark saw g g) $
+    use2 𝓛 (‵ ((denote.Struct.Tuple.Tuple (Mark.the_row ∷ ClosedMark.the_row ∷ [])).own_val (mark, saw) (pair_val g g ∷ []))) (pair_of 𝓛 Mark.the_row ClosedMark.the_row mark saw g g) $
     move ! (1 ∷ []) $ fsplit ! $ move ! (3 ∷ 1 ∷ []) $ obor_close ! tt $ drop ! $ move ! (1 ∷ []) $ fsplit ! $ move ! (1 ∷ []) $ drop ! $ move ! (1 ∷ 0 ∷ []) $
     let k' : SRow.Denot = record k { owns = v.0; tickets = v.1.0; heard = v.1.1 } in
     rewrite ! 1 (λ (m : Names × Bool). ‵ (waits_in m.0 m.1 v.0 v.1.0 v.1.1)) {x = (k.names, k.for_reader)} {y = (z, false)} (λ i. (sym asked.0 i, sym asked.1 i)) refl $ move ! (3 ∷ 1 ∷ []) $ fjoin ! $ move ! (3 ∷ 0 ∷ 4 ∷ 5 ∷ 6 ∷ []) $ closes ! tt SRow k' vs' b' o' $

@@ -1,14 +1,14 @@
--- `heed` keeps the greater of two. Assumes `Logic`.
+-- `observe` keeps the greater of two. Assumes `Logic`.
 use Rattle.piper_ring.proofs.Kit.{◌≡◌, ℕ, List, [], ◌∷◌, max, refl, named, Val, vptr, SProp, emp, ftrue, flft, fhide, ‵, raw, ◌⊛◌, some, given, ◌$◌, ◌∵◌, !, qed, by, move, keep, drop, split, split3, join, fsplit, fsplit3, fjoin, fjoin3, pick, learn, use0, use1, use2, rewrite, feq_i, of_opd, returns, enter, alloc_all, pass_all, free_all, look_at, sets, env, mut_vals, mut_Tells, opens, closes, stay_ref, Goes-ref, vunit, unit_lit, fact, fact_i, tables, yes, RattleType, owns, types_at, plain, RefOf, shr_vals, shr_Tells, hidden_shr, unhide, nothing, lent_out, Stays, stay_dropped, walk_of, Goes-dropped, proved, leaves, Names, took}
 use denote.Builtin.{RawPtr}
 use Rattle.core.specs.contracts.marker.PhantomData as marker
 use Rattle.piper_ring.proofs.Fields.{TookData}
 use Rattle.piper_ring.proofs.Evidence.{greater}
 use Rattle.piper_ring.specs.contracts.ring.marks.ReadMark as Mark
-use Rattle.piper_ring.specs.contracts.ring.marks.ReadMark.heed.{ended, clauses}
-use Rattle.piper_ring.specs.contracts.ring.marks.ReadMark.heed.Key.{name as #self}
-use Rattle.piper_ring.proofs.ring.marks.ReadMark.heed.Statement.{statement}
-use Rattle.piper_ring.proofs.ring.marks.ReadMark.heed.Code as code
+use Rattle.piper_ring.specs.contracts.ring.marks.ReadMark.observe.{ended, clauses}
+use Rattle.piper_ring.specs.contracts.ring.marks.ReadMark.observe.Key.{name as #self}
+use Rattle.piper_ring.proofs.ring.marks.ReadMark.observe.Statement.{statement}
+use Rattle.piper_ring.proofs.ring.marks.ReadMark.observe.Code as code
 
 pub heed_spec : {M : Type 1} → statement M
 heed_spec 𝓤 𝓛 𝓜 𝓡 wired =

@@ -1,6 +1,6 @@
 -- Threads may share it.
 use Rattle.piper_ring.proofs.Kit.{IsSync, sendable, Struct, shape}
-use Rattle.piper_ring.specs.contracts.ring.marks.Saw.{the_row, the_type}
+use Rattle.piper_ring.specs.contracts.ring.marks.ClosedMark.{the_row, the_type}
 use Rattle.piper_ring.proofs.Evidence.{raised-Keyless}
 
 pub sync : IsSync the_row

@@ -1,9 +1,9 @@
 -- A `&` to a mark holds what it knows, which can be had twice. Assumes `Logic`.
 use Rattle.piper_ring.proofs.Kit.{snd∗, before, sem, RawPtr, copy_shared, field_copy, of_Lends, lends_twice, raised}
 use Rattle.core.specs.contracts.marker.PhantomData as marker
-use Rattle.piper_ring.specs.contracts.ring.marks.Saw as C
+use Rattle.piper_ring.specs.contracts.ring.marks.ClosedMark as C
 use Rattle.piper_ring.proofs.Evidence.{raised_twice}
-use Rattle.piper_ring.proofs.ring.marks.Saw.TheLaw.Statement.{statement}
+use Rattle.piper_ring.proofs.ring.marks.ClosedMark.TheLaw.Statement.{statement}
 
 pub shares : statement
 shares = of_Lends C.struct (C.the_codes (marker.the_row RawPtr).coded) C.the_heap C.the_lent

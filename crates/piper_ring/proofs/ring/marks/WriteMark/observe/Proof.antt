@@ -1,4 +1,4 @@
--- `heed` joins what two marks say. Assumes `Logic`.
+-- `observe` joins what two marks say. Assumes `Logic`.
 use Rattle.piper_ring.proofs.Kit.{◌≡◌, ℕ, List, [], ◌∷◌, length, max, refl, named, Val, vptr, SProp, emp, ftrue, flft, fhide, ‵, raw, ◌⊛◌, some, given, ◌$◌, ◌∵◌, !, qed, by, move, keep, drop, split, split3, join, fsplit, fsplit3, fjoin, fjoin3, pick, learn, use0, use1, use2, rewrite, feq_i, of_opd, returns, enter, alloc_all, pass_all, free_all, look_at, sets, env, mut_vals, mut_Tells, opens, closes, stay_ref, Goes-ref, vunit, unit_lit, fact, fact_i, tables, yes, RattleType, owns, types_at, plain, RefOf, shr_vals, shr_Tells, hidden_shr, unhide, nothing, lent_out, Stays, stay_dropped, walk_of, Goes-dropped, proved, leaves, Names, announced, flag, Stream, Reaches}
 use denote.Builtin.{RawPtr}
 use Rattle.core.specs.contracts.marker.PhantomData as marker
@@ -6,10 +6,10 @@ use Rattle.piper_ring.proofs.Fields.{SentData}
 use Rattle.piper_ring.proofs.Reaching.{Joined}
 use Rattle.piper_ring.proofs.Evidence.{both}
 use Rattle.piper_ring.specs.contracts.ring.marks.WriteMark as Mark
-use Rattle.piper_ring.specs.contracts.ring.marks.WriteMark.heed.{ended, clauses}
-use Rattle.piper_ring.specs.contracts.ring.marks.WriteMark.heed.Key.{name as #self}
-use Rattle.piper_ring.proofs.ring.marks.WriteMark.heed.Statement.{statement}
-use Rattle.piper_ring.proofs.ring.marks.WriteMark.heed.Code as code
+use Rattle.piper_ring.specs.contracts.ring.marks.WriteMark.observe.{ended, clauses}
+use Rattle.piper_ring.specs.contracts.ring.marks.WriteMark.observe.Key.{name as #self}
+use Rattle.piper_ring.proofs.ring.marks.WriteMark.observe.Statement.{statement}
+use Rattle.piper_ring.proofs.ring.marks.WriteMark.observe.Code as code
 
 pub heed_spec : {M : Type 1} → statement M
 heed_spec 𝓤 𝓛 𝓜 𝓡 wired =

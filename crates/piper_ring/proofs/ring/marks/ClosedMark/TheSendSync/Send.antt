@@ -1,6 +1,6 @@
 -- It may move to another thread.
 use denote.Param.Send.{IsSend}
-use Rattle.piper_ring.specs.contracts.ring.marks.Saw.{the_row}
+use Rattle.piper_ring.specs.contracts.ring.marks.ClosedMark.{the_row}
 use Rattle.piper_ring.proofs.Evidence.{raised-Keyless}
 
 pub send : IsSend the_row

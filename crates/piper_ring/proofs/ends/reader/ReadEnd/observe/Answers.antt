@@ -3,13 +3,13 @@ use Rattle.std.proofs.Common.{◌∙◌, rules, arith}
 use Rattle.std.proofs.lemmas.Grind.{common_steps}
 use base.Growing.{prefix_trans}
 use Rattle.piper_ring.specs.Streams.{Stream, reaches_trans}
-use Rattle.piper_ring.proofs.ends.reader.ReadEnd.heed.Goals as goal
+use Rattle.piper_ring.proofs.ends.reader.ReadEnd.observe.Goals as goal
 
 pub returns : goal.returns
 returns c = record { told = search rules; shut = search rules; agree = grind (arith, common_steps); last = grind (arith, common_steps); all = search rules; rest = search rules }
 
 pub invariant_of-self : goal.invariant_of-self
-invariant_of-self c = let e = c.self.inside.parts in let i = c.self.invariant in let t = c.heed.ensures in let h = c.heed-2.ensures in let g = c.heed.new.self in let k = c.heed-2.new.self in
+invariant_of-self c = let e = c.self.inside.parts in let i = c.self.invariant in let t = c.observe.ensures in let h = c.observe-2.ensures in let g = c.observe.new.self in let k = c.observe-2.new.self in
     let told : Stream = (e.told.bytes, e.told.shut) in let saw : Stream = (e.saw.bytes, e.saw.shut) in let heard : Stream = (e.heard.bytes, e.heard.shut) in let now : Stream = (k.bytes, k.shut) in
     record {
       fits = i.fits;
@@ -17,7 +17,7 @@ invariant_of-self c = let e = c.self.inside.parts in let i = c.self.invariant in
       counts = i.counts;
       cached = i.cached;
       heard = (t.ring ∙ i.heard.0, i.heard.1, h.ring ∙ i.heard.2);
-      stream = (prefix_trans e.seat.have e.heard.bytes k.bytes i.stream.0 h.kept.0, t.no_more now (reaches_trans told heard now i.stream.1 h.kept) h.heeded, reaches_trans saw heard now i.stream.2 h.kept);
+      stream = (prefix_trans e.seat.have e.heard.bytes k.bytes i.stream.0 h.kept.0, t.no_more now (reaches_trans told heard now i.stream.1 h.kept) h.observed, reaches_trans saw heard now i.stream.2 h.kept);
       leased = i.leased;
       whole = i.whole;
       here = i.here;

@@ -1,13 +1,13 @@
--- `again` copies what is known. Assumes `Logic`.
+-- `duplicate` copies what is known. Assumes `Logic`.
 use Rattle.piper_ring.proofs.Kit.{◌≡◌, ℕ, [], ◌∷◌, refl, named, Val, vptr, SProp, emp, Share, ftrue, flft, fhide, ‵, raw, ◌⊛◌, ◌$◌, ◌∵◌, !, qed, by, move, keep, drop, split, join, fsplit, fjoin, use0, use1, no_more, and_then, returns, enter, alloc_all, pass_all, free_all, look_at, get, sets, env, agg, fact, fact_i, tables, yes, owns, types_at, plain, RefOf, shr_vals, shr_Tells, hidden_shr, unhide, nothing, lent_out, Stays, stay_dropped, walk_of, Goes-dropped, proved, leaves, Names, announced}
 use denote.Builtin.{RawPtr}
 use Rattle.core.specs.contracts.marker.PhantomData as marker
 use Rattle.piper_ring.proofs.Fields.{ghost_val, SentData, sent_made}
 use Rattle.piper_ring.specs.contracts.ring.marks.WriteMark as Mark
-use Rattle.piper_ring.specs.contracts.ring.marks.WriteMark.again.{ended, clauses}
-use Rattle.piper_ring.specs.contracts.ring.marks.WriteMark.again.Key.{name as #self}
-use Rattle.piper_ring.proofs.ring.marks.WriteMark.again.Statement.{statement}
-use Rattle.piper_ring.proofs.ring.marks.WriteMark.again.Code as code
+use Rattle.piper_ring.specs.contracts.ring.marks.WriteMark.duplicate.{ended, clauses}
+use Rattle.piper_ring.specs.contracts.ring.marks.WriteMark.duplicate.Key.{name as #self}
+use Rattle.piper_ring.proofs.ring.marks.WriteMark.duplicate.Statement.{statement}
+use Rattle.piper_ring.proofs.ring.marks.WriteMark.duplicate.Code as code
 
 pub again_spec : {M : Type 1} → statement M
 again_spec 𝓤 𝓛 𝓜 𝓡 wired =

@@ -3,7 +3,7 @@ use Rattle.std.specs.Prelude.{◌≡◌, ℕ, Bool, true, false}
 use Rattle.piper_cells.specs.declared.token_cell.Token.{Token}
 use Rattle.piper_ring.specs.Shared.{Names}
 use Rattle.piper_ring.specs.Loads.{FoundLeft}
-use Rattle.piper_ring.specs.Slots.{Stored, nothing_stored, Waits as WaitsOf, Wakes as WakesOf}
+use Rattle.piper_ring.specs.Slot.{Stored, nothing_stored, Waits as WaitsOf, Wakes as WakesOf}
 use Rattle.piper_ring.specs.Words.{flag}
 use Rattle.piper_ring.specs.declared.ring.slots.WaiterState.{WaiterState}
 use Rattle.piper_ring.specs.declared.ring.slots.Wakes.{Wakes}
