@@ -2,7 +2,6 @@
 //! its waker, of any type, into its place, and whoever takes its ticket gets it out. Both share the
 //! place, and the right to it is one side's at each moment, or the slot's.
 ghost use Rattle.std.specs.Prelude.{◌≡◌, ℕ, Bool, true, not, IsFalse};
-ghost use Rattle.piper_ring.specs.Cells.{AreCellsOf};
 ghost use Rattle.piper_ring.specs.Shared.{Names, waker_place};
 ghost use Rattle.piper_ring.specs.Slot.{PublishesWaker, Stored};
 
@@ -11,10 +10,9 @@ pub(crate) mod reader;
 pub(crate) mod side;
 pub(crate) mod writer;
 
-use crate::ends::cells::WakerCells;
 use crate::ring::slots::{SlotWords, WaiterState, Wakes};
-use piper_cells::lent_space::Placed;
-use piper_cells::token_cell::{Token, TokenCell};
+use piper_cells::lent_space::Lease;
+use piper_cells::token_cell::Token;
 use std::marker::Model;
 
 /// The other end has the place of this end's waker: the waker was not registered any more, and the
@@ -49,14 +47,9 @@ pub trait SlotEnd {
         ensures stored { (result.for_reader ≡ not READS)
             × (result.stored ≡ stored_of self.now) };
 
-    /// The place of the reader's waker, or of the writer's.
-    fn place<'a, T>(
-        &'a self,
-        cells: &'a Placed<WakerCells<T>>,
-        is_readers: bool,
-    ) -> &'a TokenCell<Option<T>>
-        requires { AreCellsOf (names_of self.now) cells.now }
-        ensures { result.now ≡ waker_place (names_of self.now) is_readers };
+    /// What keeps the space of the wakers' places lent.
+    fn lease(&self) -> &Lease
+        ensures { result.now.life ≡ (names_of self.now).life };
 
     /// Its waker, which lies in its place, is registered in its slot, under the next ticket. With it
     /// comes evidence of what the other had stored when it last checked the slot.

@@ -2,7 +2,6 @@
 ghost use Rattle.std.specs.Prelude.{◌≡◌, ◌<◌, ◌≤◌, ◌++◌, ◌↔◌, [], length, take, drop, None, IsSome, true, false, is_some, IsTrue};
 ghost use Rattle.piper_ring.specs.Log.{Comes, made, next, now, then};
 
-use crate::ends::cells::WakerCells;
 use crate::ends::finished::{Finished, FinishedReader};
 use crate::ends::reader::ReadEnd;
 use crate::ends::slots::side::Side;
@@ -11,8 +10,8 @@ use crate::ends::slots::{Registrations, SlotEnd};
 use crate::ring::marks::{LastReadMark, WriteMark};
 use crate::ring::memory::{WRITER_BACK, WRITER_FLAG};
 use crate::ring::slots::{SlotWords, WaiterState};
-use piper_cells::lent_space::Placed;
-use piper_cells::token_cell::{Token, TokenCell};
+use piper_cells::lent_space::Lease;
+use piper_cells::token_cell::Token;
 use piper_protocol::table::{Action, Found};
 
 /// The reader's side of a ring whose sides can wait.
@@ -45,17 +44,8 @@ impl SlotEnd for ReadEnd {
     }
 
     #[inline(always)]
-    fn place<'a, T>(
-        &'a self,
-        cells: &'a Placed<WakerCells<T>>,
-        is_readers: bool,
-    ) -> &'a TokenCell<Option<T>> {
-        let cells = cells.get(&self.parts.lease);
-        if is_readers {
-            &cells.reader
-        } else {
-            &cells.writer
-        }
+    fn lease(&self) -> &Lease {
+        &self.parts.lease
     }
 
     #[inline(always)]

@@ -1,6 +1,7 @@
 //! A side of a ring: how it waits in its slot, and wakes whoever waits in the other's.
 ghost use Rattle.std.specs.Prelude.{◌≡◌, ◌<◌, ◌≢◌, None, IsSome, IfOk, IfErr, true, false, is_some, not, IsTrue, IsFalse};
 ghost use Rattle.piper_ring.specs.Cells.{AreCellsOf};
+ghost use Rattle.piper_ring.specs.Shared.{waker_place};
 ghost use Rattle.piper_ring.specs.Log.{IsOutside, began, drew, made, next, other, own};
 
 use crate::ends::cells::WakerCells;
@@ -8,6 +9,7 @@ use crate::ends::slots::{Away, Registrations, SlotEnd};
 use crate::log::Log;
 use crate::ring::memory::flag_of;
 use piper_cells::lent_space::Placed;
+use piper_cells::token_cell::TokenCell;
 use piper_protocol::table::{Action, Found, Point};
 
 /// A side of a ring whose sides can wait.
@@ -23,6 +25,24 @@ pub struct Side<E: SlotEnd, T> {
     pub(crate) log: Log,
     ghost of_one_ring: { slots.names ≡ E.names_of end },
     ghost places: { AreCellsOf slots.names cells },
+}
+
+/// The place of the reader's waker, or of the writer's.
+#[inline(always)]
+fn place<'a, E: SlotEnd, T>(
+    end: &'a E,
+    cells: &'a Placed<WakerCells<T>>,
+    is_readers: bool,
+) -> &'a TokenCell<Option<T>>
+    requires { AreCellsOf (E.names_of end.now) cells.now }
+    ensures { result.now ≡ waker_place (E.names_of end.now) is_readers }
+{
+    let cells = cells.get(end.lease());
+    if is_readers {
+        &cells.reader
+    } else {
+        &cells.writer
+    }
 }
 
 impl<E: SlotEnd, T> Side<E, T> {
@@ -135,7 +155,7 @@ impl<E: SlotEnd, T> Side<E, T> {
         if found == 0 {
             return None;
         }
-        let waker = self.end.place(&self.cells, E::READS).take(&mut right);
+        let waker = place(&self.end, &self.cells, E::READS).take(&mut right);
         parts.right = Some(right);
         Some(waker)
     }
@@ -208,7 +228,7 @@ impl<E: SlotEnd, T> Side<E, T> {
         let Some(mut right) = parts.right.take() else {
             unreachable!()
         };
-        self.end.place(&self.cells, E::READS).put(&mut right, waker);
+        place(&self.end, &self.cells, E::READS).put(&mut right, waker);
         parts.maybe_registered = true;
         parts.heard = self.end.register(&mut parts.waits, right);
     }
@@ -256,7 +276,7 @@ impl<E: SlotEnd, T> Side<E, T> {
             self.log.slot_loaded(false);
             return None;
         }
-        let waker = self.end.place(&self.cells, !E::READS).take(&mut right);
+        let waker = place(&self.end, &self.cells, !E::READS).take(&mut right);
         self.end.slot_words().give_back(wakes, right, flag + 1);
         self.log.slot_loaded(true);
         Some(waker)

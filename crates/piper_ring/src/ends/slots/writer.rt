@@ -3,7 +3,6 @@ ghost use Rattle.std.specs.Prelude.{◌≡◌, ◌+◌, ◌-◌, ◌<◌, ◌≤
 ghost use Rattle.std.specs.Borrow.{sem};
 ghost use Rattle.piper_ring.specs.Log.{Comes, looked, made, next, now, then};
 
-use crate::ends::cells::WakerCells;
 use crate::ends::finished::{Finished, FinishedWriter};
 use crate::ends::slots::side::Side;
 use crate::ends::slots::{Registrations, SlotEnd};
@@ -11,8 +10,8 @@ use crate::ends::writer::WriteEnd;
 use crate::ring::marks::{LastReadMark, ReadMark, ClosedMark};
 use crate::ring::memory::{READER_BACK, READER_FLAG};
 use crate::ring::slots::{SlotWords, WaiterState};
-use piper_cells::lent_space::Placed;
-use piper_cells::token_cell::{Token, TokenCell};
+use piper_cells::lent_space::Lease;
+use piper_cells::token_cell::Token;
 use piper_protocol::table::{Action, Found};
 
 /// The writer's side of a ring whose sides can wait.
@@ -52,17 +51,8 @@ impl SlotEnd for WriteEnd {
     }
 
     #[inline(always)]
-    fn place<'a, T>(
-        &'a self,
-        cells: &'a Placed<WakerCells<T>>,
-        is_readers: bool,
-    ) -> &'a TokenCell<Option<T>> {
-        let cells = cells.get(&self.parts.lease);
-        if is_readers {
-            &cells.reader
-        } else {
-            &cells.writer
-        }
+    fn lease(&self) -> &Lease {
+        &self.parts.lease
     }
 
     #[inline(always)]

@@ -9,8 +9,8 @@ use Rattle.piper_cells.specs.contracts.lent_space.Placed.duplicate.Key.{name as 
 use Rattle.piper_cells.proofs.lent_space.Placed.duplicate.Statement.{statement}
 use Rattle.piper_cells.proofs.lent_space.Placed.duplicate.Code as code
 
-pub again_spec : {M : Type 1} → statement M
-again_spec 𝓤 𝓛 𝓜 𝓡 wired X L =
+pub duplicate_spec : {M : Type 1} → statement M
+duplicate_spec 𝓤 𝓛 𝓜 𝓡 wired X L =
     let H = 𝓛.H in let 𝓣 = tables 𝓤 H 𝓜 𝓡 𝓡.env in let R : RattleType = param 0 X in let En = ended X in let c = clauses X 𝓛 𝓜.mem 𝓡.returns in
     let inst = layouts (a_type ∷ []) (X, tt) in let fn = inst_fn inst code.function in let Row : RattleType = Placed.the_row R in
     let self = RefOf (0 ∷ []) tt (plain (λ _. Row)) (λ _. tt) in let hs : Stays En.signature.params En.kept = (stay_dropped self yes, tt) in

@@ -9,8 +9,8 @@ use Rattle.piper_ring.specs.contracts.ring.marks.ReadMark.duplicate.Key.{name as
 use Rattle.piper_ring.proofs.ring.marks.ReadMark.duplicate.Statement.{statement}
 use Rattle.piper_ring.proofs.ring.marks.ReadMark.duplicate.Code as code
 
-pub again_spec : {M : Type 1} → statement M
-again_spec 𝓤 𝓛 𝓜 𝓡 wired =
+pub duplicate_spec : {M : Type 1} → statement M
+duplicate_spec 𝓤 𝓛 𝓜 𝓡 wired =
     let H = 𝓛.H in let 𝓣 = tables 𝓤 H 𝓜 𝓡 𝓡.env in let En = ended in let fn = code.function in let c = clauses 𝓛 𝓜.mem 𝓡.returns in
     let self = RefOf (0 ∷ []) tt (plain (λ _. Mark.the_row)) (λ _. tt) in
     let hs : Stays En.signature.params En.kept = (stay_dropped self yes, tt) in

@@ -11,8 +11,8 @@ use Rattle.piper_ring.specs.contracts.ring.marks.WriteMark.observe.Key.{name as 
 use Rattle.piper_ring.proofs.ring.marks.WriteMark.observe.Statement.{statement}
 use Rattle.piper_ring.proofs.ring.marks.WriteMark.observe.Code as code
 
-pub heed_spec : {M : Type 1} → statement M
-heed_spec 𝓤 𝓛 𝓜 𝓡 wired =
+pub observe_spec : {M : Type 1} → statement M
+observe_spec 𝓤 𝓛 𝓜 𝓡 wired =
     let H = 𝓛.H in let 𝓣 = tables 𝓤 H 𝓜 𝓡 𝓡.env in let En = ended in let fn = code.function in let c = clauses 𝓛 𝓜.mem 𝓡.returns in
     let Row : RattleType = Mark.the_row in let self = plain (λ _. Row) in let ref = RefOf (1 ∷ []) tt (plain (λ _. Row)) (λ _. tt) in
     let hs : Stays En.signature.params En.kept = (stay_ref (0 ∷ []) tt self, (stay_dropped ref yes, tt)) in
