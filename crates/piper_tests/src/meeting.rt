@@ -39,7 +39,7 @@ fn without_a_meeting_the_writer_takes_one_byte(rt: HostRuntime) {
     same(&rt, &"taken", taken_after(&rt, false), 1);
 }
 
-/// A poll after a observed mark finds the bytes that were published before it.
+/// A poll after an observed mark finds the bytes that were published before it.
 fn finds_what_was_marked<H>(rt: &H)
 where
     H: Abort + Wait + RandomSource + AllocGlobal,

@@ -32,7 +32,7 @@ pub(crate) struct LeavingReader {
 
 impl LeavingReader {
     /// Leaves, and frees the memory if the writer has left. With it comes what is left in the places
-    /// of the wakers then, where these are handed over.
+    /// of the wakers then, if these are handed over.
     pub(crate) fn leave<T>(self, cells: Option<&Placed<WakerCells<T>>>) -> LeftWakers<T>
         requires { IfSome cells (λ c. AreCellsOf self.seat.names c.now) }
         ensures { IfSome cells.entry (λ _. GetsLeft self.seat.names result) }
@@ -64,7 +64,7 @@ pub(crate) struct LeavingWriter {
 
 impl LeavingWriter {
     /// Leaves, and frees the memory if the reader has left. With it comes what is left in the places
-    /// of the wakers then, where these are handed over.
+    /// of the wakers then, if these are handed over.
     pub(crate) fn leave<T>(self, cells: Option<&Placed<WakerCells<T>>>) -> LeftWakers<T>
         requires { IfSome cells (λ c. AreCellsOf self.seat.names c.now) }
         ensures { IfSome cells.entry (λ _. GetsLeft self.seat.names result) }
@@ -81,7 +81,7 @@ impl LeavingWriter {
     }
 }
 
-/// Frees what an end got when it left: all of the memory where `found` is 1, else nothing. With it
+/// Frees what an end got when it left: all of the memory if `found` is 1, else nothing. With it
 /// comes what is left in the places of the wakers: the other end may have registered after this one
 /// looked for it.
 fn release<T>(
@@ -117,7 +117,7 @@ fn release<T>(
     left
 }
 
-/// What is left in both places, where these are 1: the reader's first.
+/// What is left in both places, if these are 1: the reader's first.
 fn take_both<T>(
     places: &WakerCells<T>,
     reader: u64,

@@ -23,7 +23,7 @@ use piper_protocol::indices::{ReadIndices, WriteIndices};
 use piper_protocol::memory::OutOfMemory;
 use std::alloc::{AllocError, Global};
 
-/// The two ends of a new ring for `capacity` bytes. Where memory is refused, all that was got is
+/// The two ends of a new ring for `capacity` bytes. If memory is refused, all that was got is
 /// given back.
 pub fn open_ring(alloc: Global, capacity: usize) -> Result<(ReadEnd, WriteEnd), OutOfMemory>
     requires { (0 < capacity) × (2 * capacity < 2 ^ 64) }
@@ -48,7 +48,7 @@ pub fn open_ring(alloc: Global, capacity: usize) -> Result<(ReadEnd, WriteEnd), 
     Ok((reader, writer))
 }
 
-/// The two sides of a new ring for `capacity` bytes, in whose slots nobody waits yet. Where memory
+/// The two sides of a new ring for `capacity` bytes, in whose slots nobody waits yet. If memory
 /// is refused, all that was got is given back.
 ///
 /// The places of both sides' wakers lie between the words of the ring, so they take 48 bytes.

@@ -3,7 +3,7 @@ ghost use Rattle.std.specs.Prelude.{◌≡◌, ℕ, ◌+◌, ◌-◌, ◌*◌, �
 
 use crate::ends::leaving::LeavingReader;
 use crate::ends::writer::WriteEnd;
-use crate::ring::marks::{LastReadMark, ReadMark, ClosedMark, WriteMark};
+use crate::ring::marks::{ClosedMark, LastReadMark, ReadMark, WriteMark};
 use crate::ring::places::Places;
 use crate::ring::seats::ReadSeat;
 use piper_cells::lent_space::Lease;
@@ -110,7 +110,7 @@ impl ReadEnd {
         self.parts.seat.load_closed(&mut saw, &self.parts.told) != 0
     }
 
-    /// The known bytes that are contiguous, at least one where any is known. The slice stays as it
+    /// The known bytes that are contiguous, at least one if any is known. The slice stays as it
     /// is while the writer writes and publishes.
     pub fn peek_buf(&self) -> &[u8]
         ensures bytes { result.now ≡ take (in_one_piece self.now) self.now.known }
@@ -170,7 +170,7 @@ impl ReadEnd {
         self.parts.heard.observe(mark);
     }
 
-    /// `load_tail`, where it knows of no byte.
+    /// `load_tail`, if it knows of no byte.
     pub fn refresh(&mut self)
         ensures fresh { self.old.known ≡ [] →
             self.old.told ≤ length (self.new.taken ++ self.new.known) }
@@ -186,7 +186,7 @@ impl ReadEnd {
     }
 
     /// Both ends held by one thread: then this end knows of all that was published, and the other
-    /// of all the free room, and where either saw the pipe closed the writer closed it: what the
+    /// of all the free room, and if either saw the pipe closed, the writer closed it: what the
     /// reader took for the end is all that was published.
     pub fn meet(&mut self, other: &mut WriteEnd)
         requires { other.old.ring ≡ self.old.ring }
@@ -204,7 +204,7 @@ impl ReadEnd {
         writer.indices.set_head(reader.indices.head());
     }
 
-    /// Loads closed, and keeps what it saw. Where it is, it is known from then
+    /// Loads closed, and keeps what it saw. If it is closed, it is known from then
     /// on where the pipe ends.
     pub fn load_closed(&mut self) -> bool
         ensures end { IsTrue result → HasTheRest self.new }
@@ -252,7 +252,7 @@ impl ReadEnd {
         parts.seat.store_head(back, parts.indices.head() as u64);
     }
 
-    /// Closes the pipe and lets this end go. The memory is freed if the writer's end is gone. It
+    /// Closes the pipe and drops this end. The memory is freed if the writer's end is gone. It
     /// wakes nobody, and a waker that lies in its place then is forgotten: `finish` of the side
     /// hands it over.
     ///

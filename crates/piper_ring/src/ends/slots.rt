@@ -67,8 +67,8 @@ pub trait SlotEnd {
 #[derive(Drop)]
 pub(crate) struct SlotParts<H> {
     pub(crate) waits: WaiterState,
-    /// The right to the place of its waker, where it is not in the slot or with the other end: then
-    /// nothing lies there.
+    /// The right to the place of its waker, unless it is in the slot or with the other end: nothing
+    /// lies there then.
     pub(crate) right: Option<Token>,
     /// Whether its waker may be registered in the slot: since it registered, no look found it gone.
     pub(crate) maybe_registered: bool,

@@ -3,7 +3,7 @@ ghost use Rattle.std.specs.Prelude.{◌≡◌, ℕ, ◌+◌, ◌-◌, ◌*◌, �
 
 use crate::ends::leaving::LeavingWriter;
 use crate::ends::room::Room;
-use crate::ring::marks::{LastReadMark, ReadMark, ClosedMark, WriteMark};
+use crate::ring::marks::{ClosedMark, LastReadMark, ReadMark, WriteMark};
 use crate::ring::seats::WriteSeat;
 use piper_cells::lent_space::Lease;
 use piper_protocol::indices::WriteIndices;
@@ -216,7 +216,7 @@ impl WriteEnd {
         parts.seat.store_tail(gift, parts.indices.tail() as u64);
     }
 
-    /// `load_head`, where it knows of no room.
+    /// `load_head`, if it knows of no room.
     pub fn refresh(&mut self)
         ensures fresh { self.old.room ≡ 0 →
             self.old.told + self.old.capacity ≤ length self.new.sent + self.new.room }
@@ -229,7 +229,7 @@ impl WriteEnd {
         }
     }
 
-    /// Lends at most `max` bytes of the room, in one piece, to be written: at least one where there
+    /// Lends at most `max` bytes of the room, in one piece, to be written: at least one if there
     /// is room, one is asked for and the pipe wasn't closed here. It replaces what was lent before;
     /// what is in the bytes is not said.
     pub fn write_buf(&mut self, max: usize) -> &mut [u8]

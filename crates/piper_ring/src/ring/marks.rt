@@ -7,7 +7,7 @@ ghost use Rattle.piper_ring.specs.Streams.{Stream, Reaches};
 
 use std::marker::{Model, PhantomData, Send, Sync};
 
-/// The bytes published begin with `bytes`, and where `shut` is `true` they are all: the writer
+/// The bytes published begin with `bytes`, and if `shut` is `true` they are all: the writer
 /// closed the pipe after them.
 pub struct WriteMark {
     pub(crate) mark: PhantomData<*mut u8>,
@@ -112,7 +112,7 @@ impl Drop for LastReadMark {
     }
 }
 
-/// Where `seen` is `true`, the ring was seen closed.
+/// If `seen` is `true`, the ring was seen closed.
 pub struct ClosedMark {
     pub(crate) mark: PhantomData<*mut u8>,
     pub(crate) ghost names: { Names } by { names_code },

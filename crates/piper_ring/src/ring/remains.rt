@@ -10,7 +10,7 @@ use piper_cells::lent_space::{Lease, Lender};
 use piper_cells::token_cell::Token;
 use std::marker::{Model, PhantomData};
 
-/// What the end gets that leaves: all of the ring's memory where it is the last, else nothing.
+/// What the end gets that leaves: all of the ring's memory if it is the last, else nothing.
 pub(crate) struct Remains {
     pub(crate) words: *mut u64,
     pub(crate) ghost at: { Ptr },

@@ -8,7 +8,7 @@ ghost use Rattle.piper_ring.specs.Block.{space_of, space_words};
 ghost use Rattle.piper_ring.specs.Loads.{FoundClosed, FoundConsumed, FoundGone, FoundPublished};
 ghost use Rattle.piper_ring.specs.SlotValues.{IsUnused, LooksFirst};
 
-use crate::ring::marks::{ReadMark, ClosedMark, WriteMark};
+use crate::ring::marks::{ClosedMark, ReadMark, WriteMark};
 use crate::ring::memory::{
     CLOSED_WORD, HEAD_WORD, LEFT_WORD, Parts, READER_BACK, READER_FLAG, TAIL_WORD, WORDS_SIZE,
     WRITER_BACK, WRITER_FLAG,
@@ -160,7 +160,7 @@ impl ReadSeat {
     }
 
     /// Where the tail is: no less than the reader has seen or was told of, and right at the end
-    /// where it was told of that. With it comes evidence of the bytes that were published.
+    /// if it was told of that. With it comes evidence of the bytes that were published.
     pub(crate) fn load_tail(&self, told: &WriteMark) -> (u64, WriteMark)
         requires { told.now.names ≡ self.now.names }
         ensures ring { result.1.names ≡ self.now.names }
@@ -250,7 +250,7 @@ impl ReadSeat {
 
     /// Both ends held by one thread: the reader gets the places of all bytes that were published,
     /// and the writer those of all that were consumed. What the reader heard of the end is so, and
-    /// where the writer saw the ring closed it closed it itself.
+    /// if the writer saw the ring closed, it closed it itself.
     pub(crate) fn meet(
         &mut self,
         other: &mut WriteSeat,

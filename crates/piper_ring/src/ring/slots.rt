@@ -6,7 +6,7 @@ ghost use denote.RawPtr.{Ptr};
 ghost use Rattle.piper_ring.specs.Shared.{Names, names_code, waits_in, wakes_in, words_lent};
 ghost use Rattle.piper_ring.specs.Slot.{Stored, as_stored, stored_code};
 
-use crate::ring::marks::{ReadMark, ClosedMark, WriteMark};
+use crate::ring::marks::{ClosedMark, ReadMark, WriteMark};
 use crate::ring::memory::{READER_FLAG, WRITER_FLAG};
 use crate::ring::seats::{ReadSeat, WriteSeat};
 use piper_cells::token_cell::Token;
@@ -14,7 +14,7 @@ use std::marker::{Brand, Model, PhantomData, Send, Sync};
 use std::sync::atomic::Ordering::SeqCst;
 use std::sync::atomic::raw;
 
-/// A side, at the slot in which it waits: the reader at its own where `for_reader` is `true`, else
+/// A side, at the slot in which it waits: the reader at its own if `for_reader` is `true`, else
 /// the writer at its own. `owns` is whether it has the place of the waker, `tickets` how often it
 /// registered, and `heard` what the other side had stored when it checked last before that.
 pub struct WaiterState {
@@ -42,7 +42,7 @@ impl Drop for WaiterState {
     }
 }
 
-/// A side, at the slot in which the other waits: the writer at the reader's where `for_reader` is
+/// A side, at the slot in which the other waits: the writer at the reader's if `for_reader` is
 /// `true`, else the reader at the writer's. `holds` is whether it has the place of the waker,
 /// `taken` whose ticket it took last, and `stored` what it had stored when it checked last.
 pub(crate) struct Wakes {
@@ -71,7 +71,7 @@ impl Drop for Wakes {
 }
 
 /// The words of both slots, which an end lends: so the ring is open. `stored` is what that end has
-/// stored, the writer for the reader where `for_reader` is `true`, else the reader for the writer.
+/// stored, the writer for the reader if `for_reader` is `true`, else the reader for the writer.
 pub struct SlotWords<'a> {
     words: *mut u64,
     mark: PhantomData<&'a u8>,
@@ -93,7 +93,7 @@ impl<'a> SlotWords<'a> {
     ghost use Rattle.piper_ring.specs.Slot.{GivesBack, IsRemembered, Looks, Reclaims, Takes};
     ghost use Rattle.piper_ring.specs.SlotValues.{IsTokenOf, SameWaiter, SameWaker, of_waits, of_wakes};
 
-    /// 1 where this side's waker is registered in its slot, else 0.
+    /// 1 if this side's waker is registered in its slot, else 0.
     pub(crate) fn is_registered(self, slot: &mut WaiterState, flag: usize) -> u64
         requires { (slot.old.names ≡ self.names) × (flag ≡ flag_word slot.old.for_reader) }
         ensures kept { slot.new ≡ slot.old }
@@ -105,7 +105,7 @@ impl<'a> SlotWords<'a> {
         unsafe { raw::load::<Brand>(words.add(flag), SeqCst) }
     }
 
-    /// 1 where this side's waker was registered in its slot and is this side's again, with the
+    /// 1 if this side's waker was registered in its slot and is this side's again, with the
     /// right to its place, else 0.
     pub(crate) fn cancel(self, slot: &mut WaiterState, flag: usize) -> (u64, Token)
         requires { (slot.old.names ≡ self.names) × (slot.old.owns ≡ false)
@@ -123,7 +123,7 @@ impl<'a> SlotWords<'a> {
         (found, Token { mark: PhantomData })
     }
 
-    /// 1 where the other side had handed the place of this side's waker back, with nothing in it,
+    /// 1 if the other side had handed the place of this side's waker back, with nothing in it,
     /// else 0.
     pub(crate) fn reclaim(self, slot: &mut WaiterState, back: usize) -> (u64, Token)
         requires { (slot.old.names ≡ self.names) × (slot.old.owns ≡ false)
@@ -141,7 +141,7 @@ impl<'a> SlotWords<'a> {
         (found, Token { mark: PhantomData })
     }
 
-    /// 1 where a waker is registered in the other side's slot, else 0: then this check came after
+    /// 1 if a waker is registered in the other side's slot, else 0: then this check came after
     /// all that this side had stored.
     pub(crate) fn load_flag(self, slot: &mut Wakes, flag: usize) -> u64
         requires { (slot.old.names ≡ self.names) × (slot.old.for_reader ≡ self.for_reader)
@@ -156,7 +156,7 @@ impl<'a> SlotWords<'a> {
         unsafe { raw::load::<Brand>(words.add(flag), SeqCst) }
     }
 
-    /// 1 where it took the waker that was registered in the other side's slot, with the right to
+    /// 1 if it took the waker that was registered in the other side's slot, with the right to
     /// its place, else 0: then this check came after all that this side had stored.
     pub(crate) fn take_waker(self, slot: &mut Wakes, flag: usize) -> (u64, Token)
         requires { (slot.old.names ≡ self.names) × (slot.old.for_reader ≡ self.for_reader)
@@ -221,7 +221,11 @@ impl WriteSeat {
 
     /// The writer's waker, which lies in its place, is registered in its slot, under the next
     /// ticket. With it comes evidence of what the reader had stored when it last checked the slot.
-    pub(crate) fn publish_waker(&self, slot: &mut WaiterState, right: Token) -> (ReadMark, ClosedMark)
+    pub(crate) fn publish_waker(
+        &self,
+        slot: &mut WaiterState,
+        right: Token,
+    ) -> (ReadMark, ClosedMark)
         requires { (slot.old.names ≡ self.now.names) × (slot.old.for_reader ≡ false)
             × (slot.old.owns ≡ true) × IsTokenOf self.now.names.writer_place true true right }
         ensures side { SameWaiter slot.old slot.new }
@@ -235,7 +239,10 @@ impl WriteSeat {
         // SAFETY: the seat owns or shares the ring's words (`also_owns`, `also_shares`), which live
         // until the last end is gone.
         unsafe { raw::store::<Brand>(self.words.add(WRITER_FLAG), 1, SeqCst) };
-        (ReadMark { mark: PhantomData }, ClosedMark { mark: PhantomData })
+        (
+            ReadMark { mark: PhantomData },
+            ClosedMark { mark: PhantomData },
+        )
     }
 }
 
@@ -244,7 +251,7 @@ impl ReadSeat {
     ghost use Rattle.piper_ring.specs.SlotValues.{IsTokenOf, SameWaiter, of_waits};
 
     /// The words of both slots, with evidence of what the reader consumed, and that the ring is
-    /// closed, where `saw` says so.
+    /// closed, if `saw` says so.
     #[inline(always)]
     pub(crate) fn slot_words(&self, saw: &ClosedMark) -> SlotWords<'_>
         requires { saw.now.names ≡ self.now.names }

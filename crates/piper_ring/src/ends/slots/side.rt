@@ -132,7 +132,7 @@ impl<E: SlotEnd, T> Side<E, T> {
         waker
     }
 
-    /// Takes its waker back, where it is still registered in this side's slot.
+    /// Takes its waker back, if it is still registered in this side's slot.
     pub fn cancel(&mut self) -> Option<T>
         ensures back { IsSome result → self.old.slots.owns ≡ false }
         ensures owns { IsSome result →
@@ -161,7 +161,7 @@ impl<E: SlotEnd, T> Side<E, T> {
     }
 
     /// Takes the place of its waker back, with the waker that is still registered there, if one is.
-    /// It fails where the other side has the place just now.
+    /// It fails if the other side has the place just now.
     pub fn reclaim_waker(&mut self) -> Result<Option<T>, Away>
         ensures owns { IfOk result (λ _.
             self.new.slots ≡ record self.old.slots { owns = true; maybe_registered = false }) }
@@ -234,7 +234,7 @@ impl<E: SlotEnd, T> Side<E, T> {
     }
 
     /// Checks after all that this side stored whether the other is registered in its slot.
-    /// Returns `true` where it isn't; else it is `take` that the table has next still.
+    /// Returns `true` if it isn't; else the table still has `take` next.
     #[inline(always)]
     pub fn nobody_waits(&mut self) -> bool
         requires turn { next self.old.log ≡ Action.Take (other E.READS) }
@@ -255,7 +255,7 @@ impl<E: SlotEnd, T> Side<E, T> {
         true
     }
 
-    /// After all that this side stored, takes the other's ticket where it is registered in its
+    /// After all that this side stored, takes the other's ticket if it is registered in its
     /// slot. Returns the waker that it put there, and its place is handed back.
     pub fn take(&mut self) -> Option<T>
         requires turn { next self.old.log ≡ Action.Take (other E.READS) }
@@ -282,7 +282,7 @@ impl<E: SlotEnd, T> Side<E, T> {
         Some(waker)
     }
 
-    /// With what the other side has of the slots, or what is left of that once it is gone: where
+    /// With what the other side has of the slots, or what is left of that once it is gone: if
     /// this side has registered, and the other stored something since and checked the slot, its last
     /// ticket was taken.
     pub fn meet_slot<O: SlotEnd>(&mut self, left: &mut Registrations<O>)

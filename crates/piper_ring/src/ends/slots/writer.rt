@@ -7,7 +7,7 @@ use crate::ends::finished::{Finished, FinishedWriter};
 use crate::ends::slots::side::Side;
 use crate::ends::slots::{Registrations, SlotEnd};
 use crate::ends::writer::WriteEnd;
-use crate::ring::marks::{LastReadMark, ReadMark, ClosedMark};
+use crate::ring::marks::{ClosedMark, LastReadMark, ReadMark};
 use crate::ring::memory::{READER_BACK, READER_FLAG};
 use crate::ring::slots::{SlotWords, WaiterState};
 use piper_cells::lent_space::Lease;
@@ -108,7 +108,7 @@ impl<T> Side<WriteEnd, T> {
         is_closed
     }
 
-    /// Loads closed, as `load_closed` of its end, where it has not seen it closed. Once it has
+    /// Loads closed, as `load_closed` of its end, if it has not seen it closed. Once it has
     /// registered it finds a close that the reader had stored before its last check of the slot
     /// ahead of the registration.
     #[inline(always)]
