@@ -43,7 +43,7 @@ ORDER = ["poll", "peek_buf", "write_buf", "consume", "produced", "try_drain", "t
          "poll_drain_bytes", "poll_fill_bytes", "poll_drain", "poll_fill", "poll_drain_with",
          "poll_fill_with", "try_drain_with", "try_fill_with", "poll_close", "is_closed", "len",
          "is_empty", "is_full", "capacity", "drop"]
-FOR_PROOFS = ["mark", "heed", "heed_last", "meet", "meet_finished", "end"]
+FOR_PROOFS = ["mark", "observe", "observe_last", "meet", "meet_finished", "end"]
 # An example for a type whose calls need one another: a file, and a function of it.
 WHOLE = {
     "Reader": ("crates/piper_examples/src/handles.rt", "poll_fill_bytes_and_poll_drain_bytes"),

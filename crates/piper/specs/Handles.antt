@@ -44,20 +44,16 @@ pub record DrawFrom (seed : ℕ) (r : Reader) (w : Writer) : Type 0 where
   pub reader : r.rng ≡ generator seed
   pub writer : w.rng ≡ generator (bit_xor seed 1)
 
--- what two sides have of their slots, before and after a call
-abbrev pub Slots : Type 1
-Slots = SlotsView → SlotsView → Type 0
-
 -- the same reader: its waker has the same place, its task the same source, and its generator draws
--- the same numbers next. What the call did at its slots is said by the first argument
-pub record SameReader (did : Slots) (a b : Reader) : Type 0 where
+-- the same numbers next. What happened at its slots is said by the first argument
+pub record SameReader (did : SlotsView → SlotsView → Type 0) (a b : Reader) : Type 0 where
   pub cells : b.side.cells ≡ a.side.cells
   pub source : b.source ≡ a.source
   pub rng : b.rng ≡ a.rng
   pub slots : did a.side.slots b.side.slots
 
 -- the same writer
-pub record SameWriter (did : Slots) (a b : Writer) : Type 0 where
+pub record SameWriter (did : SlotsView → SlotsView → Type 0) (a b : Writer) : Type 0 where
   pub cells : b.side.cells ≡ a.side.cells
   pub source : b.source ≡ a.source
   pub rng : b.rng ≡ a.rng
