@@ -157,9 +157,11 @@ def own_calls(crate, name):
 def trait_calls(page, crate, name, but=lambda trait: False):
     for trait, of_type, body in impls(crate):
         if trait and bare(of_type) == name and not but(bare(trait)):
-            for method in inner(body):
-                if method.clauses():
-                    impl_call(page, name, bare(trait), method, body.is_foreign(trait))
+            told = [method for method in inner(body) if method.clauses() or method.doc]
+            for method in told:
+                impl_call(page, name, bare(trait), method, body.is_foreign(trait))
+            if not all(method.clauses() for method in told):
+                page.folded(ghosts(body), body.uses, (), f"In clauses: what `{name}` says of itself as `{bare(trait)}`")
 
 
 def any_item(page, crate, name, path):

@@ -3,7 +3,6 @@ mod Front
 mod Copied
 pub mod Ended
 pub mod Traits
-pub mod Lending
 pub mod Clients
 mod LookingOut
 mod LookingIn

@@ -15,8 +15,7 @@ use Rattle.piper.specs.declared.error.CopyError.{CopyError}
 -- what a load of the head showed stays so while bytes are published into that room
 up_to_date : (a b : WriteView) → WriterFilled a b → IsReplaced a b → WriterIsUpToDate a → WriterIsUpToDate b
 up_to_date a b filled room now =
-    let capacity : b.capacity ≡ a.capacity = ap (λ (v : WriteView). v.capacity) filled.rest in
-    (
+    let capacity : b.capacity ≡ a.capacity = ap (λ (v : WriteView). v.capacity) filled.rest in (
       omega (arith, now.0, ap (λ (v : WriteView). v.told) filled.rest, capacity, room),
       (now.1.0, subst (λ (v : WriteView). FoundConsumed v.ring.names now.1.0) (sym filled.rest) now.1.1, omega (arith, now.1.2, capacity, room)),
     )

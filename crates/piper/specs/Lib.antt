@@ -21,6 +21,7 @@ pub mod OfReader
 pub mod OfWriter
 pub mod ReaderCalls
 pub mod WriterCalls
+pub mod Traits
 -- What the contracts of the ring's ends speak of.
 pub use Rattle.piper_ring.specs.ReadView
 pub use Rattle.piper_ring.specs.WriteView

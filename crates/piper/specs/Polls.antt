@@ -13,6 +13,14 @@ use Rattle.piper_protocol.specs.declared.table.TheConstants.{MOST_A_ROUND}
 abbrev pub Count : Type 0
 Count = Poll (Result ℕ PipeError)
 
+-- that of a call that lends: a piece of the bytes that are known
+abbrev pub Piece : Type 0
+Piece = Poll (Result (Bor (List ℕ)) PipeError)
+
+-- and that of a flush or a close
+abbrev pub Done : Type 0
+Done = Poll (Result (Unit {0}) PipeError)
+
 -- P holds where the poll was ready and nothing failed
 abbrev pub OnReadyOk : {A E : Type 0} → Poll (Result A E) → Type 0 → Type 0
 OnReadyOk (Ready (Ok x)) P = P
@@ -60,13 +68,14 @@ Reads (Ready (Err e)) old new before after saw = (after ≡ before) × (new ≡ 
 Reads Pending old new before after saw = (after ≡ before) × (new ≡ old)
 
 -- a slice that was written: of its first n bytes, which are counted, the first m were published;
--- and all n of them unless the pipe was seen closed, or else all but those of one round.
--- Else nothing was published
+-- and all n of them unless the pipe was seen closed, or else all but those of one round; and none of
+-- some is counted only where it was seen closed. Else nothing was published
 abbrev pub Writes : {E : Type 0} → Poll (Result ℕ E) → List ℕ → List ℕ → List ℕ → Bool → Type 0
 Writes (Ready (Ok n)) source before after saw =
     (n ≤ length source)
     × ((m : ℕ) × (m ≤ n) × (after ≡ before ++ take m source) × (saw ≡ false → m ≡ n)
     × (n ≤ m + MOST_A_ROUND))
+    × (n ≡ 0 → 0 < length source → saw ≡ true)
 Writes (Ready (Err e)) source before after saw = after ≡ before
 Writes Pending source before after saw = after ≡ before
 

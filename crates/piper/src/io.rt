@@ -6,7 +6,7 @@ ghost use Rattle.std.specs.Io.BufRead.{Rests};
 ghost use Rattle.futures.specs.Task.{Covers, Keeps};
 ghost use Rattle.futures.specs.Poll.{OnPending};
 ghost use Rattle.piper.specs.Contexts.{AsksAgain};
-ghost use Rattle.piper.specs.Polls.{After, Count, Lends, Reads, TakesNone, Writes, OnReadyOk, IfReadyOk, IfReadyErr};
+ghost use Rattle.piper.specs.Polls.{After, Count, Done, Lends, Piece, Reads, TakesNone, Writes, OnReadyOk, IfReadyOk, IfReadyErr};
 
 mod by_ref;
 mod copy;
@@ -58,9 +58,9 @@ pub trait AsyncRead {
     fn poll_read(&mut self, cx: &mut Context<'_>, dest: &mut [u8]) -> Poll<Result<usize, PipeError>>
         ensures read { Reads result dest.old dest.new
             (taken self.old) (taken self.new) (saw self.new) }
-        ensures end { result ≡ Poll.Ready (Ok 0) → 0 < length dest.old → ended self.new }
-        ensures after { ended self.old →
-            TakesNone result (ended self.new) (taken self.old) (taken self.new) }
+        ensures end { (result ≡ Poll.Ready (Ok 0) → 0 < length dest.old → ended self.new)
+            × (ended self.old →
+            TakesNone result (ended self.new) (taken self.old) (taken self.new)) }
         ensures says { says self.old self.new result dest.old dest.new cx.new }
         ensures stays { (told self.new ≡ told self.old)
             × (saw self.old ≡ true → saw self.new ≡ true) × (woken self.old → woken self.new) }
@@ -105,6 +105,13 @@ pub trait AsyncBufRead {
     // the other side was woken after all that this side stored
     ghost woken: { Self → Type 0 } = { λ _. ⊤ };
 
+    // what a poll says besides, of the reader before it and once the slice is given back, the
+    // answer, and the context
+    ghost lends: { Self → Self → Piece → Context → Type 0 } = { λ _ _ _ _. ⊤ };
+
+    // what a consume says besides, of the reader before and after it, and of how many bytes
+    ghost consumes: { Self → Self → ℕ → Type 0 } = { λ _ _ _. ⊤ };
+
     /// Lends the first piece of the bytes that it knows.
     ///
     /// Returns: an empty slice only at the end: after it no byte comes, and no call is pending.
@@ -123,7 +130,8 @@ pub trait AsyncBufRead {
             × (told new ≡ told self.old)
             × OnPending result ((told new ≡ false) × waits new cx.new)
             × OnPending result (Covers cx.new (needs new))
-            × (woken self.old → woken new))) }
+            × (woken self.old → woken new)
+            × lends self.old new result cx.new)) }
         ensures kept { Keeps cx.old cx.new };
 
     /// Takes the first `amt` bytes of the piece.
@@ -133,10 +141,10 @@ pub trait AsyncBufRead {
         requires { amt ≤ piece self.old }
         ensures known { known self.new ≡ drop amt (known self.old) }
         ensures taken { taken self.new ≡ taken self.old ++ take amt (known self.old) }
-        ensures saw { saw self.new ≡ saw self.old }
-        ensures told { told self.new ≡ told self.old }
+        ensures stays { (saw self.new ≡ saw self.old) × (told self.new ≡ told self.old) }
         ensures end { ended self.old → ended self.new }
-        ensures woken { woken self.old → woken self.new };
+        ensures woken { woken self.old → woken self.new }
+        ensures consumes { consumes self.old self.new amt };
 }
 
 /// A writer that may be pending.
@@ -169,6 +177,13 @@ pub trait AsyncWrite {
     // context: how many bytes it publishes, for one
     ghost says: { Self → Self → Count → List ℕ → Context → Type 0 } = { λ _ _ _ _ _. ⊤ };
 
+    // what a flush says besides, of the writer before and after it, the answer, and the context
+    // before and after
+    ghost flushes: { Self → Self → Done → Context → Context → Type 0 } = { λ _ _ _ _ _. ⊤ };
+
+    // what a close says besides, of the writer before and after it, and the answer
+    ghost closes: { Self → Self → Done → Type 0 } = { λ _ _ _. ⊤ };
+
     /// Publishes bytes from the front of `source`.
     ///
     /// Returns: how many bytes it counts. 0 for a `source` that is not empty says that the pipe is
@@ -178,8 +193,6 @@ pub trait AsyncWrite {
     /// Errors: those of the type. Nothing was published.
     fn poll_write(&mut self, cx: &mut Context<'_>, source: &[u8]) -> Poll<Result<usize, PipeError>>
         ensures written { Writes result source.now (sent self.old) (sent self.new) (saw self.new) }
-        ensures full { result ≡ Poll.Ready (Ok 0) →
-            0 < length source.now → saw self.new ≡ true }
         ensures says { says self.old self.new result source.now cx.new }
         ensures error { IfReadyErr result (fails self.new cx.new) }
         ensures over { saw self.old ≡ true → (result ≡ Poll.Ready (Ok 0)) × (saw self.new ≡ true) }
@@ -194,7 +207,8 @@ pub trait AsyncWrite {
     /// Pending: some of it is not yet. No byte is published by this call.
     /// Errors: those of the type.
     fn poll_flush(&mut self, cx: &mut Context<'_>) -> Poll<Result<(), PipeError>>
-        ensures flushed { OnReadyOk result (flushed self.new) }
+        ensures flushed { OnReadyOk result (flushed self.new)
+            × flushes self.old self.new result cx.old cx.new }
         ensures error { IfReadyErr result (fails self.new cx.new) }
         ensures sent { sent self.new ≡ sent self.old }
         ensures saw { saw self.new ≡ saw self.old }
@@ -210,8 +224,8 @@ pub trait AsyncWrite {
     /// call.
     /// Errors: those of the type.
     fn poll_close(&mut self, cx: &mut Context<'_>) -> Poll<Result<(), PipeError>>
-        ensures closed { OnReadyOk result (saw self.new ≡ true) }
-        ensures flushed { OnReadyOk result (flushed self.new) }
+        ensures closed { OnReadyOk result ((saw self.new ≡ true) × flushed self.new)
+            × closes self.old self.new result }
         ensures error { IfReadyErr result (fails self.new cx.new) }
         ensures sent { sent self.new ≡ sent self.old }
         ensures stays { saw self.old ≡ true → saw self.new ≡ true }

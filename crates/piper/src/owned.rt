@@ -1,12 +1,10 @@
 //! Handles that are dropped automatically, for a thread or a task that takes one with it.
-ghost use Rattle.std.specs.Prelude.{◌≡◌, ◌*◌, ◌^◌, ◌<◌, ◌≤◌, ◌++◌, take, drop, IfErr, IfOk, Ok};
+ghost use Rattle.std.specs.Prelude.{◌≡◌, ◌*◌, ◌^◌, ◌<◌, IfErr, IfOk};
 ghost use Rattle.std.specs.Borrow.{sem};
-ghost use Rattle.std.specs.Io.BufRead.{Rests};
-ghost use Rattle.futures.specs.Task.{Keeps};
-ghost use Rattle.piper.specs.Called.{CallsTaken, HasDropped};
+ghost use Rattle.piper.specs.Called.{HasDropped};
 ghost use Rattle.piper.specs.Contexts.{WantsWaker};
 ghost use Rattle.piper.specs.Looks.{IsEnded};
-ghost use Rattle.piper.specs.Waits.{ReaderIsWaiting, WriterIsWaiting, WriterLeavesNone};
+ghost use Rattle.piper.specs.Waits.{ReaderIsWaiting, WriterIsWaiting};
 ghost use Rattle.piper.specs.Handles.{AreFresh, ArePair, DrawFrom};
 ghost use Rattle.piper_protocol.specs.Reported.{HasFailed};
 
@@ -245,9 +243,8 @@ impl AsyncRead for OwnedReader {
 impl AsyncBufRead for OwnedReader {
     ghost use Rattle.piper_ring.specs.ReadView.{in_one_piece};
     ghost use Rattle.piper.specs.Handles.{NotifiesWriter, read_source};
-    ghost use Rattle.piper.specs.OfReader.{front, known, slots, taken};
-    ghost use Rattle.piper.specs.ReaderCalls.{AtEnd, LendsPiece, PollsPiece, SameReaderButConsumed};
-    ghost use Rattle.piper.specs.contracts.owned.OwnedReader.{the_row};
+    ghost use Rattle.piper.specs.ReaderCalls.{PollsPiece};
+    ghost use Rattle.piper.specs.Traits.{Consumes};
 
     ghost known = { λ owned. owned.side.end.known };
 
@@ -269,33 +266,28 @@ impl AsyncBufRead for OwnedReader {
 
     ghost woken = { NotifiesWriter };
 
-    fn poll_fill_buf(&mut self, cx: &mut Context<'_>) -> Poll<Result<&[u8], PipeError>>
-        // said of the reader as it is once the slice is given back
-        ensures* lent { sem 𝓛 (Rests the_row self.entry
-            (λ new. PollsPiece result self.old new cx.new
-            × LendsPiece result self.old new cx.new)) }
-        ensures context { Keeps cx.old cx.new }
-    {
-        self.reader.poll_fill_buf(cx)
+    ghost lends = { λ a b r. PollsPiece r a b };
+
+    ghost consumes = { Consumes };
+
+    fn poll_fill_buf(&mut self, cx: &mut Context<'_>) -> Poll<Result<&[u8], PipeError>> {
+        // Built anew, since an answer that is moved whole takes the place of an error with it.
+        match self.reader.poll_fill_buf(cx) {
+            Poll::Ready(Ok(lent)) => Poll::Ready(Ok(lent)),
+            Poll::Ready(Err(error)) => Poll::Ready(Err(error)),
+            Poll::Pending => Poll::Pending,
+        }
     }
 
-    fn consume(&mut self, amt: usize)
-        requires { amt ≤ front self.old }
-        ensures taken { taken self.new ≡ taken self.old ++ take amt (known self.old) }
-        ensures known { known self.new ≡ drop amt (known self.old) }
-        ensures end { AtEnd self.old → AtEnd self.new }
-        ensures woken { NotifiesWriter self.new }
-        ensures called { CallsTaken (slots self.old) (slots self.new) }
-        ensures rest { SameReaderButConsumed self.old self.new }
-    {
+    fn consume(&mut self, amt: usize) {
         AsyncBufRead::consume(&mut self.reader, amt);
     }
 }
 
 impl AsyncWrite for OwnedWriter {
-    ghost use Rattle.piper.specs.OfWriter.{slots};
     ghost use Rattle.piper.specs.Handles.{NotifiesReader, write_source};
-    ghost use Rattle.piper.specs.WriterCalls.{SameWriterButShut, WritesAsFill};
+    ghost use Rattle.piper.specs.Traits.{Closes, Flushes};
+    ghost use Rattle.piper.specs.WriterCalls.{WritesAsFill};
 
     ghost sent = { λ owned. owned.side.end.sent };
 
@@ -311,6 +303,10 @@ impl AsyncWrite for OwnedWriter {
 
     ghost says = { WritesAsFill };
 
+    ghost flushes = { Flushes };
+
+    ghost closes = { Closes };
+
     fn poll_write(
         &mut self,
         cx: &mut Context<'_>,
@@ -319,22 +315,11 @@ impl AsyncWrite for OwnedWriter {
         self.writer.poll_write(cx, source)
     }
 
-    fn poll_flush(&mut self, cx: &mut Context<'_>) -> Poll<Result<(), PipeError>>
-        ensures answer { result ≡ Poll.Ready (Ok (record {})) }
-        ensures context { Keeps cx.old cx.new }
-        ensures rest { self.new ≡ self.old }
-    {
+    fn poll_flush(&mut self, cx: &mut Context<'_>) -> Poll<Result<(), PipeError>> {
         self.writer.poll_flush(cx)
     }
 
-    fn poll_close(&mut self, cx: &mut Context<'_>) -> Poll<Result<(), PipeError>>
-        ensures answer { result ≡ Poll.Ready (Ok (record {})) }
-        ensures woken { NotifiesReader self.new }
-        ensures called { CallsTaken (slots self.old) (slots self.new) }
-        ensures leaves { WriterLeavesNone self.new }
-        ensures context { Keeps cx.old cx.new }
-        ensures rest { SameWriterButShut self.old self.new }
-    {
+    fn poll_close(&mut self, cx: &mut Context<'_>) -> Poll<Result<(), PipeError>> {
         AsyncWrite::poll_close(&mut self.writer, cx)
     }
 }

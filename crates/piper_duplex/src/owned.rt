@@ -1,18 +1,15 @@
 //! Ends that are dropped automatically, for a thread or a task that takes one with it.
-ghost use Rattle.std.specs.Prelude.{◌≡◌, ◌*◌, ◌^◌, ◌<◌, ◌≤◌, ◌++◌, take, drop, IfErr, IfOk, Ok};
+ghost use Rattle.std.specs.Prelude.{◌≡◌, ◌*◌, ◌^◌, ◌<◌, IfErr, IfOk};
 ghost use Rattle.piper_protocol.specs.Reported.{HasFailed};
-ghost use Rattle.std.specs.Borrow.{sem};
-ghost use Rattle.std.specs.Io.BufRead.{Rests};
-ghost use Rattle.futures.specs.Task.{Keeps};
-ghost use Rattle.piper.specs.Called.{CallsTaken};
 ghost use Rattle.piper.specs.Contexts.{WantsWaker};
 ghost use Rattle.piper.specs.Handles.{NotifiesReader, NotifiesWriter, read_source, write_source};
-ghost use Rattle.piper.specs.OfReader.{front, known, slots, taken, told_shut};
+ghost use Rattle.piper.specs.OfReader.{front, known, taken, told_shut};
 ghost use Rattle.piper.specs.OfReader as of_reader;
 ghost use Rattle.piper.specs.OfWriter as of_writer;
-ghost use Rattle.piper.specs.ReaderCalls.{AtEnd, LendsPiece, PollsPiece, ReadsAsDrain, SameReaderButConsumed};
-ghost use Rattle.piper.specs.WriterCalls.{SameWriterButShut, WritesAsFill};
-ghost use Rattle.piper.specs.Waits.{ReaderIsWaiting, WriterIsWaiting, WriterLeavesNone};
+ghost use Rattle.piper.specs.ReaderCalls.{AtEnd, PollsPiece, ReadsAsDrain};
+ghost use Rattle.piper.specs.Traits.{Closes, Consumes, Flushes};
+ghost use Rattle.piper.specs.WriterCalls.{WritesAsFill};
+ghost use Rattle.piper.specs.Waits.{ReaderIsWaiting, WriterIsWaiting};
 ghost use Rattle.piper_duplex.specs.Crosswise.{IsNewPipe, reading as reading_of, writing as writing_of};
 ghost use Rattle.piper_duplex.specs.OwnedEnds.{reading, writing};
 
@@ -125,8 +122,6 @@ impl AsyncRead for OwnedEnd {
 }
 
 impl AsyncBufRead for OwnedEnd {
-    ghost use Rattle.piper_duplex.specs.contracts.owned.OwnedEnd.{the_row};
-
     ghost known = { λ e. known (reading e) };
 
     ghost piece = { λ e. front (reading e) };
@@ -147,28 +142,17 @@ impl AsyncBufRead for OwnedEnd {
 
     ghost woken = { λ e. NotifiesWriter (reading e) };
 
-    fn poll_fill_buf(&mut self, cx: &mut Context<'_>) -> Poll<Result<&[u8], PipeError>>
-        // said of the end as it is once the slice is given back
-        ensures* lent { sem 𝓛 (Rests the_row self.entry
-            (λ new. (writing new ≡ writing self.old)
-            × PollsPiece result (reading self.old) (reading new) cx.new
-            × LendsPiece result (reading self.old) (reading new) cx.new)) }
-        ensures kept { Keeps cx.old cx.new }
-    {
+    ghost lends = { λ a b r cx.
+        PollsPiece r (reading a) (reading b) cx × (writing b ≡ writing a) };
+
+    ghost consumes = { λ a b n.
+        Consumes (reading a) (reading b) n × (writing b ≡ writing a) };
+
+    fn poll_fill_buf(&mut self, cx: &mut Context<'_>) -> Poll<Result<&[u8], PipeError>> {
         self.reader.poll_fill_buf(cx)
     }
 
-    fn consume(&mut self, amt: usize)
-        requires { amt ≤ front (reading self.old) }
-        ensures known { known (reading self.new) ≡ drop amt (known (reading self.old)) }
-        ensures taken { taken (reading self.new)
-            ≡ taken (reading self.old) ++ take amt (known (reading self.old)) }
-        ensures end { AtEnd (reading self.old) → AtEnd (reading self.new) }
-        ensures woken { NotifiesWriter (reading self.new)
-            × CallsTaken (slots (reading self.old)) (slots (reading self.new)) }
-        ensures reader { SameReaderButConsumed (reading self.old) (reading self.new) }
-        ensures writer { writing self.new ≡ writing self.old }
-    {
+    fn consume(&mut self, amt: usize) {
         AsyncBufRead::consume(&mut self.reader, amt);
     }
 }
@@ -189,6 +173,12 @@ impl AsyncWrite for OwnedEnd {
     ghost says = { λ a b r bytes cx.
         WritesAsFill (writing a) (writing b) r bytes cx × (reading b ≡ reading a) };
 
+    ghost flushes = { λ a b r old left.
+        Flushes (writing a) (writing b) r old left × (reading b ≡ reading a) };
+
+    ghost closes = { λ a b r.
+        Closes (writing a) (writing b) r × (reading b ≡ reading a) };
+
     fn poll_write(
         &mut self,
         cx: &mut Context<'_>,
@@ -197,25 +187,11 @@ impl AsyncWrite for OwnedEnd {
         self.writer.poll_write(cx, source)
     }
 
-    fn poll_flush(&mut self, cx: &mut Context<'_>) -> Poll<Result<(), PipeError>>
-        ensures answer { result ≡ Poll.Ready (Ok (record {})) }
-        ensures kept { cx.new ≡ cx.old }
-        ensures rest { self.new ≡ self.old }
-    {
-        // What was written is published already.
-        let _unused = cx;
-        Poll::Ready(Ok(()))
+    fn poll_flush(&mut self, cx: &mut Context<'_>) -> Poll<Result<(), PipeError>> {
+        self.writer.poll_flush(cx)
     }
 
-    fn poll_close(&mut self, cx: &mut Context<'_>) -> Poll<Result<(), PipeError>>
-        ensures answer { result ≡ Poll.Ready (Ok (record {})) }
-        ensures woken { NotifiesReader (writing self.new)
-            × CallsTaken (of_writer.slots (writing self.old)) (of_writer.slots (writing self.new)) }
-        ensures leaves { WriterLeavesNone (writing self.new) }
-        ensures kept { Keeps cx.old cx.new }
-        ensures writer { SameWriterButShut (writing self.old) (writing self.new) }
-        ensures reader { reading self.new ≡ reading self.old }
-    {
+    fn poll_close(&mut self, cx: &mut Context<'_>) -> Poll<Result<(), PipeError>> {
         AsyncWrite::poll_close(&mut self.writer, cx)
     }
 }

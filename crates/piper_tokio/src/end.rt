@@ -6,10 +6,11 @@ ghost use Rattle.std.specs.declared.io.ErrorKind.TheVariants.{OutOfMemory as Out
 ghost use Rattle.futures.specs.Poll.{OnPending};
 ghost use Rattle.futures.specs.Task.{Keeps};
 ghost use Rattle.tokio.specs.Io.Moved.{bytes_moved, count_moved, OnReadyOk, IfReadyErr};
-ghost use Rattle.piper.specs.Handles.{NotifiesReader, NotifiesWriter, SameReaderButWaits, read_source, write_source};
+ghost use Rattle.piper.specs.Handles.{NotifiesReader, NotifiesWriter, SameReader, read_source, write_source};
 ghost use Rattle.piper.specs.OfReader.{known};
 ghost use Rattle.piper.specs.OfWriter.{shut, saw};
 ghost use Rattle.piper.specs.ReaderCalls.{AtEnd, DrainPends, DrainsEnd, DrainsSlice, DrawsToYield as ReadDraws, Looks, PollsEnd, SameReaderButConsumed, WakesWriter};
+ghost use Rattle.piper.specs.SlotsView.{OnlyWaits};
 ghost use Rattle.piper.specs.Waits.{ReaderPends, WriterLeavesNone};
 ghost use Rattle.piper.specs.WriterCalls.{DrawsToYield as WriteDraws, FillPends, FillsEnd, FillsSlice, SameWriterButMoved, SameWriterButShut, WakesReader};
 ghost use Rattle.piper_duplex.specs.Crosswise.{reading as reading_of, writing as writing_of};
@@ -101,7 +102,7 @@ impl AsyncBufRead for CompatEnd {
         ensures bytes { Took (reading self.old) [] (reading self.new)
             × (write_half self.new ≡ write_half self.old) }
         ensures looked { Looks (reading self.old) (reading self.new)
-            × SameReaderButWaits (reading self.old) (reading self.new) }
+            × SameReader OnlyWaits (reading self.old) (reading self.new) }
         ensures shown { OnReadyOk result (ShowsFront (read_half self.new)) }
         ensures end { PollsEnd result (reading self.old) (reading self.new) }
         ensures pending { OnPending result

@@ -213,7 +213,10 @@ impl Writer {
 
     // The fill without a context: the look, and the rounds.
     #[inline(always)]
-    fn fill_at_once<R: ReadLike>(&mut self, source: &mut R) -> Poll<Result<usize, CopyError<R::Error>>>
+    fn fill_at_once<R: ReadLike>(
+        &mut self,
+        source: &mut R,
+    ) -> Poll<Result<usize, CopyError<R::Error>>>
         ensures ran { Ran (Point.Writer (WritePoint.LookClosed (Purpose.Copy Form.Try)))
             (copy_answer Form.Try result) (log self.old) (log self.new) }
         ensures filled { FillsLike R.gives R.is_dry R.fails result

@@ -52,6 +52,10 @@ impl<R: AsyncBufRead> AsyncBufRead for &mut R {
 
     ghost woken = { λ r. R.woken r.now };
 
+    ghost lends = { λ old new. R.lends old.now new.now };
+
+    ghost consumes = { λ old new. R.consumes old.now new.now };
+
     fn poll_fill_buf(&mut self, cx: &mut Context<'_>) -> Poll<Result<&[u8], PipeError>> {
         (**self).poll_fill_buf(cx)
     }
@@ -77,6 +81,10 @@ impl<W: AsyncWrite> AsyncWrite for &mut W {
     ghost flushed = { λ w. W.flushed w.now };
 
     ghost says = { λ old new. W.says old.now new.now };
+
+    ghost flushes = { λ old new. W.flushes old.now new.now };
+
+    ghost closes = { λ old new. W.closes old.now new.now };
 
     fn poll_write(
         &mut self,

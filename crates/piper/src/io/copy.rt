@@ -44,9 +44,9 @@ pub fn poll_copy<R: AsyncBufRead, W: AsyncWrite>(
         × (R.told reader.new ≡ R.told reader.old)
         × (R.woken reader.old → R.woken reader.new)
         × (W.woken writer.old → W.woken writer.new) }
-    ensures ended { result ≡ Poll.Ready (Ok Copied.ToTheEnd) →
-        (R.known reader.new ≡ []) × (R.saw reader.new ≡ true) × R.ended reader.new }
-    ensures closed { result ≡ Poll.Ready (Ok Copied.UntilClosed) → W.saw writer.new ≡ true }
+    ensures ends { (result ≡ Poll.Ready (Ok Copied.ToTheEnd) →
+        (R.known reader.new ≡ []) × (R.saw reader.new ≡ true) × R.ended reader.new)
+        × (result ≡ Poll.Ready (Ok Copied.UntilClosed) → W.saw writer.new ≡ true) }
     ensures error { IfReadyErr result (λ e.
         R.fails reader.new cx.new e ⊎ W.fails writer.new cx.new e) }
     ensures pending { OnPending result (

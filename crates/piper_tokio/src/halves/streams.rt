@@ -5,9 +5,10 @@ ghost use Rattle.std.specs.declared.io.ErrorKind.TheVariants.{OutOfMemory as Out
 ghost use Rattle.futures.specs.Poll.{OnPending};
 ghost use Rattle.futures.specs.Task.{Keeps};
 ghost use Rattle.tokio.specs.Io.Moved.{bytes_moved, count_moved, OnReadyOk, IfReadyErr};
-ghost use Rattle.piper.specs.Handles.{NotifiesWriter, SameReaderButWaits, read_source, NotifiesReader, write_source};
+ghost use Rattle.piper.specs.Handles.{NotifiesWriter, SameReader, read_source, NotifiesReader, write_source};
 ghost use Rattle.piper.specs.OfReader.{known};
 ghost use Rattle.piper.specs.ReaderCalls.{AtEnd, DrainPends, DrainsEnd, DrainsSlice, DrawsToYield as ReadDraws, Looks, PollsEnd, SameReaderButConsumed, WakesWriter};
+ghost use Rattle.piper.specs.SlotsView.{OnlyWaits};
 ghost use Rattle.piper.specs.Waits.{ReaderPends, WriterLeavesNone};
 ghost use Rattle.piper_tokio.specs.Passing.{Took, WantsMemory, Gave, of_io};
 ghost use Rattle.piper_tokio.specs.Shown.{handle_of, shown_by, ShowsFront, writing};
@@ -101,7 +102,7 @@ impl tokio::io::AsyncBufRead for CompatReader {
     fn poll_fill_buf(&mut self, cx: &mut Context<'_>) -> Poll<io::Result<()>>
         ensures bytes { Took (handle_of self.old) [] (handle_of self.new) }
         ensures looked { Looks (handle_of self.old) (handle_of self.new)
-            × SameReaderButWaits (handle_of self.old) (handle_of self.new) }
+            × SameReader OnlyWaits (handle_of self.old) (handle_of self.new) }
         ensures shown { OnReadyOk result (ShowsFront self.new) }
         ensures end { PollsEnd result (handle_of self.old) (handle_of self.new) }
         ensures pending { OnPending result

@@ -1,0 +1,46 @@
+-- What the calls of the traits say of a handle, besides what the traits say. A `&mut` to the handle,
+-- its owner, and an end of two pipes say the same, by their rows.
+use Rattle.std.specs.Prelude.{◌≡◌, ℕ, Result, Ok, Err}
+use Rattle.futures.specs.declared.task.context.Context.{Context}
+use Rattle.futures.specs.declared.task.Poll.{Poll}
+use Rattle.futures.specs.declared.task.Poll.TheVariants.{Ready, Pending}
+use Rattle.piper_protocol.specs.declared.memory.OutOfMemory.{OutOfMemory}
+use Rattle.piper.specs.Called.{CallsTaken}
+use Rattle.piper.specs.Handles.{NotifiesReader, NotifiesWriter}
+use Rattle.piper.specs.Polls.{Done}
+use Rattle.piper.specs.ReaderCalls.{SameReaderButConsumed}
+use Rattle.piper.specs.Waits.{WriterLeavesNone}
+use Rattle.piper.specs.WriterCalls.{SameWriterButShut}
+use Rattle.piper.specs.declared.error.PipeError.{PipeError}
+use Rattle.piper.specs.declared.error.PipeError.TheVariants.{Memory}
+use Rattle.piper.specs.declared.handles.Reader.{Reader}
+use Rattle.piper.specs.declared.handles.Writer.{Writer}
+
+-- what a poll of a handle returns, as the traits do: want of memory is one of their errors
+abbrev pub as_pipe : {A : Type 0} → Poll (Result A OutOfMemory) → Poll (Result A PipeError)
+as_pipe (Ready (Ok x)) = Ready (Ok x)
+as_pipe (Ready (Err e)) = Ready (Err Memory)
+as_pipe Pending = Pending
+
+-- the reader, which has given the places of what it consumed back: it checked the writer's slot
+-- after that, and called each waker that it took
+pub record Consumes (a b : Reader) (n : ℕ) : Type 0 where
+  pub woken : NotifiesWriter b
+  pub called : CallsTaken a.side.slots b.side.slots
+  pub rest : SameReaderButConsumed a b
+
+-- a flush is ready at once, doesn't fail, and asks nothing of the context: what was written is
+-- published
+pub record Flushes (a b : Writer) (r : Done) (old left : Context) : Type 0 where
+  pub answer : r ≡ Ready (Ok (record {}))
+  pub rest : b ≡ a
+  pub context : left ≡ old
+
+-- a close is ready at once, and doesn't fail: it checked the reader's slot, called each waker that it
+-- took, and leaves none of its own
+pub record Closes (a b : Writer) (r : Done) : Type 0 where
+  pub answer : r ≡ Ready (Ok (record {}))
+  pub woken : NotifiesReader b
+  pub called : CallsTaken a.side.slots b.side.slots
+  pub leaves : WriterLeavesNone b
+  pub rest : SameWriterButShut a b
