@@ -3,7 +3,7 @@ use Rattle.std.proofs.Common.{◌≡◌, ℕ, ◌+◌, ◌<◌, ◌≤◌, ◌�
 use Rattle.piper.specs.Written.{written}
 use Rattle.piper.specs.declared.handles.Reader.{Reader}
 use Rattle.piper.specs.Looks.{ReaderIsUpToDate}
-use Rattle.piper.specs.ReaderCalls.{Drained, OnlyLooked}
+use Rattle.piper.specs.ReaderCalls.{Drained, ReaderOnlyLooked}
 
 module _ (old before now new moved : List ℕ) (place n : ℕ) (same : before ≡ old) (first : place ≡ 0) (count : length moved ≡ n) (is : now ≡ written before place moved) (back : new ≡ now) where
   whole : new ≡ moved ++ drop n old
@@ -33,7 +33,7 @@ module _ (old before now new moved : List ℕ) (place n : ℕ) (same : before �
   }
 
 -- where nothing was moved, the reader only looked
-pub looked_only : (a b : Reader) (moved : List ℕ) → moved ≡ [] → b.side.end.taken ≡ a.side.end.taken ++ moved → (0 < length a.side.end.known → a.side.end.known ≡ moved ++ b.side.end.known) → (a.side.end.known ≡ [] → ReaderIsUpToDate b.side.end) → OnlyLooked a b
+pub looked_only : (a b : Reader) (moved : List ℕ) → moved ≡ [] → b.side.end.taken ≡ a.side.end.taken ++ moved → (0 < length a.side.end.known → a.side.end.known ≡ moved ++ b.side.end.known) → (a.side.end.known ≡ [] → ReaderIsUpToDate b.side.end) → ReaderOnlyLooked a b
 looked_only a b moved none taken known fresh = record {
   taken = taken ∙ ap (λ xs. a.side.end.taken ++ xs) none ∙ append-nil a.side.end.taken;
   known = λ some. sym (known some ∙ ap (λ xs. xs ++ b.side.end.known) none);

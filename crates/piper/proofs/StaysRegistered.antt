@@ -8,11 +8,11 @@ use Rattle.piper.specs.declared.handles.Writer.{Writer}
 use Rattle.piper_ring.specs.SlotsView.{KeepsSlots}
 use Rattle.piper.specs.Handles.{SameWriter}
 use Rattle.piper.specs.Waits.{WriterRegistered}
-use Rattle.piper.specs.WriterCalls.{DrawsToYield, FillPends, FillsWaiting}
+use Rattle.piper.specs.WriterCalls.{FillDraws, FillPends, FillsWaiting}
 use Rattle.piper.specs.declared.error.CopyError.{CopyError}
 use Rattle.piper.specs.declared.error.CopyError.TheVariants.{Memory, Like}
 
-draws : {E : Type 0} (r : Poll (Result ℕ (CopyError E))) (a b d : Writer) → d.side.end ≡ record b.side.end { lent = [] } → SameWriter KeepsSlots b d → DrawsToYield r a b → DrawsToYield r a d
+draws : {E : Type 0} (r : Poll (Result ℕ (CopyError E))) (a b d : Writer) → d.side.end ≡ record b.side.end { lent = [] } → SameWriter KeepsSlots b d → FillDraws r a b → FillDraws r a d
 draws (Ready (Ok n)) a b d end rest h = rw (rest.rng, end) h
 draws (Ready (Err Memory)) a b d end rest h = rw rest.rng h
 draws (Ready (Err (Like e))) a b d end rest h = rw rest.rng h

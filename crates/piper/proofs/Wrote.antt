@@ -5,7 +5,7 @@ use Rattle.piper_ring.specs.WriteView.{room_in_one_piece}
 use Rattle.piper.specs.Copies.{IsReplaced}
 use Rattle.piper.specs.Looks.{WriterIsUpToDate}
 use Rattle.piper.specs.Fills.{most_of_round}
-use Rattle.piper.specs.WriterCalls.{Filled, OnlyLooked}
+use Rattle.piper.specs.WriterCalls.{Filled, WriterOnlyLooked}
 use Rattle.piper.specs.declared.handles.Writer.{Writer}
 use Rattle.piper_protocol.specs.declared.table.TheConstants.{MOST_A_ROUND}
 
@@ -58,7 +58,7 @@ module _ (bytes published lost rest : List ℕ) (a b : Writer) (n : ℕ) (given 
   none_is (inr saw) zero some = saw
 
 -- where none was given, the writer only looked
-pub looked_only : (a b : Writer) (published lost : List ℕ) → published ++ lost ≡ [] → b.side.end.sent ≡ a.side.end.sent ++ published → (0 < a.side.end.room → IsReplaced a.side.end b.side.end) → (a.side.end.room ≡ 0 → b.side.end.saw ≡ false → WriterIsUpToDate b.side.end) → OnlyLooked a b
+pub looked_only : (a b : Writer) (published lost : List ℕ) → published ++ lost ≡ [] → b.side.end.sent ≡ a.side.end.sent ++ published → (0 < a.side.end.room → IsReplaced a.side.end b.side.end) → (a.side.end.room ≡ 0 → b.side.end.saw ≡ false → WriterIsUpToDate b.side.end) → WriterOnlyLooked a b
 looked_only a b published lost none sent room fresh = record {
   sent = sent ∙ ap (λ xs. a.side.end.sent ++ xs) (nil_from_length published (omega (arith, ap length none, length-append published lost))) ∙ append-nil a.side.end.sent;
   room = room;

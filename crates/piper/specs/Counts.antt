@@ -2,8 +2,8 @@
 use Rattle.std.specs.Prelude.{◌≡◌, ℕ, ◌↔◌, Bool, IsTrue}
 use Rattle.piper.specs.declared.handles.Reader.{Reader}
 use Rattle.piper.specs.declared.handles.Writer.{Writer}
-use Rattle.piper.specs.ReaderCalls.{MayBeUnread as ReaderMayHave}
-use Rattle.piper.specs.WriterCalls.{MayBeUnread as WriterMayHave}
+use Rattle.piper.specs.ReaderCalls.{ReaderMayHave}
+use Rattle.piper.specs.WriterCalls.{WriterMayHave}
 
 -- the answer says whether a number of bytes that may be unread is m
 abbrev pub ReaderCompares : Reader → ℕ → Bool → Type 0

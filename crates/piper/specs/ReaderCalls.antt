@@ -34,8 +34,8 @@ AtEnd reader = IsEnded reader.side.end
 
 -- n bytes may be unread: all that the reader knows of, all that it was told of, and no more than
 -- fit; and just those up to the end where that is known
-abbrev pub MayBeUnread : Reader → ℕ → Type 0
-MayBeUnread reader n = EndMayHave reader.side.end n
+abbrev pub ReaderMayHave : Reader → ℕ → Type 0
+ReaderMayHave reader n = EndMayHave reader.side.end n
 
 -- what the reader knows to be all that was ever published is so still
 abbrev pub KeepsAll : Reader → Reader → Type 0
@@ -47,7 +47,7 @@ Looks a b = ReaderLooked a.side.end b.side.end
 
 -- a poll looked, which takes no byte, and returns what it found; where that is a byte, it leaves no
 -- waker in its slot
-pub record Polled {E : Type 0} (r : Poll (Result Bool E)) (a b : Reader) : Type 0 where
+pub record ReaderPolled {E : Type 0} (r : Poll (Result Bool E)) (a b : Reader) : Type 0 where
   pub found : ReaderFound r b.side.end
   pub looked : ReaderLooked a.side.end b.side.end
   pub leaves : IfReadyOk r (λ some. some ≡ true → ReaderLeavesNone b)
@@ -94,7 +94,7 @@ pub record Drained (n : ℕ) (a b : Reader) (old new : List ℕ) : Type 0 where
   pub most : n < length old → b.side.end.known ≡ []
 
 -- nothing was taken, and what was known is known; where none was, the reader looked for more
-pub record OnlyLooked (a b : Reader) : Type 0 where
+pub record ReaderOnlyLooked (a b : Reader) : Type 0 where
   pub taken : b.side.end.taken ≡ a.side.end.taken
   pub known : 0 < length a.side.end.known → b.side.end.known ≡ a.side.end.known
   pub fresh : a.side.end.known ≡ [] → ReaderIsUpToDate b.side.end
@@ -103,7 +103,7 @@ pub record OnlyLooked (a b : Reader) : Type 0 where
 abbrev pub DrainsSlice : {E : Type 0} → Poll (Result ℕ E) → Reader → Reader
     → List ℕ → List ℕ → Type 0
 DrainsSlice (Ready (Ok n)) a b old new = Drained n a b old new
-DrainsSlice other a b old new = OnlyLooked a b × (new ≡ old)
+DrainsSlice other a b old new = ReaderOnlyLooked a b × (new ≡ old)
 
 -- a drain into any destination, and into a writer of std
 abbrev pub DrainsLike : {S E : Type 0} → Passes S → (S → Type 0) → (S → E → S → Type 0)
@@ -137,13 +137,13 @@ pub record DrainPends (a b : Reader) (cx : Context) : Type 0 where
   pub registered : found_len a.side.end b.side.end ≡ 0 → ReaderRegistered a b cx
 
 -- a drain draws from the reader's generator exactly where it found a byte, and yields by that draw
-abbrev pub DrawsToYield : {E : Type 0} → Poll (Result ℕ E) → Reader → Reader → Type 0
-DrawsToYield r a b = Draws (0 < found_len a.side.end b.side.end) r a.rng b.rng
+abbrev pub DrainDraws : {E : Type 0} → Poll (Result ℕ E) → Reader → Reader → Type 0
+DrainDraws r a b = Draws (0 < found_len a.side.end b.side.end) r a.rng b.rng
 
 -- with a context a drain draws, waits, and is refused memory only for its waker
 pub record DrainsWaiting {E : Type 0} (r : Poll (Result ℕ (CopyError E)))
     (a b : Reader) (old left : Context) : Type 0 where
-  pub draws : DrawsToYield r a b
+  pub draws : DrainDraws r a b
   pub pending : OnPending r (DrainPends a b left)
   pub memory : OnMemory r (ReaderIsRefused b left)
   pub context : Keeps old left
@@ -175,7 +175,7 @@ pub record ReadsAsDrain (a b : Reader) (r : Count) (old new : List ℕ)
     (cx : Context) : Type 0 where
   pub drained : DrainsSlice r a b old new
   pub end : DrainsEnd r a b
-  pub draws : DrawsToYield r a b
+  pub draws : DrainDraws r a b
   pub pending : OnPending r (DrainPends a b cx)
   pub refused : IfReadyErr r (λ _. ReaderIsRefused b cx)
   pub woken : WakesWriter a b
@@ -194,8 +194,8 @@ pub record KnowsAll (r : Reader) (bytes : List ℕ) : Type 0 where
   pub rest : (xs : List ℕ) × ((r.side.end.taken ++ r.side.end.known) ++ xs ≡ bytes)
 
 -- where the reader was pending in its slot, the writer took its last waker and woke it as it left
-abbrev pub WasWoken : Reader → FinishedWriter → Type 0
-WasWoken reader left =
+abbrev pub ReaderWasWoken : Reader → FinishedWriter → Type 0
+ReaderWasWoken reader left =
     IsReaderPending reader.side.end reader.side.slots
     → left.slots.taken ≡ reader.side.slots.tickets
 

@@ -26,8 +26,8 @@ use Rattle.piper.specs.declared.handles.Writer.{Writer}
 
 -- n bytes may be unread: the room that the writer knows of is free, and the bytes that it was told
 -- of are consumed
-abbrev pub MayBeUnread : Writer → ℕ → Type 0
-MayBeUnread writer n = EndMayHave writer.side.end n
+abbrev pub WriterMayHave : Writer → ℕ → Type 0
+WriterMayHave writer n = EndMayHave writer.side.end n
 
 -- a call for at most `max` bytes may lend n: none once the writer closed the pipe, and else all that
 -- is asked for and fits, or as much of it as one call may set to zero: twice what was published and
@@ -40,14 +40,14 @@ abbrev pub MustLend : Writer → ℕ → Type 0
 MustLend writer max = (writer.side.end.shut ≡ false) × (0 < writer.side.end.room) × (0 < max)
 
 -- where the writer was pending in its slot, the reader took its last waker and woke it as it left
-abbrev pub WasWoken : Writer → FinishedReader → Type 0
-WasWoken writer left =
+abbrev pub WriterWasWoken : Writer → FinishedReader → Type 0
+WriterWasWoken writer left =
     IsWriterPending writer.side.end writer.side.slots
     → left.slots.taken ≡ writer.side.slots.tickets
 
 -- a poll looked, which publishes nothing, and returns what it found; where that is room, it leaves no
 -- waker in its slot
-pub record Polled {E : Type 0} (r : Poll (Result Bool E)) (a b : Writer) : Type 0 where
+pub record WriterPolled {E : Type 0} (r : Poll (Result Bool E)) (a b : Writer) : Type 0 where
   pub found : WriterFound r b.side.end
   pub looked : WriterLooked a.side.end b.side.end
   pub leaves : IfReadyOk r (λ some. some ≡ true → WriterLeavesNone b)
@@ -65,7 +65,7 @@ pub record Filled (n : ℕ) (a b : Writer) (bytes : List ℕ) : Type 0 where
   pub most : n < length bytes → b.side.end.saw ≡ false → b.side.end.room ≡ 0
 
 -- nothing was published, and the room is as it was; where there was none, the writer looked for some
-pub record OnlyLooked (a b : Writer) : Type 0 where
+pub record WriterOnlyLooked (a b : Writer) : Type 0 where
   pub sent : b.side.end.sent ≡ a.side.end.sent
   pub room : 0 < a.side.end.room → IsReplaced a.side.end b.side.end
   pub fresh : a.side.end.room ≡ 0 → b.side.end.saw ≡ false → WriterIsUpToDate b.side.end
@@ -75,7 +75,7 @@ pub record OnlyLooked (a b : Writer) : Type 0 where
 abbrev pub FillsSlice : {E : Type 0} → Poll (Result ℕ E) → Writer → Writer → List ℕ → Type 0
 FillsSlice (Ready (Ok n)) a b bytes =
     Filled n a b bytes × (n ≡ 0 → 0 < length bytes → b.side.end.saw ≡ true)
-FillsSlice other a b bytes = OnlyLooked a b
+FillsSlice other a b bytes = WriterOnlyLooked a b
 
 -- a fill from any source, and from a reader of std
 abbrev pub FillsLike : {S E : Type 0} → Passes S → (S → Type 0) → (S → E → S → Type 0)
@@ -100,13 +100,13 @@ pub record FillPends (a b : Writer) (cx : Context) : Type 0 where
   pub registered : b.side.end.room ≡ 0 → WriterRegistered a b cx
 
 -- a fill draws from the writer's generator exactly where it found room, and yields by that draw
-abbrev pub DrawsToYield : {E : Type 0} → Poll (Result ℕ (CopyError E)) → Writer → Writer → Type 0
-DrawsToYield r a b = Draws (FoundRoom r b.side.end) r a.rng b.rng
+abbrev pub FillDraws : {E : Type 0} → Poll (Result ℕ (CopyError E)) → Writer → Writer → Type 0
+FillDraws r a b = Draws (FoundRoom r b.side.end) r a.rng b.rng
 
 -- with a context a fill draws, waits, and is refused memory only for its waker
 pub record FillsWaiting {E : Type 0} (r : Poll (Result ℕ (CopyError E)))
     (a b : Writer) (old left : Context) : Type 0 where
-  pub draws : DrawsToYield r a b
+  pub draws : FillDraws r a b
   pub pending : OnPending r (FillPends a b left)
   pub memory : OnMemory r (WriterIsRefused b left)
   pub context : Keeps old left
@@ -137,7 +137,7 @@ pub record WritesAsFill (a b : Writer) (r : Count) (bytes : List ℕ)
     (cx : Context) : Type 0 where
   pub filled : FillsSlice r a b bytes
   pub end : FillsEnd r a b
-  pub draws : DrawsToYield (of_std r) a b
+  pub draws : FillDraws (of_std r) a b
   pub pending : OnPending r (FillPends a b cx)
   pub refused : IfReadyErr r (λ _. WriterIsRefused b cx)
   pub woken : WakesReader a b

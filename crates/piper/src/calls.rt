@@ -24,7 +24,7 @@ impl Reader {
     ghost use Rattle.piper.specs.Counts.{ReaderCompares};
     ghost use Rattle.piper.specs.Handles.{NotifiesWriter, SameReader};
     ghost use Rattle.piper.specs.OfReader.{ring, capacity, taken, known, end_of, front, log, saw, slots, told_shut};
-    ghost use Rattle.piper.specs.ReaderCalls.{AtEnd, MayBeUnread, Polled, PollsEnd};
+    ghost use Rattle.piper.specs.ReaderCalls.{AtEnd, ReaderMayHave, ReaderPolled, PollsEnd};
     ghost use Rattle.piper_ring.specs.Looks.{looks_at};
     ghost use Rattle.piper.specs.Waits.{ReaderIsRefused, ReaderPends, ReaderWokeLast};
 
@@ -33,7 +33,7 @@ impl Reader {
     /// Returns: a count of at most the capacity. It includes each known byte, and each byte that a
     /// mark reported and the reader has not taken. The writer may publish more at any time.
     pub fn len(&self) -> usize
-        ensures { MayBeUnread self.now result }
+        ensures { ReaderMayHave self.now result }
     {
         self.end().len()
     }
@@ -82,7 +82,7 @@ impl Reader {
     pub fn poll(&mut self, cx: &mut Context<'_>) -> Poll<Result<bool, OutOfMemory>>
         ensures ran { Ran (looks_at (end_of self.old) Purpose.Poll) (poll_answer result)
             (log self.old) (log self.new) }
-        ensures found { Polled result self.old self.new }
+        ensures found { ReaderPolled result self.old self.new }
         ensures end { PollsEnd result self.old self.new }
         ensures pending { OnPending result (ReaderPends self.old self.new cx.new) }
         ensures memory { OnRefused result (ReaderIsRefused self.new cx.new) }
@@ -188,14 +188,14 @@ impl Writer {
     ghost use Rattle.piper.specs.Handles.{NotifiesReader, SameWriter};
     ghost use Rattle.piper.specs.OfWriter.{ring, capacity, end_of, sent, room, lent, log, shut, saw, slots};
     ghost use Rattle.piper.specs.Waits.{WriterIsRefused, WriterLeavesNone, WriterPends, WriterWokeLast};
-    ghost use Rattle.piper.specs.WriterCalls.{MayBeUnread, Polled, SameWriterButShut};
+    ghost use Rattle.piper.specs.WriterCalls.{WriterMayHave, WriterPolled, SameWriterButShut};
 
     /// How many bytes are unread now.
     ///
     /// Returns: a count in which the known room is free, and bytes that a mark reported are taken.
     /// Bytes that a dropped reader left unread are counted. The reader may take more at any time.
     pub fn len(&self) -> usize
-        ensures { MayBeUnread self.now result }
+        ensures { WriterMayHave self.now result }
     {
         self.end().len()
     }
@@ -242,7 +242,7 @@ impl Writer {
     pub fn poll(&mut self, cx: &mut Context<'_>) -> Poll<Result<bool, OutOfMemory>>
         ensures ran { Ran (Point.Writer (WritePoint.LookClosed Purpose.Poll)) (poll_answer result)
             (log self.old) (log self.new) }
-        ensures found { Polled result self.old self.new }
+        ensures found { WriterPolled result self.old self.new }
         ensures pending { OnPending result (WriterPends self.old self.new cx.new) }
         ensures memory { OnRefused result (WriterIsRefused self.new cx.new) }
         ensures context { Keeps cx.old cx.new }

@@ -9,10 +9,10 @@ ghost use Rattle.tokio.specs.Io.Moved.{bytes_moved, count_moved, OnReadyOk, IfRe
 ghost use Rattle.piper.specs.Handles.{NotifiesReader, NotifiesWriter, SameReader, read_source, write_source};
 ghost use Rattle.piper.specs.OfReader.{known};
 ghost use Rattle.piper.specs.OfWriter.{shut, saw};
-ghost use Rattle.piper.specs.ReaderCalls.{AtEnd, DrainPends, DrainsEnd, DrainsSlice, DrawsToYield as ReadDraws, Looks, PollsEnd, SameReaderButConsumed, WakesWriter};
+ghost use Rattle.piper.specs.ReaderCalls.{AtEnd, DrainPends, DrainsEnd, DrainsSlice, DrainDraws, Looks, PollsEnd, SameReaderButConsumed, WakesWriter};
 ghost use Rattle.piper.specs.SlotsView.{OnlyWaits};
 ghost use Rattle.piper.specs.Waits.{ReaderPends, WriterLeavesNone};
-ghost use Rattle.piper.specs.WriterCalls.{DrawsToYield as WriteDraws, FillPends, FillsEnd, FillsSlice, SameWriterButMoved, SameWriterButShut, WakesReader};
+ghost use Rattle.piper.specs.WriterCalls.{FillDraws, FillPends, FillsEnd, FillsSlice, SameWriterButMoved, SameWriterButShut, WakesReader};
 ghost use Rattle.piper_duplex.specs.Crosswise.{reading as reading_of, writing as writing_of};
 ghost use Rattle.piper_tokio.specs.Halves.{read_half, reading, write_half, writing};
 ghost use Rattle.piper_tokio.specs.Passing.{Took, Gave, WantsMemory, of_io};
@@ -84,7 +84,7 @@ impl AsyncRead for CompatEnd {
         ensures drained { DrainsSlice result (reading self.old) (reading self.new)
             buf.old buf.new × (shown_by (read_half self.new) ≡ []) }
         ensures end { DrainsEnd result (reading self.old) (reading self.new) }
-        ensures pending { ReadDraws result (reading self.old) (reading self.new)
+        ensures pending { DrainDraws result (reading self.old) (reading self.new)
             × OnPending result (DrainPends (reading self.old) (reading self.new) cx.new) }
         ensures memory { IfReadyErr result (WantsMemory cx.new) }
         ensures woken { WakesWriter (reading self.old) (reading self.new) }
@@ -159,7 +159,7 @@ impl AsyncWrite for CompatEnd {
         ensures filled { FillsSlice result (writing self.old) (writing self.new) buf.now
             × SameWriterButMoved (writing self.old) (writing self.new) }
         ensures end { FillsEnd result (writing self.old) (writing self.new) }
-        ensures pending { WriteDraws (of_io result) (writing self.old) (writing self.new)
+        ensures pending { FillDraws (of_io result) (writing self.old) (writing self.new)
             × OnPending result (FillPends (writing self.old) (writing self.new) cx.new) }
         ensures memory { IfReadyErr result (WantsMemory cx.new) }
         ensures woken { WakesReader (writing self.old) (writing self.new) }

@@ -1,7 +1,7 @@
 //! How many bytes the pipe is to hold before the first is written, and again once it ran dry.
 ghost use Rattle.std.specs.Prelude.{◌≡◌, ◌≤◌, true, IfSome, IfNone};
 ghost use Rattle.piper.specs.OfReader.{ring};
-ghost use Rattle.piper.specs.ReaderCalls.{MayBeUnread};
+ghost use Rattle.piper.specs.ReaderCalls.{ReaderMayHave};
 ghost use Rattle.piper_ring.specs.Loads.{FoundClosed};
 ghost use Rattle.piper_transfer.specs.Turns.{HasWaited};
 
@@ -40,7 +40,7 @@ impl Level {
     /// Waits until the pipe holds so many bytes, or is closed: the other side rings then.
     pub(crate) fn wait(&self, rt: &impl Wait, reader: &Reader, rises: &Rises) -> Reached
         ensures level { IfSome result.held (λ held.
-            (self.now.bytes ≤ held) × MayBeUnread reader.now held) }
+            (self.now.bytes ≤ held) × ReaderMayHave reader.now held) }
         ensures closed { IfNone result.held (FoundClosed (ring reader.now).names true) }
     {
         for _ in rt.forever() {
@@ -54,7 +54,7 @@ impl Level {
     // Looks once, and waits for the other side where the pipe is open and holds fewer.
     fn look(&self, rt: &impl Wait, reader: &Reader, rises: &Rises) -> Option<Reached>
         ensures level { IfSome result (λ reached. IfSome reached.held (λ held.
-            (self.now.bytes ≤ held) × MayBeUnread reader.now held)) }
+            (self.now.bytes ≤ held) × ReaderMayHave reader.now held)) }
         ensures closed { IfSome result (λ reached.
             IfNone reached.held (FoundClosed (ring reader.now).names true)) }
         ensures waited { IfNone result HasWaited }

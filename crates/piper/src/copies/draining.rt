@@ -27,7 +27,7 @@ use piper_ring::{Look, OutOfMemory};
 impl Reader {
     ghost use Rattle.piper.specs.Handles.{SameReader};
     ghost use Rattle.piper.specs.OfReader.{end_of, log};
-    ghost use Rattle.piper.specs.ReaderCalls.{Drained, DrainsAtOnce, DrainsEnd, DrainsLike, DrainsSlice, DrainsStd, DrainsWaiting, DrainPends, DrawsToYield, KeepsEnd, SameReaderButMoved, WakesWriter};
+    ghost use Rattle.piper.specs.ReaderCalls.{Drained, DrainsAtOnce, DrainsEnd, DrainsLike, DrainsSlice, DrainsStd, DrainsWaiting, DrainPends, DrainDraws, KeepsEnd, SameReaderButMoved, WakesWriter};
 
     /// Moves known bytes into a writer of std.
     ///

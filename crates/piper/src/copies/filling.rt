@@ -25,7 +25,7 @@ use piper_ring::{Look, OutOfMemory};
 
 impl Writer {
     ghost use Rattle.piper.specs.Handles.{SameWriter};
-    ghost use Rattle.piper.specs.WriterCalls.{DrawsToYield, Filled, FillPends, FillsAtOnce, FillsEnd, FillsLike, FillsSlice, FillsStd, FillsWaiting, SameWriterButMoved, WakesReader};
+    ghost use Rattle.piper.specs.WriterCalls.{FillDraws, Filled, FillPends, FillsAtOnce, FillsEnd, FillsLike, FillsSlice, FillsStd, FillsWaiting, SameWriterButMoved, WakesReader};
     ghost use Rattle.piper.specs.OfWriter.{end_of, log, saw};
 
     /// Publishes bytes that a reader of std gives.

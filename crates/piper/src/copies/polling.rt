@@ -17,13 +17,13 @@ use piper_ring::OutOfMemory;
 impl Reader {
     ghost use Rattle.piper.specs.Handles.{SameReader};
     ghost use Rattle.piper.specs.Looks.{OnRefused};
-    ghost use Rattle.piper.specs.ReaderCalls.{Polled, PollsEnd};
+    ghost use Rattle.piper.specs.ReaderCalls.{ReaderPolled, PollsEnd};
     ghost use Rattle.piper.specs.Waits.{ReaderIsRefused, ReaderPends};
 
     // `poll`, as a call of its own: a reader of lines is shorter by it.
     #[inline(never)]
     fn poll_by_call(&mut self, cx: &mut Context<'_>) -> Poll<Result<bool, OutOfMemory>>
-        ensures found { Polled result self.old self.new }
+        ensures found { ReaderPolled result self.old self.new }
         ensures end { PollsEnd result self.old self.new }
         ensures pending { OnPending result (ReaderPends self.old self.new cx.new) }
         ensures memory { OnRefused result (ReaderIsRefused self.new cx.new) }

@@ -12,7 +12,7 @@ use piper_ring::{
 impl Reader {
     ghost use Rattle.piper.specs.OfReader.{end_of, ring, capacity, taken, known, told, told_shut};
     ghost use Rattle.piper.specs.OfWriter as of_writer;
-    ghost use Rattle.piper.specs.ReaderCalls.{KeepsAll, KnowsAll, MeetClosed, MeetMore, MeetSame, MeetWoken, SameReaderButTold, WasWoken};
+    ghost use Rattle.piper.specs.ReaderCalls.{KeepsAll, KnowsAll, MeetClosed, MeetMore, MeetSame, MeetWoken, SameReaderButTold, ReaderWasWoken};
 
     /// Its end of the ring.
     pub fn end(&self) -> &ReadEnd
@@ -73,7 +73,7 @@ impl Reader {
     /// Requires: the mark is of the same pipe.
     pub fn meet_finished(&mut self, left: &mut FinishedWriter)
         requires { left.old.told.names ≡ (ring self.old).names }
-        ensures woken { WasWoken self.old left.old }
+        ensures woken { ReaderWasWoken self.old left.old }
         ensures told { told self.new ≡ max (told self.old) (length left.old.told.bytes) }
         ensures shut { told_shut self.new ≡ true }
         ensures agree { Agree (taken self.new ++ known self.new) left.old.told.bytes }
@@ -89,7 +89,7 @@ impl Reader {
 impl Writer {
     ghost use Rattle.piper.specs.Handles.{lends_room};
     ghost use Rattle.piper.specs.OfWriter.{end_of, ring, told};
-    ghost use Rattle.piper.specs.WriterCalls.{MayLend, MustLend, SameWriterButTold, WasWoken};
+    ghost use Rattle.piper.specs.WriterCalls.{MayLend, MustLend, SameWriterButTold, WriterWasWoken};
 
     /// Its end of the ring.
     pub fn end(&self) -> &WriteEnd
@@ -133,7 +133,7 @@ impl Writer {
     /// Requires: the mark is of the same pipe.
     pub fn meet_finished(&mut self, left: &mut FinishedReader)
         requires { left.old.told.consumed.names ≡ (ring self.old).names }
-        ensures woken { WasWoken self.old left.old }
+        ensures woken { WriterWasWoken self.old left.old }
         ensures told { end_of self.new ≡ record (end_of self.old)
             { told = max (told self.old) left.old.told.consumed.count; saw = true } }
         ensures rest { SameWriterButTold self.old self.new }

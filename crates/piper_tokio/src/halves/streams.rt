@@ -7,14 +7,14 @@ ghost use Rattle.futures.specs.Task.{Keeps};
 ghost use Rattle.tokio.specs.Io.Moved.{bytes_moved, count_moved, OnReadyOk, IfReadyErr};
 ghost use Rattle.piper.specs.Handles.{NotifiesWriter, SameReader, read_source, NotifiesReader, write_source};
 ghost use Rattle.piper.specs.OfReader.{known};
-ghost use Rattle.piper.specs.ReaderCalls.{AtEnd, DrainPends, DrainsEnd, DrainsSlice, DrawsToYield as ReadDraws, Looks, PollsEnd, SameReaderButConsumed, WakesWriter};
+ghost use Rattle.piper.specs.ReaderCalls.{AtEnd, DrainPends, DrainsEnd, DrainsSlice, DrainDraws, Looks, PollsEnd, SameReaderButConsumed, WakesWriter};
 ghost use Rattle.piper.specs.SlotsView.{OnlyWaits};
 ghost use Rattle.piper.specs.Waits.{ReaderPends, WriterLeavesNone};
 ghost use Rattle.piper_tokio.specs.Passing.{Took, WantsMemory, Gave, of_io};
 ghost use Rattle.piper_tokio.specs.Shown.{handle_of, shown_by, ShowsFront, writing};
 ghost use Rattle.piper_tokio.specs.PassingLaws.{took_nothing, took_in_order, gave_nothing, gave_in_order};
 ghost use Rattle.piper.specs.OfWriter.{shut, saw};
-ghost use Rattle.piper.specs.WriterCalls.{DrawsToYield as WriteDraws, FillPends, FillsEnd, FillsSlice, SameWriterButMoved, SameWriterButShut, WakesReader};
+ghost use Rattle.piper.specs.WriterCalls.{FillDraws, FillPends, FillsEnd, FillsSlice, SameWriterButMoved, SameWriterButShut, WakesReader};
 
 use super::{CompatReader, CompatWriter};
 use futures::task::{Context, Poll};
@@ -76,7 +76,7 @@ impl tokio::io::AsyncRead for CompatReader {
         ensures drained { DrainsSlice result (handle_of self.old) (handle_of self.new)
             buf.old buf.new × (shown_by self.new ≡ []) }
         ensures end { DrainsEnd result (handle_of self.old) (handle_of self.new) }
-        ensures pending { ReadDraws result (handle_of self.old) (handle_of self.new)
+        ensures pending { DrainDraws result (handle_of self.old) (handle_of self.new)
             × OnPending result (DrainPends (handle_of self.old) (handle_of self.new) cx.new) }
         ensures memory { IfReadyErr result (WantsMemory cx.new) }
         ensures woken { WakesWriter (handle_of self.old) (handle_of self.new) }
@@ -200,7 +200,7 @@ impl tokio::io::AsyncWrite for CompatWriter {
         ensures filled { FillsSlice result (writing self.old) (writing self.new) buf.now
             × SameWriterButMoved (writing self.old) (writing self.new) }
         ensures end { FillsEnd result (writing self.old) (writing self.new) }
-        ensures pending { WriteDraws (of_io result) (writing self.old) (writing self.new)
+        ensures pending { FillDraws (of_io result) (writing self.old) (writing self.new)
             × OnPending result (FillPends (writing self.old) (writing self.new) cx.new) }
         ensures memory { IfReadyErr result (WantsMemory cx.new) }
         ensures woken { WakesReader (writing self.old) (writing self.new) }
