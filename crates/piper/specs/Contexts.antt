@@ -9,7 +9,7 @@ use Rattle.piper_ring.specs.Loads.{CameBack}
 use Rattle.piper.specs.declared.error.PipeError.{PipeError}
 use Rattle.piper.specs.declared.error.PipeError.TheVariants.{Memory}
 
--- P holds of the context as it was handed in and as it was left, where there was one
+-- P holds of the context as it was handed in and as it was left, if there was one
 abbrev pub IfGiven : Option (MutBor Context) → Unit {0} ⊎ ((MutBor Context × Unit {0}) ⊎ ⊥)
     → (Context → Context → Type 0) → Type 0
 IfGiven None left P = ⊤

@@ -24,7 +24,7 @@ of_bytes (Ready (Ok n)) = Ready (Ok n)
 of_bytes (Ready (Err e)) = Ready (Err Memory)
 of_bytes Pending = Pending
 
--- P holds where the copy was refused memory
+-- P holds if the copy was refused memory
 abbrev pub OnMemory : {E : Type 0} → Poll (Result ℕ (CopyError E)) → Type 0 → Type 0
 OnMemory (Ready (Ok n)) P = ⊤
 OnMemory (Ready (Err Memory)) P = P
@@ -48,7 +48,7 @@ Copies {S} passes fails (Ready (Err (Like e))) s t xs =
     passes s xs t × ((u : S) × passes s xs u × fails u e t)
 Copies passes fails Pending s t xs = (t ≡ s) × (xs ≡ [])
 
--- the count of failures differs exactly where a failure is returned
+-- the count of failures differs exactly if a failure is returned
 abbrev pub CountsFailure : {E : Type 0} → Poll (Result ℕ (CopyError E)) → ℕ → ℕ → Type 0
 CountsFailure (Ready (Ok n)) old new = new ≡ old
 CountsFailure (Ready (Err Memory)) old new = new ≡ old

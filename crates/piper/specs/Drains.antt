@@ -40,7 +40,7 @@ pub record DrainRounds {S E : Type 0}
   pub most : OnReadyOk r ((b.known ≡ []) ⊎ is_full t)
   pub rest : b ≡ record a { taken = b.taken; known = b.known }
 
--- a drain from a to b, which begins with a look: that finds more only where no byte was known
+-- a drain from a to b, which begins with a look: that finds more only if no byte was known
 pub record Drains {S E : Type 0}
     (takes : Passes S) (is_full : S → Type 0) (fails : S → E → S → Type 0)
     (r : Poll (Result ℕ (CopyError E))) (a b : ReadView) (s t : S) : Type 0 where

@@ -41,7 +41,7 @@ pub record FillRounds {S E : Type 0}
   pub most : IfReadyOk r (λ n. (((0 < n) × (b.room ≡ 0)) ⊎ is_dry t) ⊎ (b.saw ≡ true))
   pub end : WriterFilled a b
 
--- a fill from a to b, which begins with a look: that finds more room only where none was known
+-- a fill from a to b, which begins with a look: that finds more room only if none was known
 pub record Fills {S E : Type 0}
     (gives : Passes S) (is_dry : S → Type 0) (fails : S → E → S → Type 0)
     (r : Poll (Result ℕ (CopyError E))) (a b : WriteView) (s t : S) : Type 0 where
@@ -63,7 +63,7 @@ FoundRoom (Ready (Err Memory)) w = ⊥
 FoundRoom (Ready (Err (Like e))) w = ⊤
 FoundRoom Pending w = 0 < w.room
 
--- P holds where the answer is no count
+-- P holds if the answer is no count
 abbrev pub OnNoCount : {E : Type 0} → Poll (Result ℕ E) → Type 0 → Type 0
 OnNoCount (Ready (Ok n)) P = ⊤
 OnNoCount (Ready (Err e)) P = P

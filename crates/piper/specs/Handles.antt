@@ -27,7 +27,7 @@ write_source writer = writer.source.id
 abbrev pub NotifiesWriter : Reader → Type 0
 NotifiesWriter reader = IsReaderAtRest reader.side.end reader.side.slots
 
--- the writer checked the reader's slot after all that it published, and after its close where it
+-- the writer checked the reader's slot after all that it published, and after its close if it
 -- closed the pipe, and took who waited there
 abbrev pub NotifiesReader : Writer → Type 0
 NotifiesReader writer = IsWriterAtRest writer.side.end writer.side.slots

@@ -6,7 +6,7 @@ use Rattle.std.specs.Io.KnownBytes.{Consumes, Appends}
 abbrev pub Passes : Type 0 → Type 1
 Passes S = S → List ℕ → S → Type 0
 
--- where no byte passes, a state may stay as it is
+-- if no byte passes, a state may stay as it is
 abbrev pub PassesNothing : {S : Type 0} → Passes S → Type 0
 PassesNothing {S} passes = (s : S) → passes s [] s
 
@@ -15,16 +15,16 @@ abbrev pub PassesInOrder : {S : Type 0} → Passes S → Type 0
 PassesInOrder {S} passes = (a : S) (xs : List ℕ) (b : S) (ys : List ℕ) (c : S)
     → passes a xs b → passes b ys c → passes a (xs ++ ys) c
 
--- what passed of a slice in a call with this answer: the first n bytes, or none where it failed
+-- what passed of a slice in a call with this answer: the first n bytes, or none if it failed
 abbrev pub passed : {E : Type 0} → Result ℕ E → List ℕ → List ℕ
 passed (Ok n) xs = take n xs
 passed (Err e) xs = []
 
--- a count of failures, modulo 2^64: it goes up by one where the call failed
+-- a count of failures, modulo 2^64: it goes up by one if the call failed
 abbrev pub Counts : {A E : Type 0} → Result A E → ℕ → ℕ → Type 0
 Counts r old new = MatchResult r (λ _. new ≡ old) (λ _. new ≡ (old + 1) % 2 ^ 64)
 
--- the bytes that std's readers give and std's writers take, where they are known
+-- the bytes that std's readers give and std's writers take, if they are known
 abbrev pub consumes_of : {R : Type 0} → (R → Option (List ℕ)) → Passes R
 consumes_of remaining s xs t = Consumes (remaining s) (remaining t) xs
 

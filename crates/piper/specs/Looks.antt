@@ -8,7 +8,7 @@ use Rattle.piper_ring.specs.ReadView.{ReadView}
 use Rattle.piper_ring.specs.WriteView.{WriteView}
 use Rattle.piper_ring.specs.declared.ends.slots.looks.Look.{Look}
 
--- P holds where a look that may be refused a waker found nothing to do yet
+-- P holds if a look that may be refused a waker found nothing to do yet
 abbrev pub IfPending : {E : Type 0} → Result Look E → Type 0 → Type 0
 IfPending (Ok found) P = IfNotReady found P
 IfPending (Err e) P = ⊤
@@ -39,7 +39,7 @@ WriterFound (Ready (Ok false)) w = w.saw ≡ true
 WriterFound (Ready (Err e)) w = (w.room ≡ 0) × (w.saw ≡ false)
 WriterFound Pending w = (w.room ≡ 0) × (w.saw ≡ false)
 
--- P holds where the call was refused memory
+-- P holds if the call was refused memory
 abbrev pub OnRefused : {A E : Type 0} → Poll (Result A E) → Type 0 → Type 0
 OnRefused (Ready (Ok x)) P = ⊤
 OnRefused (Ready (Err e)) P = P

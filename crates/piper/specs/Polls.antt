@@ -21,19 +21,19 @@ Piece = Poll (Result (Bor (List ℕ)) PipeError)
 abbrev pub Done : Type 0
 Done = Poll (Result (Unit {0}) PipeError)
 
--- P holds where the poll was ready and nothing failed
+-- P holds if the poll was ready and nothing failed
 abbrev pub OnReadyOk : {A E : Type 0} → Poll (Result A E) → Type 0 → Type 0
 OnReadyOk (Ready (Ok x)) P = P
 OnReadyOk (Ready (Err e)) P = ⊤
 OnReadyOk Pending P = ⊤
 
--- P holds of its answer where the poll was ready and nothing failed
+-- P holds of its answer if the poll was ready and nothing failed
 abbrev pub IfReadyOk : {A E : Type 0} → Poll (Result A E) → (A → Type 0) → Type 0
 IfReadyOk (Ready (Ok x)) P = P x
 IfReadyOk (Ready (Err e)) P = ⊤
 IfReadyOk Pending P = ⊤
 
--- P holds of its error where the poll was ready and failed
+-- P holds of its error if the poll was ready and failed
 abbrev pub IfReadyErr : {A E : Type 0} → Poll (Result A E) → (E → Type 0) → Type 0
 IfReadyErr (Ready (Ok x)) P = ⊤
 IfReadyErr (Ready (Err e)) P = P e
@@ -58,7 +58,7 @@ Lends (Ready (Err e)) known piece saw = ⊤
 Lends Pending known piece saw = known ≡ []
 
 -- a slice that was read into: n bytes were taken, which are at its front, and the rest of it stays;
--- none, where it had room, only at an end that was seen. Else nothing was taken
+-- none, if it had room, only at an end that was seen. Else nothing was taken
 abbrev pub Reads : {E : Type 0} → Poll (Result ℕ E)
     → List ℕ → List ℕ → List ℕ → List ℕ → Bool → Type 0
 Reads (Ready (Ok n)) old new before after saw =
@@ -69,7 +69,7 @@ Reads Pending old new before after saw = (after ≡ before) × (new ≡ old)
 
 -- a slice that was written: of its first n bytes, which are counted, the first m were published;
 -- and all n of them unless the pipe was seen closed, or else all but those of one round; and none of
--- some is counted only where it was seen closed. Else nothing was published
+-- some is counted only if it was seen closed. Else nothing was published
 abbrev pub Writes : {E : Type 0} → Poll (Result ℕ E) → List ℕ → List ℕ → List ℕ → Bool → Type 0
 Writes (Ready (Ok n)) source before after saw =
     (n ≤ length source)

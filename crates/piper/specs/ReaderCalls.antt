@@ -33,7 +33,7 @@ abbrev pub AtEnd : Reader → Type 0
 AtEnd reader = IsEnded reader.side.end
 
 -- n bytes may be unread: all that the reader knows of, all that it was told of, and no more than
--- fit; and just those up to the end where that is known
+-- fit; and just those up to the end if that is known
 abbrev pub ReaderMayHave : Reader → ℕ → Type 0
 ReaderMayHave reader n = EndMayHave reader.side.end n
 
@@ -45,7 +45,7 @@ KeepsAll a b = EndKeepsAll a.side.end b.side.end
 abbrev pub Looks : Reader → Reader → Type 0
 Looks a b = ReaderLooked a.side.end b.side.end
 
--- a poll looked, which takes no byte, and returns what it found; where that is a byte, it leaves no
+-- a poll looked, which takes no byte, and returns what it found; if that is a byte, it leaves no
 -- waker in its slot
 pub record ReaderPolled {E : Type 0} (r : Poll (Result Bool E)) (a b : Reader) : Type 0 where
   pub found : ReaderFound r b.side.end
@@ -75,7 +75,7 @@ LendsPiece r a b cx =
     × OnPending r (Covers cx (λ s. s ≡ read_source b))
     × (NotifiesWriter a → NotifiesWriter b)
 
--- and else it is `poll`: it looked, and where it is pending it waits as that does
+-- and else it is `poll`: it looked, and if it is pending it waits as that does
 pub record PollsPiece (r : Poll (Result (Bor (List ℕ)) PipeError)) (a b : Reader) (cx : Context)
     : Type 0 where
   pub looked : ReaderLooked a.side.end b.side.end
@@ -84,7 +84,7 @@ pub record PollsPiece (r : Poll (Result (Bor (List ℕ)) PipeError)) (a b : Read
   pub rest : SameReader OnlyWaits a b
 
 -- n bytes were drained into a slice: they are at its front, and the rest of it stays. They are the
--- first that were known, or that were found where none was known; and as many as fit
+-- first that were known, or that were found if none was known; and as many as fit
 pub record Drained (n : ℕ) (a b : Reader) (old new : List ℕ) : Type 0 where
   pub count : n ≤ length old
   pub rest : drop n new ≡ drop n old
@@ -93,7 +93,7 @@ pub record Drained (n : ℕ) (a b : Reader) (old new : List ℕ) : Type 0 where
   pub fresh : a.side.end.known ≡ [] → ReaderIsUpToDate b.side.end
   pub most : n < length old → b.side.end.known ≡ []
 
--- nothing was taken, and what was known is known; where none was, the reader looked for more
+-- nothing was taken, and what was known is known; if none was, the reader looked for more
 pub record ReaderOnlyLooked (a b : Reader) : Type 0 where
   pub taken : b.side.end.taken ≡ a.side.end.taken
   pub known : 0 < length a.side.end.known → b.side.end.known ≡ a.side.end.known
@@ -136,7 +136,7 @@ pub record DrainPends (a b : Reader) (cx : Context) : Type 0 where
   pub covered : Covers cx (λ s. s ≡ read_source a)
   pub registered : found_len a.side.end b.side.end ≡ 0 → ReaderRegistered a b cx
 
--- a drain draws from the reader's generator exactly where it found a byte, and yields by that draw
+-- a drain draws from the reader's generator exactly if it found a byte, and yields by that draw
 abbrev pub DrainDraws : {E : Type 0} → Poll (Result ℕ E) → Reader → Reader → Type 0
 DrainDraws r a b = Draws (0 < found_len a.side.end b.side.end) r a.rng b.rng
 
@@ -148,7 +148,7 @@ pub record DrainsWaiting {E : Type 0} (r : Poll (Result ℕ (CopyError E)))
   pub memory : OnMemory r (ReaderIsRefused b left)
   pub context : Keeps old left
 
--- without one it doesn't draw, is pending only where it found no byte and the pipe open, is refused
+-- without one it doesn't draw, is pending only if it found no byte and the pipe open, is refused
 -- no memory, and waits as it did
 pub record DrainsAtOnce {E : Type 0} (r : Poll (Result ℕ (CopyError E))) (a b : Reader) : Type 0 where
   pub undrawn : Undrawn (0 < found_len a.side.end b.side.end) r a.rng b.rng
@@ -193,7 +193,7 @@ pub record KnowsAll (r : Reader) (bytes : List ℕ) : Type 0 where
   pub all : r.side.end.all ≡ bytes
   pub rest : (xs : List ℕ) × ((r.side.end.taken ++ r.side.end.known) ++ xs ≡ bytes)
 
--- where the reader was pending in its slot, the writer took its last waker and woke it as it left
+-- if the reader was pending in its slot, the writer took its last waker and woke it as it left
 abbrev pub ReaderWasWoken : Reader → FinishedWriter → Type 0
 ReaderWasWoken reader left =
     IsReaderPending reader.side.end reader.side.slots
@@ -206,19 +206,19 @@ pub record SameReaderButTold (a b : Reader) : Type 0 where
   pub handle : SameReader KeepsSlots a b
   pub log : b.side.log ≡ a.side.log
 
--- where two handles met: what each of them knows of more than before
+-- two handles met: what each of them knows of more than before
 pub record MeetMore (a b : Reader) (c d : Writer) : Type 0 where
   pub known : (xs : List ℕ) × (b.side.end.known ≡ a.side.end.known ++ xs)
   pub room : c.side.end.room ≤ d.side.end.room
   pub all : KeepsAll a b
 
--- and that the writer closed the pipe, where one of them saw it closed: then all is what it sent
+-- and that the writer closed the pipe, if one of them saw it closed: then all is what it sent
 pub record MeetClosed (b : Reader) (d : Writer) : Type 0 where
   pub reader : b.side.end.saw ≡ true → d.side.end.shut ≡ true
   pub writer : d.side.end.saw ≡ true → d.side.end.shut ≡ true
   pub all : KnowsEnd b.side.end → b.side.end.all ≡ d.side.end.sent
 
--- and that the reader is not forgotten: where it was pending, and the writer checked its slot after
+-- and that the reader is not forgotten: if it was pending, and the writer checked its slot after
 -- its last store, the writer took and woke its waker since, or the reader has nothing to do
 abbrev pub MeetReader : Reader → Reader → Writer → Type 0
 MeetReader a b writer =
@@ -237,7 +237,7 @@ MeetAwake a c =
     → IsWriterPending c.side.end c.side.slots → NotifiesReader c
     → (c.side.slots.taken ≡ a.side.slots.tickets) ⊎ (a.side.slots.taken ≡ c.side.slots.tickets)
 
--- where two handles met: nobody who waits is forgotten
+-- two handles met: nobody who waits is forgotten
 pub record MeetWoken (a b : Reader) (c d : Writer) : Type 0 where
   pub reader : MeetReader a b c
   pub writer : MeetWriter c d a

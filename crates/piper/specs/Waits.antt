@@ -46,7 +46,7 @@ ReaderLeavesNone reader = reader.side.slots.maybe_registered ≡ false
 abbrev pub WriterLeavesNone : Writer → Type 0
 WriterLeavesNone writer = writer.side.slots.maybe_registered ≡ false
 
--- a reader that has nothing to do waits in its slot; only where its place is away its task asked for
+-- a reader that has nothing to do waits in its slot; only if its place is away its task asked for
 -- another poll itself
 abbrev pub ReaderRegistered : Reader → Reader → Context → Type 0
 ReaderRegistered a b cx = ReaderWaits a b cx ⊎ (AsksAgain cx × ReaderIsAway a b)

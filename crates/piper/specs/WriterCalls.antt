@@ -39,13 +39,13 @@ MayLend writer max n = Lendable writer.side.end max n
 abbrev pub MustLend : Writer → ℕ → Type 0
 MustLend writer max = (writer.side.end.shut ≡ false) × (0 < writer.side.end.room) × (0 < max)
 
--- where the writer was pending in its slot, the reader took its last waker and woke it as it left
+-- if the writer was pending in its slot, the reader took its last waker and woke it as it left
 abbrev pub WriterWasWoken : Writer → FinishedReader → Type 0
 WriterWasWoken writer left =
     IsWriterPending writer.side.end writer.side.slots
     → left.slots.taken ≡ writer.side.slots.tickets
 
--- a poll looked, which publishes nothing, and returns what it found; where that is room, it leaves no
+-- a poll looked, which publishes nothing, and returns what it found; if that is room, it leaves no
 -- waker in its slot
 pub record WriterPolled {E : Type 0} (r : Poll (Result Bool E)) (a b : Writer) : Type 0 where
   pub found : WriterFound r b.side.end
@@ -54,7 +54,7 @@ pub record WriterPolled {E : Type 0} (r : Poll (Result Bool E)) (a b : Writer) :
 
 -- n bytes were taken from the front of a slice, and published: all of them unless the pipe was seen
 -- closed, and else all but those of one round. They are as many as there is room for, which is
--- looked for where none was known
+-- looked for if none was known
 pub record Filled (n : ℕ) (a b : Writer) (bytes : List ℕ) : Type 0 where
   pub count : n ≤ length bytes
   pub front : (m : ℕ) × (m ≤ n) × (b.side.end.sent ≡ a.side.end.sent ++ take m bytes)
@@ -64,13 +64,13 @@ pub record Filled (n : ℕ) (a b : Writer) (bytes : List ℕ) : Type 0 where
   pub fresh : a.side.end.room ≡ 0 → b.side.end.saw ≡ false → WriterIsUpToDate b.side.end
   pub most : n < length bytes → b.side.end.saw ≡ false → b.side.end.room ≡ 0
 
--- nothing was published, and the room is as it was; where there was none, the writer looked for some
+-- nothing was published, and the room is as it was; if there was none, the writer looked for some
 pub record WriterOnlyLooked (a b : Writer) : Type 0 where
   pub sent : b.side.end.sent ≡ a.side.end.sent
   pub room : 0 < a.side.end.room → IsReplaced a.side.end b.side.end
   pub fresh : a.side.end.room ≡ 0 → b.side.end.saw ≡ false → WriterIsUpToDate b.side.end
 
--- a fill from a slice published as many bytes as it returns, and returns 0 only where there are none
+-- a fill from a slice published as many bytes as it returns, and returns 0 only if there are none
 -- or the pipe is closed; else it looked, and moved nothing
 abbrev pub FillsSlice : {E : Type 0} → Poll (Result ℕ E) → Writer → Writer → List ℕ → Type 0
 FillsSlice (Ready (Ok n)) a b bytes =
@@ -99,7 +99,7 @@ pub record FillPends (a b : Writer) (cx : Context) : Type 0 where
   pub covered : Covers cx (λ s. s ≡ write_source a)
   pub registered : b.side.end.room ≡ 0 → WriterRegistered a b cx
 
--- a fill draws from the writer's generator exactly where it found room, and yields by that draw
+-- a fill draws from the writer's generator exactly if it found room, and yields by that draw
 abbrev pub FillDraws : {E : Type 0} → Poll (Result ℕ (CopyError E)) → Writer → Writer → Type 0
 FillDraws r a b = Draws (FoundRoom r b.side.end) r a.rng b.rng
 
@@ -111,7 +111,7 @@ pub record FillsWaiting {E : Type 0} (r : Poll (Result ℕ (CopyError E)))
   pub memory : OnMemory r (WriterIsRefused b left)
   pub context : Keeps old left
 
--- without one it doesn't draw, is pending only where it found no room, is refused no memory, and
+-- without one it doesn't draw, is pending only if it found no room, is refused no memory, and
 -- waits as it did
 pub record FillsAtOnce {E : Type 0} (r : Poll (Result ℕ (CopyError E))) (a b : Writer) : Type 0 where
   pub undrawn : Undrawn (FoundRoom r b.side.end) r a.rng b.rng

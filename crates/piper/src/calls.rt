@@ -117,7 +117,7 @@ impl Reader {
     /// writer.
     ///
     /// Requires: `amt` is at most the length of what `peek_buf` lends.
-    /// Wakes: the writer, if it waits, also where `amt` is 0.
+    /// Wakes: the writer, if it waits, also if `amt` is 0.
     #[inline(always)]
     pub fn consume(&mut self, amt: usize)
         requires { amt ≤ front self.old }
@@ -268,7 +268,7 @@ impl Writer {
     /// reader's drop.
     ///
     /// Requires: `n` is at most the length of what is left of the slice last lent.
-    /// Wakes: the reader, if it waits, also where `n` is 0.
+    /// Wakes: the reader, if it waits, also if `n` is 0.
     #[inline(always)]
     pub fn produced(&mut self, n: usize)
         requires { n ≤ length (lent self.old) }

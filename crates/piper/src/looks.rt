@@ -1,4 +1,4 @@
-//! The look of a call that waits: it registers where there is nothing to do, and looks once more.
+//! The look of a call that waits: it registers if there is nothing to do, and looks once more.
 ghost use Rattle.std.specs.Prelude.{◌≡◌, OnErr, length, true, false};
 ghost use Rattle.futures.specs.Task.{Keeps};
 ghost use Rattle.piper_protocol.specs.Table.{goes_on, reader_found, reader_found_none, writer_found, writer_found_none};

@@ -117,7 +117,7 @@ impl AsyncBufRead for Reader {
         }
     }
 
-    // A reader of lines consumes in several places, and is shorter where each of them is a call.
+    // A reader of lines consumes in several places, and is shorter if each of them is a call.
     /// As `Reader::consume`.
     #[inline(never)]
     fn consume(&mut self, amt: usize) {
