@@ -238,8 +238,25 @@ def anchors(path):
     return found
 
 
+def wrong_clauses(page):
+    """The links to a clause, as [`fifo`](ends.rt#L58 "Reader::meet"), that lead to another line."""
+    for clause, name, line, call in re.findall(r'\[`(\w+)`\]\(([^)\s#]+)#L(\d+) "(\w+::\w+)"\)', page.read_text()):
+        lines = (page.parent / name).read_text().splitlines()[: int(line)]
+        owner, function = call.split("::")
+        above = [text for text in lines if re.match(r"impl\b|\s*(pub )?fn ", text)]
+        owners = [text for text in above if text.startswith("impl")]
+        is_there = (
+            f"ensures {clause} " in lines[-1]
+            and re.search(rf"\bfn {function}\b", above[-1])
+            and re.search(rf"\b{owner}\b", owners[-1])
+        )
+        if not is_there:
+            yield f"{page.relative_to(TOP)}: line {line} of {name} is not clause {clause} of {call}"
+
+
 def wrong_links(page):
     """The links of a page that lead to no file, or to no heading."""
+    yield from wrong_clauses(page)
     text = re.sub(r"^```.*?^```", "", page.read_text(), flags=re.M | re.S)
     for link in re.findall(r"\]\(([^)\s]+)(?: \"[^\"]*\")?\)|<a href=\"([^\"]+)\"", text):
         link = "".join(link)
