@@ -271,10 +271,10 @@ impl AsyncBufRead for OwnedReader {
     ghost consumes = { Consumes };
 
     fn poll_fill_buf(&mut self, cx: &mut Context<'_>) -> Poll<Result<&[u8], PipeError>> {
-        // Built anew, since an answer that is moved whole takes the place of an error with it.
+        // Built anew: an answer that is moved whole takes along the room in which an error lies.
         match self.reader.poll_fill_buf(cx) {
             Poll::Ready(Ok(lent)) => Poll::Ready(Ok(lent)),
-            Poll::Ready(Err(error)) => Poll::Ready(Err(error)),
+            Poll::Ready(Err(_)) => Poll::Ready(Err(PipeError::Memory)),
             Poll::Pending => Poll::Pending,
         }
     }
