@@ -192,11 +192,11 @@ writer_step lent p names busy valid may =
 
 -- either side
 
-one_step : (side : Side) (lent : List ℕ) (p : Pipe) (names : List ℕ) → state_of side p ≡ Busy → IsValid side p → MayLend lent (Go side) (named names p) → let made = stepped lent (Go side) (named names p) in IsHeard side p names made made.answer
+pub one_step : (side : Side) (lent : List ℕ) (p : Pipe) (names : List ℕ) → state_of side p ≡ Busy → IsValid side p → MayLend lent (Go side) (named names p) → let made = stepped lent (Go side) (named names p) in IsHeard side p names made made.answer
 one_step Reader lent p names busy valid may = reader_step p names busy valid
 one_step Writer lent p names busy valid may = writer_step lent p names busy valid may
 
-state-named : (side : Side) (names : List ℕ) (p : Pipe) → state_of side (named names p) ≡ state_of side p
+pub state-named : (side : Side) (names : List ℕ) (p : Pipe) → state_of side (named names p) ≡ state_of side p
 state-named Reader names p = refl
 state-named Writer names p = refl
 

@@ -25,6 +25,7 @@ pub mod Validity
 pub mod Making
 pub mod Falling
 pub mod BySteps
+pub mod Going
 pub mod Whole
 pub mod Resting
 pub mod WholeBySteps

@@ -58,10 +58,10 @@ module _ (m : Inside) (i : IsMachine m) where
   pub sound : (p : Pipe) → pipe_of m ≡ p → IsSound p
   sound p e = subst IsSound e sound_of
 
--- of a sound pipe something is lent, wherever something is asked for and room is known
-place_left : (capacity place : ℕ) → place < 2 * capacity → 1 ≤ capacity - place_of capacity place
+pub place_left : (capacity place : ℕ) → place < 2 * capacity → 1 ≤ capacity - place_of capacity place
 place_left capacity place below = grind (arith, nat_tests)
 
+-- of a sound pipe something is lent, wherever something is asked for and room is known
 pub some_lent : (most : ℕ) (p : Pipe) (n : ℕ) → IsSound p → 1 ≤ most → 1 ≤ p.room → min 4096 (lend_limit most p) ≤ n → 1 ≤ n
 some_lent most p n sound asked known least =
     let inside : p.start + length p.unread < 2 * p.capacity = omega (arith, sound.start, sound.unread) in

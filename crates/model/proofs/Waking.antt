@@ -1,5 +1,5 @@
 -- Both sides can't be blocked, since the capacity is not 0.
-use Rattle.std.proofs.Common.{◌≡◌, ◌⊎◌, ◌<◌, List, [], length, true, false, true≢false, sym, ap, ◌∙◌, inl, inr, arith}
+use Rattle.std.proofs.Common.{◌⊎◌, List, length, true≢false, sym, ap, ◌∙◌, inl, inr, arith}
 use Rattle.piper_protocol.specs.declared.table.Side.TheVariants.{Reader, Writer}
 use Rattle.model_sides.specs.declared.events.Event.{Event}
 use Rattle.model.specs.Awake.{IsAwake}

@@ -1,6 +1,7 @@
 -- Every call made by steps, none of which is the other side's, is the call run whole.
 use Rattle.std.proofs.Common.{◌≡◌, ℕ, ◌+◌, ◌*◌, ◌≤◌, List, [], ◌∷◌, ◌++◌, length, replicate, Bool, true, false, Option, None, Some, if◌then◌else◌, ◌==◌, nat_le, refl, sym, ap, ◌∙◌, subst, arith, append_assoc}
 use Rattle.std.proofs.lemmas.Bool.Decides.{nat_tests}
+use Rattle.std.proofs.lemmas.List.{length-replicate}
 use Rattle.piper_protocol.specs.declared.table.Side.{Side}
 use Rattle.piper_protocol.specs.declared.table.Side.TheVariants.{Reader, Writer}
 use Rattle.model_sides.specs.declared.calls.SideState.TheVariants.{Busy}
@@ -34,13 +35,14 @@ use Rattle.model_sides.specs.Log.{answer_event}
 use Rattle.model.specs.Pipe.{Pipe, begun}
 use Rattle.model.specs.Sound.{IsSound}
 use Rattle.model.specs.Look.{context}
-use Rattle.model.specs.Lend.{lending}
+use Rattle.model.specs.Lend.{Lendable, lending}
 use Rattle.model.specs.Refusal.{IsIdle, reader_state, writer_state, state_of, cannot_begin, cannot_go, unless, or_else, past, refusal_of}
-use Rattle.model.specs.Step.{opened, answer_at_once}
-use Rattle.model.specs.Run.{Runs}
+use Rattle.model.specs.Step.{began, opened, answer_at_once}
+use Rattle.model.specs.Run.{Made, Runs}
 use Rattle.model.specs.Alone.{Ended, read_steps, is_draining, read_wakes, resting, alone_of, is_copying, wakes_of}
 use Rattle.model.specs.BySteps.{names_of, whole, is_plain, found_alone, IsWholeBySteps, AreWholeBySteps}
 use Rattle.model.proofs.BySteps.{named, left_of, IsValid, no_more, finish}
+use Rattle.model.proofs.Going.{lends-some, comes-back}
 use Rattle.model.proofs.Whole.{reader-polls, drain-slice, drain-acts, try_drain-whole, writer-polls, given-slice, failure-slice, fill-slice, fill-acts, try_fill-whole}
 
 -- between two calls a side holds nothing of a call
@@ -161,15 +163,33 @@ begins-idle c p none = or_else-first (cannot_begin (state_of (side_of c) p)) (or
 begins-within : (c : Call) (p : Pipe) → refusal_of (Begin c) p ≡ None → past c p ≡ None
 begins-within c p none = or_else-second (unless (has_good_draw c) BadDraw) (past c p) (or_else-second (cannot_begin (state_of (side_of c) p)) (or_else (unless (has_good_draw c) BadDraw) (past c p)) none)
 
+is-opened : (c : Call) (lent others : List ℕ) (p : Pipe) → is_lending c ≡ false → IsSound p → HoldsNothing (side_of c) p → refusal_of (Begin c) p ≡ None → IsOpened c lent others p
+is-opened c lent others p stepped sound holds accepted =
+    let side = side_of c in
+    let is = rests-is side p holds (idle-of side p (begins-idle c p accepted)) in
+    subst (λ (r : Pipe). IsOpened c lent others r) (sym is) (opens c lent others p stepped (subst IsSound is sound) (subst (λ (r : Pipe). past c r ≡ None) is (begins-within c p accepted)))
+
+-- a call that is not refused can be opened
+opens-plain : (c : Call) (p : Pipe) (before : List Event) → is_lending c ≡ false → refusal_of (Begin c) p ≡ None → (q : Pipe) × (after : List Event) × Made p (Begin c) q before after
+unfolding is_lending
+opens-plain (call.WriteBuf most) p before stepped accepted = absurd (cc)
+opens-plain c p before stepped accepted = (opened [] c p, before ++ (began [] c p).events, record { accepted = accepted; made = record { lent = tt; pipe = refl; events = refl } })
+
 makes : (c : Call) (p : Pipe) → is_lending c ≡ false → IsSound p → HoldsNothing (side_of c) p → IsWholeBySteps c p
 makes c p stepped sound holds = record {
+  opens = λ accepted before. opens-plain c p before stepped accepted;
+  ends = λ k q before after run.
+      let side = side_of c in
+      let mid = run.0 in
+      let made = run.2.made in
+      let opening = is-opened c mid.lent [] p stepped sound holds run.2.accepted in
+      let begins = subst (λ (r : Pipe). Runs r run.1 (replicate k (Go side)) q after) (made.pipe ∙ opening.commutes) run.3 in
+      comes-back k side (opened mid.lent c (begun p)) p.woken run.1 after q opening.busy opening.valid begins;
   made = λ k q before after run ends.
       let side = side_of c in
       let mid = run.0 in
       let made = run.2.made in
-      let fits = begins-within c p run.2.accepted in
-      let is = rests-is side p holds (idle-of side p (begins-idle c p run.2.accepted)) in
-      let opening = subst (λ (r : Pipe). IsOpened c mid.lent q.lent r) (sym is) (opens c mid.lent q.lent p stepped (subst IsSound is sound) (subst (λ (r : Pipe). past c r ≡ None) is fits)) in
+      let opening = is-opened c mid.lent q.lent p stepped sound holds run.2.accepted in
       let begins = subst (λ (r : Pipe). Runs r run.1 (replicate k (Go side)) q after) (made.pipe ∙ opening.commutes) run.3 in
       let done = finish k side (opened mid.lent c (begun p)) p.woken run.1 after q opening.busy opening.valid begins ends in
       let began = Began side (kind_of c) (waker_of c) in
@@ -229,8 +249,19 @@ plain-opens c p b q plain sound is fits begins opens_it =
     subst (λ (v : Pipe). IsPlainOpened c p v) (sym same) (record { busy = opening.busy; moves = plainly.1; wakes = omega arith; rest = opening.rest })
 
 -- a call of write_buf has no step
-lends : (most : ℕ) (p : Pipe) → IsWholeBySteps (call.WriteBuf most) p
-lends most p = record {
+lends : (most : ℕ) (p : Pipe) → IsSound p → IsWholeBySteps (call.WriteBuf most) p
+lends most p sound = record {
+  opens = λ accepted before.
+      let can = lends-some most p sound.unread sound.start in
+      let lent = replicate can.count 0 in
+      let may = subst (λ (n : ℕ). Lendable most p n) (sym (length-replicate can.count 0)) can.may in
+      (lending lent p, before ++ (began lent (call.WriteBuf most) p).events, record { accepted = accepted; made = record { lent = may; pipe = refl; events = refl } });
+  ends = λ k q before after run.
+      let mid = run.0 in
+      let idle = ap (λ (r : Pipe). r.writer) run.2.made.pipe ∙ writer-idle p.writer (begins-idle (call.WriteBuf most) p run.2.accepted) in
+      let over = no_more k Writer mid q run.1 after (subst (λ (point : WritePoint). cannot_go (writer_state point) ≡ None → ⊥) (sym idle) (λ none. absurd (cc))) run.3 in
+      let rests = ap (λ (r : Pipe). r.writer) over.1 ∙ idle in
+      record { steps = 0; pipe = q; after = after; runs = (refl, refl); returned = subst (λ (point : WritePoint). writer_state point ≡ Busy → ⊥) (sym rests) (λ busy. absurd (cc)) };
   made = λ k q before after run ends.
       let mid = run.0 in
       let made = run.2.made in
@@ -250,7 +281,7 @@ lends most p = record {
 
 pub whole-by_steps : (c : Call) (p : Pipe) → IsSound p → HoldsNothing (side_of c) p → IsWholeBySteps c p
 unfolding is_lending
-whole-by_steps (call.WriteBuf most) p sound holds = lends most p
+whole-by_steps (call.WriteBuf most) p sound holds = lends most p sound
 whole-by_steps c p sound holds = makes c p refl sound holds
 
 module _ (m : Inside) (i : IsMachine m) where

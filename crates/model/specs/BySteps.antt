@@ -1,5 +1,5 @@
 -- A call made by steps, none of which is the other side's, is the call run whole.
-use Rattle.std.specs.Prelude.{◌≡◌, ℕ, ◌≤◌, List, [], ◌∷◌, ◌++◌, length, replicate, Bool, true, false, Result, Ok, Err, Some}
+use Rattle.std.specs.Prelude.{◌≡◌, ℕ, ◌≤◌, List, [], ◌∷◌, ◌++◌, length, replicate, Bool, true, false, Result, Ok, Err, None, Some}
 use Rattle.piper_protocol.specs.declared.table.Side.{Side}
 use Rattle.piper_protocol.specs.declared.table.Side.TheVariants.{Reader, Writer}
 use Rattle.model_sides.specs.declared.calls.SideState.TheVariants.{Busy}
@@ -24,9 +24,9 @@ use Rattle.model.specs.Move.{produce, consume}
 use Rattle.model.specs.Copy.{Copied, count_of, fill, drain, try_fill, try_drain}
 use Rattle.model.specs.Scripted.{fill_from, drain_to}
 use Rattle.model.specs.Close.{close, dropped}
-use Rattle.model.specs.Refusal.{state_of}
+use Rattle.model.specs.Refusal.{state_of, refusal_of}
 use Rattle.model.specs.Counts.{most_steps}
-use Rattle.model.specs.Run.{Runs}
+use Rattle.model.specs.Run.{Made, Runs}
 use Rattle.model.specs.Alone.{Ended}
 
 abbrev pub answering : Answer → Pipe → Ended
@@ -115,9 +115,24 @@ abbrev pub found_alone : Side → Pipe → ℕ
 found_alone Reader p = (reader_refreshed p).known
 found_alone Writer p = (writer_refreshed p).room
 
--- as soon as steps of its side alone leave that side without an open call,
--- the call is made as if it were run whole, and in no more steps than it may make
+-- so many steps more of the side alone, and its call has returned
+pub record Returns (side : Side) (p : Pipe) (before : List Event) : Type 0 where
+  pub steps : ℕ
+  pub pipe : Pipe
+  pub after : List Event
+  pub runs : Runs p before (replicate steps (Go side)) pipe after
+  pub returned : state_of side pipe ≡ Busy → ⊥
+
 pub record IsWholeBySteps (c : Call) (p : Pipe) : Type 0 where
+  -- what nothing refuses can be opened
+  pub opens : refusal_of (Begin c) p ≡ None → (before : List Event) →
+      (q : Pipe) × (after : List Event) × Made p (Begin c) q before after
+  -- wherever steps of its side alone lead, more of them lead to its end
+  pub ends : (k : ℕ) (q : Pipe) (before after : List Event) →
+      let side = side_of c in
+      Runs p before (Begin c ∷ replicate k (Go side)) q after → Returns side q after
+  -- as soon as such steps leave that side without an open call,
+  -- the call is made as if it were run whole, and in no more steps than it may make
   pub made : (k : ℕ) (q : Pipe) (before after : List Event) →
       let side = side_of c in
       Runs p before (Begin c ∷ replicate k (Go side)) q after → (state_of side q ≡ Busy → ⊥) →

@@ -1,9 +1,11 @@
 -- The same call run whole and made by steps, evaluated side by side.
-use Rattle.std.specs.Prelude.{◌≡◌, ℕ, [], ◌∷◌, replicate, None, refl}
+use Rattle.std.specs.Prelude.{◌≡◌, ℕ, [], ◌∷◌, replicate, None, Some, refl}
 use Rattle.piper_protocol.specs.declared.table.Side.TheVariants.{Reader, Writer}
 use Rattle.model_sides.specs.declared.calls.Call as calls
 use Rattle.model_sides.specs.declared.calls.Call.TheVariants as call
 use Rattle.model_sides.specs.declared.calls.Kind.TheVariants as kind
+use Rattle.model_sides.specs.declared.calls.SideState.TheVariants as state
+use Rattle.model_sides.specs.declared.refusals.StepRefusal.TheVariants as refusal
 use Rattle.model_sides.specs.declared.calls.Step.TheVariants as step
 use Rattle.piper_protocol.specs.declared.answer.Answer.TheVariants as answer
 use Rattle.model_sides.specs.declared.events.Event.TheVariants.{Began, Consumed, Woken, Answered, Looked}
@@ -11,6 +13,7 @@ use Rattle.model_sides.specs.declared.events.Seen.TheVariants as seen
 use Rattle.piper_protocol.specs.declared.answer.Polled.TheVariants as polled
 use Rattle.model.specs.Pipe.{Pipe, fresh}
 use Rattle.model.specs.Counts.{most_steps}
+use Rattle.model.specs.Refusal.{refusal_of, state_of}
 use Rattle.model.specs.BySteps.{whole, names_of, found_alone}
 use Rattle.model.proofs.worked.Script.{◌to◌, Fill, Poll, by, yielding, after}
 use Rattle.model.proofs.worked.StepScript.{Gone, gone}
@@ -57,3 +60,10 @@ found_by_the_looks = (refl, refl, refl)
 
 steps_of_the_drain : most_steps (found_alone Reader full) (call.TryDrain 3) ≡ 22
 steps_of_the_drain = refl
+
+-- the drain has not returned after five steps; it has after six, and then there is no seventh
+end_of_the_drain :
+    (state_of Reader (by_steps 5 (call.TryDrain 3)).pipe ≡ state.Busy)
+    × (state_of Reader (by_steps 6 (call.TryDrain 3)).pipe ≡ state.Idle)
+    × (refusal_of (step.Go Reader) (by_steps 6 (call.TryDrain 3)).pipe ≡ Some refusal.Idle)
+end_of_the_drain = (refl, refl, refl)
