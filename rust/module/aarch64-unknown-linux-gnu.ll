@@ -1651,17 +1651,17 @@ start:
   %r3.i25.i.i.i.i = load ptr, ptr %0, align 8, !noundef !1
   %r14.i.i1.i.i.i = getelementptr i8, ptr %r3.i25.i.i.i.i, i64 144
   tail call void asm sideeffect "", "~{memory}"() #13
-  %r2.i.i28.i.i.i.i = atomicrmw xchg ptr %r14.i.i1.i.i.i, i64 0 seq_cst, align 8
+  %r2.i.i29.i.i.i.i = atomicrmw xchg ptr %r14.i.i1.i.i.i, i64 0 seq_cst, align 8
   tail call void asm sideeffect "", "~{memory}"() #13
-  %r45.i.i.i.not.i = icmp eq i64 %r2.i.i28.i.i.i.i, 0
+  %r45.i.i.i.not.i = icmp eq i64 %r2.i.i29.i.i.i.i, 0
   br i1 %r45.i.i.i.not.i, label %"piper_c::halves::wake_waiting::<#0cb11447e5a9478d>.exit.i.i", label %join.3.i.i.i.i
 
 join.3.i.i.i.i:                                   ; preds = %start
   %r55.i.i.i.i = getelementptr i8, ptr %0, i64 64
   %r2.i.i27.i.i.i.i = load ptr, ptr %r55.i.i.i.i, align 8, !noundef !1
   %r11.i.i.i.i.i.i = load i8, ptr %r2.i.i27.i.i.i.i, align 1
-  %r14.i.i29.i.i.i.i = getelementptr i8, ptr %r2.i.i27.i.i.i.i, i64 8
-  %r0.sroa.3.i.sroa.0.0.copyload.i.i.i.i.i = load i64, ptr %r14.i.i29.i.i.i.i, align 1
+  %r14.i.i30.i.i.i.i = getelementptr i8, ptr %r2.i.i27.i.i.i.i, i64 8
+  %r0.sroa.3.i.sroa.0.0.copyload.i.i.i.i.i = load i64, ptr %r14.i.i30.i.i.i.i, align 1
   %r0.sroa.3.i.sroa.4.0.r14.i.sroa_idx.i.i.i.i.i = getelementptr i8, ptr %r2.i.i27.i.i.i.i, i64 16
   %r0.sroa.3.i.sroa.4.0.copyload.i.i.i.i.i = load i64, ptr %r0.sroa.3.i.sroa.4.0.r14.i.sroa_idx.i.i.i.i.i, align 1
   tail call void @llvm.memset.p0.i64(ptr noundef nonnull align 1 dereferenceable(24) %r2.i.i27.i.i.i.i, i8 0, i64 24, i1 false)
@@ -1781,9 +1781,9 @@ join.3.i.i.i:                                     ; preds = %then.1.i
   %r3.i11.i.i.i.i = load ptr, ptr %0, align 8, !noundef !1
   %r14.i.i1.i.i.i = getelementptr i8, ptr %r3.i11.i.i.i.i, i64 72
   tail call void asm sideeffect "", "~{memory}"() #13
-  %r2.i.i29.i.i.i.i = atomicrmw xchg ptr %r14.i.i1.i.i.i, i64 0 seq_cst, align 8
+  %r2.i.i30.i.i.i.i = atomicrmw xchg ptr %r14.i.i1.i.i.i, i64 0 seq_cst, align 8
   tail call void asm sideeffect "", "~{memory}"() #13
-  %r45.i.i.i.i = icmp eq i64 %r2.i.i29.i.i.i.i, 0
+  %r45.i.i.i.i = icmp eq i64 %r2.i.i30.i.i.i.i, 0
   br i1 %r45.i.i.i.i, label %"piper_c::reader::piper_reader_consume.exit", label %join.3.i.i.i.i
 
 join.3.i.i.i.i:                                   ; preds = %join.3.i.i.i
@@ -1791,8 +1791,8 @@ join.3.i.i.i.i:                                   ; preds = %join.3.i.i.i
   %r2.i.i2.i.i.i = load ptr, ptr %r55.i.i.i.i, align 8, !noundef !1
   %r13.i.i.i20.i.i = getelementptr i8, ptr %r2.i.i2.i.i.i, i64 24
   %r11.i.i.i.i.i.i = load i8, ptr %r13.i.i.i20.i.i, align 1
-  %r14.i.i30.i.i.i.i = getelementptr i8, ptr %r2.i.i2.i.i.i, i64 32
-  %r0.sroa.3.i.sroa.0.0.copyload.i.i.i.i.i = load i64, ptr %r14.i.i30.i.i.i.i, align 1
+  %r14.i.i31.i.i.i.i = getelementptr i8, ptr %r2.i.i2.i.i.i, i64 32
+  %r0.sroa.3.i.sroa.0.0.copyload.i.i.i.i.i = load i64, ptr %r14.i.i31.i.i.i.i, align 1
   %r0.sroa.3.i.sroa.4.0.r14.i.sroa_idx.i.i.i.i.i = getelementptr i8, ptr %r2.i.i2.i.i.i, i64 40
   %r0.sroa.3.i.sroa.4.0.copyload.i.i.i.i.i = load i64, ptr %r0.sroa.3.i.sroa.4.0.r14.i.sroa_idx.i.i.i.i.i, align 1
   tail call void @llvm.memset.p0.i64(ptr noundef nonnull align 1 dereferenceable(24) %r13.i.i.i20.i.i, i8 0, i64 24, i1 false)
@@ -1867,17 +1867,17 @@ join.3.i.i.i:                                     ; preds = %then.1.i
   %r3.i25.i.i.i.i = load ptr, ptr %0, align 8, !noundef !1
   %r14.i.i1.i.i.i = getelementptr i8, ptr %r3.i25.i.i.i.i, i64 144
   tail call void asm sideeffect "", "~{memory}"() #13
-  %r2.i.i28.i.i.i.i = atomicrmw xchg ptr %r14.i.i1.i.i.i, i64 0 seq_cst, align 8
+  %r2.i.i29.i.i.i.i = atomicrmw xchg ptr %r14.i.i1.i.i.i, i64 0 seq_cst, align 8
   tail call void asm sideeffect "", "~{memory}"() #13
-  %r45.i.i.i.i = icmp eq i64 %r2.i.i28.i.i.i.i, 0
+  %r45.i.i.i.i = icmp eq i64 %r2.i.i29.i.i.i.i, 0
   br i1 %r45.i.i.i.i, label %"piper_c::writer::piper_writer_publish.exit", label %join.3.i.i.i.i
 
 join.3.i.i.i.i:                                   ; preds = %join.3.i.i.i
   %r55.i.i.i.i = getelementptr i8, ptr %0, i64 64
   %r2.i.i27.i.i.i.i = load ptr, ptr %r55.i.i.i.i, align 8, !noundef !1
   %r11.i.i.i.i.i.i = load i8, ptr %r2.i.i27.i.i.i.i, align 1
-  %r14.i.i29.i.i.i.i = getelementptr i8, ptr %r2.i.i27.i.i.i.i, i64 8
-  %r0.sroa.3.i.sroa.0.0.copyload.i.i.i.i.i = load i64, ptr %r14.i.i29.i.i.i.i, align 1
+  %r14.i.i30.i.i.i.i = getelementptr i8, ptr %r2.i.i27.i.i.i.i, i64 8
+  %r0.sroa.3.i.sroa.0.0.copyload.i.i.i.i.i = load i64, ptr %r14.i.i30.i.i.i.i, align 1
   %r0.sroa.3.i.sroa.4.0.r14.i.sroa_idx.i.i.i.i.i = getelementptr i8, ptr %r2.i.i27.i.i.i.i, i64 16
   %r0.sroa.3.i.sroa.4.0.copyload.i.i.i.i.i = load i64, ptr %r0.sroa.3.i.sroa.4.0.r14.i.sroa_idx.i.i.i.i.i, align 1
   tail call void @llvm.memset.p0.i64(ptr noundef nonnull align 1 dereferenceable(24) %r2.i.i27.i.i.i.i, i8 0, i64 24, i1 false)
@@ -1954,17 +1954,17 @@ join.3.i.i.i.i:                                   ; preds = %then.1.i.i
   %r3.i25.i.i.i.i.i = load ptr, ptr %0, align 8, !noundef !1
   %r14.i.i1.i.i.i.i = getelementptr i8, ptr %r3.i25.i.i.i.i.i, i64 144
   tail call void asm sideeffect "", "~{memory}"() #13
-  %r2.i.i28.i.i.i.i.i = atomicrmw xchg ptr %r14.i.i1.i.i.i.i, i64 0 seq_cst, align 8
+  %r2.i.i29.i.i.i.i.i = atomicrmw xchg ptr %r14.i.i1.i.i.i.i, i64 0 seq_cst, align 8
   tail call void asm sideeffect "", "~{memory}"() #13
-  %r45.i.i.i.i.i = icmp eq i64 %r2.i.i28.i.i.i.i.i, 0
+  %r45.i.i.i.i.i = icmp eq i64 %r2.i.i29.i.i.i.i.i, 0
   br i1 %r45.i.i.i.i.i, label %"piper_c::writer::piper_writer_publish.exit.i", label %join.3.i.i.i.i.i
 
 join.3.i.i.i.i.i:                                 ; preds = %join.3.i.i.i.i
   %r55.i.i.i.i.i = getelementptr i8, ptr %0, i64 64
   %r2.i.i27.i.i.i.i.i = load ptr, ptr %r55.i.i.i.i.i, align 8, !noundef !1
   %r11.i.i.i.i.i.i.i = load i8, ptr %r2.i.i27.i.i.i.i.i, align 1
-  %r14.i.i29.i.i.i.i.i = getelementptr i8, ptr %r2.i.i27.i.i.i.i.i, i64 8
-  %r0.sroa.3.i.sroa.0.0.copyload.i.i.i.i.i.i = load i64, ptr %r14.i.i29.i.i.i.i.i, align 1
+  %r14.i.i30.i.i.i.i.i = getelementptr i8, ptr %r2.i.i27.i.i.i.i.i, i64 8
+  %r0.sroa.3.i.sroa.0.0.copyload.i.i.i.i.i.i = load i64, ptr %r14.i.i30.i.i.i.i.i, align 1
   %r0.sroa.3.i.sroa.4.0.r14.i.sroa_idx.i.i.i.i.i.i = getelementptr i8, ptr %r2.i.i27.i.i.i.i.i, i64 16
   %r0.sroa.3.i.sroa.4.0.copyload.i.i.i.i.i.i = load i64, ptr %r0.sroa.3.i.sroa.4.0.r14.i.sroa_idx.i.i.i.i.i.i, align 1
   tail call void @llvm.memset.p0.i64(ptr noundef nonnull align 1 dereferenceable(24) %r2.i.i27.i.i.i.i.i, i8 0, i64 24, i1 false)
@@ -2255,9 +2255,9 @@ join.3.i.i15.i.i:                                 ; preds = %"core::slice::edits
   %r3.i11.i.i.i.i.i = load ptr, ptr %0, align 8, !noundef !1
   %r14.i.i1.i.i.i.i = getelementptr i8, ptr %r3.i11.i.i.i.i.i, i64 72
   tail call void asm sideeffect "", "~{memory}"() #13
-  %r2.i.i29.i.i.i.i.i = atomicrmw xchg ptr %r14.i.i1.i.i.i.i, i64 0 seq_cst, align 8
+  %r2.i.i30.i.i.i.i.i = atomicrmw xchg ptr %r14.i.i1.i.i.i.i, i64 0 seq_cst, align 8
   tail call void asm sideeffect "", "~{memory}"() #13
-  %r45.i.i.i.i.i = icmp eq i64 %r2.i.i29.i.i.i.i.i, 0
+  %r45.i.i.i.i.i = icmp eq i64 %r2.i.i30.i.i.i.i.i, 0
   br i1 %r45.i.i.i.i.i, label %"piper_c::halves::ReadHalf::read.exit.thread13.i", label %join.3.i.i.i.i.i
 
 join.3.i.i.i.i.i:                                 ; preds = %join.3.i.i15.i.i
@@ -2265,8 +2265,8 @@ join.3.i.i.i.i.i:                                 ; preds = %join.3.i.i15.i.i
   %r2.i.i2.i.i.i.i = load ptr, ptr %r55.i.i.i.i.i, align 8, !noundef !1
   %r13.i.i.i20.i.i.i = getelementptr i8, ptr %r2.i.i2.i.i.i.i, i64 24
   %r11.i.i.i.i.i.i.i = load i8, ptr %r13.i.i.i20.i.i.i, align 1
-  %r14.i.i30.i.i.i.i.i = getelementptr i8, ptr %r2.i.i2.i.i.i.i, i64 32
-  %r0.sroa.3.i.sroa.0.0.copyload.i.i.i.i.i.i = load i64, ptr %r14.i.i30.i.i.i.i.i, align 1
+  %r14.i.i31.i.i.i.i.i = getelementptr i8, ptr %r2.i.i2.i.i.i.i, i64 32
+  %r0.sroa.3.i.sroa.0.0.copyload.i.i.i.i.i.i = load i64, ptr %r14.i.i31.i.i.i.i.i, align 1
   %r0.sroa.3.i.sroa.4.0.r14.i.sroa_idx.i.i.i.i.i.i = getelementptr i8, ptr %r2.i.i2.i.i.i.i, i64 40
   %r0.sroa.3.i.sroa.4.0.copyload.i.i.i.i.i.i = load i64, ptr %r0.sroa.3.i.sroa.4.0.r14.i.sroa_idx.i.i.i.i.i.i, align 1
   tail call void @llvm.memset.p0.i64(ptr noundef nonnull align 1 dereferenceable(24) %r13.i.i.i20.i.i.i, i8 0, i64 24, i1 false)
@@ -2564,17 +2564,17 @@ join.3.i.i23.i.i:                                 ; preds = %join.7.i.i
   %r3.i25.i.i.i.i.i = load ptr, ptr %0, align 8, !noundef !1
   %r14.i.i1.i.i.i.i = getelementptr i8, ptr %r3.i25.i.i.i.i.i, i64 144
   tail call void asm sideeffect "", "~{memory}"() #13
-  %r2.i.i28.i.i.i.i.i = atomicrmw xchg ptr %r14.i.i1.i.i.i.i, i64 0 seq_cst, align 8
+  %r2.i.i29.i.i.i.i.i = atomicrmw xchg ptr %r14.i.i1.i.i.i.i, i64 0 seq_cst, align 8
   tail call void asm sideeffect "", "~{memory}"() #13
-  %r45.i.i.i.i.i = icmp eq i64 %r2.i.i28.i.i.i.i.i, 0
+  %r45.i.i.i.i.i = icmp eq i64 %r2.i.i29.i.i.i.i.i, 0
   br i1 %r45.i.i.i.i.i, label %"piper_c::halves::WriteHalf::write.exit.thread20.i", label %join.3.i.i.i24.i.i
 
 join.3.i.i.i24.i.i:                               ; preds = %join.3.i.i23.i.i
   %r55.i.i.i.i.i = getelementptr i8, ptr %0, i64 64
   %r2.i.i27.i.i.i.i.i = load ptr, ptr %r55.i.i.i.i.i, align 8, !noundef !1
   %r11.i.i.i.i.i.i.i = load i8, ptr %r2.i.i27.i.i.i.i.i, align 1
-  %r14.i.i29.i.i.i.i.i = getelementptr i8, ptr %r2.i.i27.i.i.i.i.i, i64 8
-  %r0.sroa.3.i.sroa.0.0.copyload.i.i.i.i.i.i = load i64, ptr %r14.i.i29.i.i.i.i.i, align 1
+  %r14.i.i30.i.i.i.i.i = getelementptr i8, ptr %r2.i.i27.i.i.i.i.i, i64 8
+  %r0.sroa.3.i.sroa.0.0.copyload.i.i.i.i.i.i = load i64, ptr %r14.i.i30.i.i.i.i.i, align 1
   %r0.sroa.3.i.sroa.4.0.r14.i.sroa_idx.i.i.i.i.i.i = getelementptr i8, ptr %r2.i.i27.i.i.i.i.i, i64 16
   %r0.sroa.3.i.sroa.4.0.copyload.i.i.i.i.i.i = load i64, ptr %r0.sroa.3.i.sroa.4.0.r14.i.sroa_idx.i.i.i.i.i.i, align 1
   tail call void @llvm.memset.p0.i64(ptr noundef nonnull align 1 dereferenceable(24) %r2.i.i27.i.i.i.i.i, i8 0, i64 24, i1 false)
