@@ -49,7 +49,7 @@ abbrev pub TakesNone : {A E : Type 0}
 TakesNone r ended before after = ended × (after ≡ before) × OnPending r ⊥
 
 -- a slice that was lent: the first piece of the bytes that are known,
--- and an empty one only at an end that was seen. Where the poll is pending no byte is known
+-- and an empty one only at an end that was seen. If the poll is pending, no byte is known
 abbrev pub Lends : {E : Type 0} → Poll (Result (Bor (List ℕ)) E) → List ℕ → ℕ → Bool → Type 0
 Lends (Ready (Ok s)) known piece saw =
     (s.now ≡ take piece known) × (piece ≤ length known)
@@ -68,8 +68,8 @@ Reads (Ready (Err e)) old new before after saw = (after ≡ before) × (new ≡ 
 Reads Pending old new before after saw = (after ≡ before) × (new ≡ old)
 
 -- a slice that was written: of its first n bytes, which are counted, the first m were published;
--- and all n of them unless the pipe was seen closed, or else all but those of one round; and none of
--- some is counted only if it was seen closed. Else nothing was published
+-- and all n of them unless the pipe was seen closed, or else all but those of one round. A count of 0
+-- for a slice that isn't empty says that it was seen closed. Else nothing was published
 abbrev pub Writes : {E : Type 0} → Poll (Result ℕ E) → List ℕ → List ℕ → List ℕ → Bool → Type 0
 Writes (Ready (Ok n)) source before after saw =
     (n ≤ length source)

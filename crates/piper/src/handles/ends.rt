@@ -41,7 +41,7 @@ impl Reader {
         self.side.observe(mark);
     }
 
-    /// Tells both handles of each other, once one thread holds both.
+    /// Lets each handle learn what the other did. One thread has to hold both.
     ///
     /// After it the reader knows of all that was published, and the writer of all the free room. If
     /// either saw the pipe closed, the writer closed it, and what the reader holds to be all bytes
