@@ -1,5 +1,5 @@
 -- What stays after the end was reported.
-use Rattle.std.proofs.Common.{◌≡◌, ℕ, ◌≤◌, ◌++◌, Bool, true, false, [], take, drop, refl, sym, ap, ◌∙◌, append-nil, Result, Ok, Err, length, true≢false, arith}
+use Rattle.std.proofs.Common.{◌≡◌, ℕ, ◌++◌, Bool, true, false, [], take, drop, refl, sym, ap, ◌∙◌, append-nil, Result, Ok, Err, length, true≢false, arith}
 use Rattle.std.proofs.lemmas.List.{append_cancel_left}
 use Rattle.std.proofs.Math.Seq.{take-nil, drop-nil}
 use Rattle.piper_ring.specs.Streams.{either}

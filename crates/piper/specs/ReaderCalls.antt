@@ -5,12 +5,11 @@ use Rattle.futures.specs.Poll.{OnPending}
 use Rattle.futures.specs.declared.task.context.Context.{Context}
 use Rattle.futures.specs.declared.task.Poll.{Poll}
 use Rattle.futures.specs.declared.task.Poll.TheVariants.{Ready}
-use Rattle.std.specs.Io.{StartsWith}
 use denote.Ref.{Bor}
-use Rattle.piper_ring.specs.ReadView.{KeepsAll as EndKeepsAll, KnowsEnd, MayBeUnread as EndMayHave, in_one_piece}
+use Rattle.piper_ring.specs.ReadView.{KeepsAll as EndKeepsAll, KnowsEnd, MayBeUnread as EndMayHave}
 use Rattle.piper_ring.specs.SlotsView.{IsReaderPending, IsWriterPending, KeepsSlots, OnlyWaits, WaitsAsBefore}
 use Rattle.piper.specs.Called.{CallsTaken}
-use Rattle.piper.specs.Contexts.{AsksAgain, WantsWaker}
+use Rattle.piper.specs.Contexts.{AsksAgain}
 use Rattle.piper.specs.Copies.{ReaderCopied}
 use Rattle.piper.specs.CopyAnswers.{OnMemory}
 use Rattle.piper.specs.Drains.{Drains, EndIsTrue, EndIsUnseen, found_len}
@@ -19,8 +18,8 @@ use Rattle.piper.specs.Handles.{NotifiesReader, NotifiesWriter, SameReader, Same
 use Rattle.piper.specs.Like.{Passes, appends_to}
 use Rattle.piper_ring.specs.Looks.{IsEnded, ReaderIsUpToDate, ReaderLooked}
 use Rattle.piper.specs.Looks.{ReaderFound}
-use Rattle.piper.specs.Polls.{After, Count, IfReadyErr, IfReadyOk, Lends, TakesNone}
-use Rattle.piper.specs.Waits.{ReaderIsRefused, ReaderIsRemembered, ReaderIsWaiting, ReaderPends, WriterIsRemembered, ReaderLeavesNone, ReaderRegistered}
+use Rattle.piper.specs.Polls.{After, Count, IfReadyErr, IfReadyOk, TakesNone}
+use Rattle.piper.specs.Waits.{ReaderIsRefused, ReaderIsRemembered, ReaderPends, WriterIsRemembered, ReaderLeavesNone, ReaderRegistered}
 use Rattle.piper.specs.declared.error.CopyError.{CopyError}
 use Rattle.piper.specs.declared.error.PipeError.{PipeError}
 use Rattle.piper_ring.specs.declared.ends.finished.FinishedWriter.{FinishedWriter}
@@ -58,24 +57,7 @@ pub record PollsEnd {A E : Type 0} (r : Poll (Result A E)) (a b : Reader) : Type
   pub after : AtEnd a → After r (AtEnd b) b.side.end.known
   pub all : KeepsAll a b
 
--- a poll lent the first piece of the known bytes: no byte was taken; an empty piece is the end,
--- which is final; a pending poll waits, and was not told of the end; and one that fails wants memory
-abbrev pub LendsPiece : Poll (Result (Bor (List ℕ)) PipeError)
-    → Reader → Reader → Context → Type 0
-LendsPiece r a b cx =
-    Lends r b.side.end.known (in_one_piece b.side.end) b.side.end.saw
-    × IfReadyOk r (λ lent. length lent.now ≡ 0 → AtEnd b)
-    × (AtEnd a → After r (AtEnd b) b.side.end.known)
-    × StartsWith b.side.end.known a.side.end.known
-    × (b.side.end.taken ≡ a.side.end.taken)
-    × (a.side.end.saw ≡ true → b.side.end.saw ≡ true)
-    × IfReadyErr r (WantsWaker cx)
-    × (b.side.end.told_shut ≡ a.side.end.told_shut)
-    × OnPending r ((b.side.end.told_shut ≡ false) × ReaderIsWaiting b cx)
-    × OnPending r (Covers cx (λ s. s ≡ read_source b))
-    × (NotifiesWriter a → NotifiesWriter b)
-
--- and else it is `poll`: it looked, and if it is pending it waits as that does
+-- a poll that lends looked as `poll` does, and if it is pending it waits as that does
 pub record PollsPiece (r : Poll (Result (Bor (List ℕ)) PipeError)) (a b : Reader) (cx : Context)
     : Type 0 where
   pub looked : ReaderLooked a.side.end b.side.end

@@ -2,7 +2,7 @@
 use Rattle.std.specs.Prelude.{◌≡◌, ℕ, ◌<◌, ◌≤◌, ◌+◌, ◌-◌, min, ◌++◌, take, drop, Bool, true, false, List, [], ◌⊎◌, length, Option}
 use Rattle.piper_ring.specs.Loads.{FoundClosed, IsAway}
 use Rattle.piper_ring.specs.Looks.{IsEnded, ReaderLooked as EndLooked}
-use Rattle.piper_ring.specs.ReadView.{HasLoadedTail, ReadView, KeepsAll, in_one_piece, read_place}
+use Rattle.piper_ring.specs.ReadView.{HasLoadedTail, KeepsAll, in_one_piece, read_place}
 use Rattle.piper_ring.specs.SlotsView.{SlotsView, IsReaderPending, IsReaderAtRest, OnlyWaits, WaitsAsBefore}
 use Rattle.piper_c.specs.declared.halves.ReadHalf.{ReadHalf}
 use Rattle.piper_c.specs.declared.outcome.Outcome.{Outcome}

@@ -1,5 +1,5 @@
 -- Looks of the two sides: what they find, where they lead, and what they leave of their end.
-use Rattle.std.specs.Prelude.{◌≡◌, ℕ, ◌+◌, ◌<◌, ◌≤◌, ◌++◌, ◌==◌, true, false, [], length, ⊤}
+use Rattle.std.specs.Prelude.{◌≡◌, ◌+◌, ◌<◌, ◌≤◌, ◌++◌, ◌==◌, true, false, [], length, ⊤}
 use Rattle.piper_protocol.specs.Table.{Next, ends, goes_on, look_answer, reader_looks_for, writer_found, writer_found_none}
 use Rattle.piper_protocol.specs.declared.answer.Polled.TheVariants.{Pending, Ready}
 use Rattle.piper_protocol.specs.declared.table.Point.{Point}

@@ -3,7 +3,7 @@ use Rattle.std.specs.Prelude.{◌≡◌, ℕ, ◌+◌, ◌-◌, ◌^◌, ◌<◌
 use Rattle.std.specs.Coded.{Coded, code_by, coded×, coded_list, coded_ℕ, coded_bool}
 use Rattle.rtrb.specs.Fifo.{position_of, slot_of as offset_of}
 use mathlib.Core.List.{IsPrefix}
-use Rattle.piper_ring.specs.Shared.{Ring, ring_of, ring_code, flag}
+use Rattle.piper_ring.specs.Shared.{Ring, ring_of, ring_code}
 use Rattle.piper_ring.specs.Streams.{Reaches, either}
 use Rattle.piper_ring.specs.Loads.{FoundPublished}
 use Rattle.piper_ring.specs.declared.ends.reader.ReadParts.{ReadParts}
