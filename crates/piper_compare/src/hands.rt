@@ -11,8 +11,8 @@ use piper_script::reply::Reply;
 use std::alloc::AllocGlobal;
 use std::random::RandomSource;
 
-/// Of so many places a lend has one length.
-const MOST_TO_LEND: usize = 4096;
+/// A lend of at most so many places has one length.
+pub const MOST_OF_ONE_LENGTH: usize = 4096;
 
 /// The handles that a script made last, and the room in which bytes come from them.
 #[derive(Drop)]
@@ -61,8 +61,8 @@ impl<H: RandomSource + AllocGlobal + Drop> Hands<H> {
         }
     }
 
-    /// Whether only the machine plays it: single steps, a waker that cannot be made, a lend whose
-    /// length the contracts leave open, and a look at the bytes of a reader that is gone.
+    /// Whether only the machine plays it: single steps, a waker that cannot be made, and a look at
+    /// the bytes of a reader that is gone.
     pub fn is_only_machine(&self, command: &Command) -> bool {
         match command {
             Command::Begin(_) | Command::Go(..) => true,
@@ -70,13 +70,22 @@ impl<H: RandomSource + AllocGlobal + Drop> Hands<H> {
                 Some(pair) => pair.is_dropped(Side::Reader),
                 None => false,
             },
-            Command::Whole(said) => is_open(said),
+            Command::Whole(said) => is_unlucky(said),
             Command::Pipe(_) | Command::Put(..) => false,
         }
     }
 
-    /// Runs the command and writes what it prints.
+    /// Runs the command and writes what it prints. A lend whose length the contracts leave open is
+    /// for the machine alone, as what a script prints is to be the same on both.
     pub fn play(&mut self, command: Command, reply: &mut Reply) -> Result<(), Halt> {
+        if is_open_lend(&command) {
+            return Err(Halt::OnlyMachine);
+        }
+        self.play_any(command, reply)
+    }
+
+    /// Runs the command, also such a lend, and writes what it prints.
+    pub fn play_any(&mut self, command: Command, reply: &mut Reply) -> Result<(), Halt> {
         if self.is_only_machine(&command) {
             return Err(Halt::OnlyMachine);
         }
@@ -105,11 +114,17 @@ impl<H: RandomSource + AllocGlobal + Drop> Hands<H> {
     }
 }
 
-// Whether the line says that no waker can be made, or asks for a lend whose length the contracts
-// leave open.
-fn is_open(said: &SaidCall) -> bool {
+/// Whether the command is a lend whose length the contracts leave open.
+pub fn is_open_lend(command: &Command) -> bool {
+    match command {
+        Command::Whole(SaidCall::Lend(most)) => *most > MOST_OF_ONE_LENGTH,
+        _ => false,
+    }
+}
+
+// Whether the line says that no waker can be made.
+fn is_unlucky(said: &SaidCall) -> bool {
     match said {
-        SaidCall::Lend(most) => *most > MOST_TO_LEND,
         SaidCall::Poll(_, _, luck)
         | SaidCall::PollFill(_, _, luck)
         | SaidCall::PollDrain(_, _, luck)

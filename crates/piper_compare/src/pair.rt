@@ -4,7 +4,7 @@ ghost use Rattle.std.specs.Prelude.{◌≡◌, OnOk};
 use crate::calls::{read_as_task, read_at_once, write_as_task, write_at_once};
 use crate::draws::Draws;
 use crate::halt::Halt;
-use crate::tasks::{Tasks, rest};
+use crate::tasks::Tasks;
 use futures::test::MockTask;
 use model_sides::calls::Call;
 use model_sides::polling::Context;
@@ -101,13 +101,18 @@ impl Pair {
         if !call.has_good_draw() {
             return Err(Refusal::BadDraw.into());
         }
+        let draws = self.will_draw(call);
         let answer = match (call.context(), call) {
             (Some(context), _) => self.as_task(rt, context, call, dest)?,
             (None, Call::Close) => self.close(rt)?,
             (None, Call::Drop(side)) => self.drop_side(*side),
             (None, _) => self.at_once(call, dest)?,
         };
-        self.take_woken(call, answer, woken)?;
+        if draws {
+            self.pass(call.side());
+        }
+        let dropped = self.let_go(call, answer, draws);
+        self.take_woken(call, answer, dropped, woken)?;
         Ok(answer)
     }
 
@@ -152,9 +157,8 @@ impl Pair {
         call: &Call,
         dest: &mut [u8],
     ) -> Result<Answer, Halt> {
-        self.steer(rt, context, call)?;
-        let draws = self.will_draw(call);
-        let answer = match (call.side(), &mut self.reader, &mut self.writer) {
+        self.steer(rt, context.luck.draw == 0, call)?;
+        Ok(match (call.side(), &mut self.reader, &mut self.writer) {
             (Side::Reader, Some(owned), _) => {
                 let task = self.reading.of(rt, context.waker)?;
                 read_as_task(owned.get_mut(), task, call, dest)?
@@ -164,11 +168,7 @@ impl Pair {
                 write_as_task(owned.get_mut(), &mut self.lent, task, call)?
             }
             _ => return Err(Refusal::Dropped.into()),
-        };
-        if draws {
-            self.pass(call.side());
-        }
-        Ok(answer)
+        })
     }
 
     // Whether the call will draw: a copy does whose look finds something.
@@ -196,102 +196,118 @@ impl Pair {
         }
     }
 
-    // Copies of no byte, until the handle draws next what the line says.
+    // Copies of no byte, until the handle draws next what the line says. They are of a task of
+    // their own, whose wakes nobody asks for.
     fn steer(
         &mut self,
         rt: &(impl RandomSource + AllocGlobal),
-        context: Context,
+        yields: bool,
         call: &Call,
     ) -> Result<(), Stop> {
-        let yields = context.luck.draw == 0;
+        let task = MockTask::new(rt).map_err(|_| Stop::Memory)?;
         for _ in 0..u64::MAX {
             if (self.next_draw(call.side()) == 0) == yields || !self.will_draw(call) {
                 break;
             }
-            match call.side() {
-                Side::Reader => self.draw_as_reader(rt, context.waker)?,
-                Side::Writer => self.draw_as_writer(rt, context.waker)?,
-            }
+            self.draw_as(&task, call.side());
             self.pass(call.side());
         }
         Ok(())
     }
 
-    // A copy of no byte out of the pipe.
-    fn draw_as_reader(
-        &mut self,
-        rt: &(impl RandomSource + AllocGlobal),
-        waker: u32,
-    ) -> Result<(), Stop> {
-        let Some(owned) = &mut self.reader else {
-            return Ok(());
-        };
-        let reader = owned.get_mut();
-        let task = self.reading.of(rt, waker)?;
-        task.enter(|cx| reader.poll_drain_bytes(cx, &mut []));
-        rest(task);
-        Ok(())
+    // A copy of no byte out of the pipe, or into it.
+    fn draw_as(&mut self, task: &MockTask, side: Side) {
+        match (side, &mut self.reader, &mut self.writer) {
+            (Side::Reader, Some(owned), _) => {
+                let reader = owned.get_mut();
+                task.enter(|cx| reader.poll_drain_bytes(cx, &mut []));
+            }
+            (Side::Writer, _, Some(owned)) => {
+                let writer = owned.get_mut();
+                task.enter(|cx| writer.poll_fill_bytes(cx, &[]));
+            }
+            _ => {}
+        }
     }
 
-    // A copy of no byte into the pipe.
-    fn draw_as_writer(
-        &mut self,
-        rt: &(impl RandomSource + AllocGlobal),
-        waker: u32,
-    ) -> Result<(), Stop> {
-        let Some(owned) = &mut self.writer else {
-            return Ok(());
-        };
-        let writer = owned.get_mut();
-        let task = self.writing.of(rt, waker)?;
-        task.enter(|cx| writer.poll_fill_bytes(cx, &[]));
-        rest(task);
-        Ok(())
+    // Keeps whose waker is in the slot of the call's side after it, and returns whose it dropped
+    // without a call. A polling call that found something to do empties the slot, and one that did
+    // not registers there; but a writer that finds the pipe closed leaves the slot as it is, and so
+    // does the drop of a side, unless it frees the pipe.
+    fn let_go(&mut self, call: &Call, answer: Answer, draws: bool) -> Option<u32> {
+        let side = call.side();
+        let is_freed = self.reader.is_none() && self.writer.is_none();
+        let tasks = self.tasks_of(side);
+        match call.context() {
+            Some(_) if draws || matches!(answer, Answer::Poll(Polled::Ready(true))) => {
+                tasks.unregister()
+            }
+            Some(context) if is_pending(answer) || side == Side::Reader => {
+                tasks.register(context.waker)
+            }
+            None if is_freed => tasks.unregister(),
+            None if matches!(call, Call::Close) => {
+                tasks.unregister();
+                None
+            }
+            _ => None,
+        }
     }
 
-    // Adds whom the call woke, the reader's tasks first.
+    fn tasks_of(&mut self, side: Side) -> &mut Tasks {
+        match side {
+            Side::Reader => &mut self.reading,
+            Side::Writer => &mut self.writing,
+        }
+    }
+
+    // Adds whom the call woke, the reader's tasks first. A waker of the other side that was called
+    // is in its slot no more.
     fn take_woken(
-        &self,
+        &mut self,
         call: &Call,
         answer: Answer,
+        dropped: Option<u32>,
         woken: &mut Vec<u32>,
     ) -> Result<(), AllocError> {
         let mut own = Vec::new(self.alloc);
         match call.side() {
             Side::Reader => {
                 self.reading.take_woken(&mut own)?;
-                add_called(call, answer, &own, woken)?;
-                self.writing.take_woken(woken)
+                add_called(call, answer, dropped, &own, woken)?;
+                self.writing.take_called(woken)
             }
             Side::Writer => {
-                self.reading.take_woken(woken)?;
+                self.reading.take_called(woken)?;
                 self.writing.take_woken(&mut own)?;
-                add_called(call, answer, &own, woken)
+                add_called(call, answer, dropped, &own, woken)
             }
         }
     }
 }
 
-// Adds those of the call's own side that it called and did not only drop.
+// Adds those of the call's own side that were woken, except the one whose waker the call only
+// dropped: that also wakes its task.
 fn add_called(
     call: &Call,
     answer: Answer,
+    dropped: Option<u32>,
     own: &[u32],
     woken: &mut Vec<u32>,
 ) -> Result<(), AllocError> {
     for name in own {
-        if is_called(call, answer, *name) {
+        if dropped != Some(*name) || is_called(call, answer, *name) {
             woken.push(*name)?;
         }
     }
     Ok(())
 }
 
-// A polling call calls a waker of its own side only where it yields; a drop calls none.
+// A polling call that is pending calls no waker of its own side but its own.
 fn is_called(call: &Call, answer: Answer, name: u32) -> bool {
     match call.context() {
         Some(context) => context.waker == name && is_pending(answer),
-        None => !matches!(call, Call::Drop(_)),
+        None => false,
     }
 }
 

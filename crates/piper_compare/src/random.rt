@@ -67,7 +67,7 @@ impl Drawn {
                 write!(line, "consume {most}")
             }
             83..=87 => {
-                let most = self.size().min(4096);
+                let most = self.size();
                 write!(line, "lend {most}")
             }
             88..=91 => {

@@ -16,12 +16,15 @@ struct Named {
 #[derive(Drop)]
 pub struct Tasks {
     named: Vec<Named>,
+    /// Whose waker is in the side's slot.
+    waiting: Option<u32>,
 }
 
 impl Tasks {
     pub fn new(alloc: Global) -> Tasks {
         Tasks {
             named: Vec::new(alloc),
+            waiting: None,
         }
     }
 
@@ -45,6 +48,16 @@ impl Tasks {
         Ok(&self.named[place].task)
     }
 
+    /// The waker of this name is in the slot now. Returns another's that it replaced.
+    pub fn register(&mut self, name: u32) -> Option<u32> {
+        self.waiting.replace(name).filter(|other| *other != name)
+    }
+
+    /// The slot is empty now. Returns whose waker was in it.
+    pub fn unregister(&mut self) -> Option<u32> {
+        self.waiting.take()
+    }
+
     /// Adds the names of the tasks that were woken, which then are asleep again.
     pub fn take_woken(&self, names: &mut Vec<u32>) -> Result<(), AllocError> {
         for named in &self.named {
@@ -55,9 +68,19 @@ impl Tasks {
         }
         Ok(())
     }
+
+    /// The same after a call of the other side. If that called the waker in the slot, the slot is
+    /// empty now.
+    pub fn take_called(&mut self, names: &mut Vec<u32>) -> Result<(), AllocError> {
+        let waiting = self.waiting;
+        if self.named.iter().any(|named| Some(named.name) == waiting && named.task.is_woken()) {
+            self.waiting = None;
+        }
+        self.take_woken(names)
+    }
 }
 
 /// One poll that does nothing: the task is not woken any more.
-pub fn rest(task: &MockTask) {
+fn rest(task: &MockTask) {
     task.enter(|_cx| ());
 }

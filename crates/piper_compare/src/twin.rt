@@ -1,16 +1,21 @@
 //! Plays commands on the handles and on the machine, and holds the answers against each other.
-ghost use Rattle.std.specs.Prelude.{◌≡◌, None, Some, IfErr, IfOk, IfSome, OnOk};
+ghost use Rattle.std.specs.Prelude.{◌≡◌, ◌≤◌, None, Some, IfErr, IfOk, IfSome, OnOk};
 ghost use Rattle.piper_interpreter.specs.Ended.{IsEndOf};
+ghost use Rattle.piper_script.specs.Command.{IsInLimits};
+ghost use Rattle.piper_script.specs.Limits.{greatest_number};
 
 use crate::halt::{Halt, finish};
-use crate::hands::Hands;
+use crate::hands::{Hands, MOST_OF_ONE_LENGTH, is_open_lend};
 use piper_interpreter::player::Player;
 use piper_interpreter::replay::Ended;
+use piper_script::command::{Command, MOST, SaidCall};
+use piper_script::number::number;
 use piper_script::parser::parse;
 use piper_script::reply::Reply;
 use piper_script::stop::Stop;
 use std::alloc::AllocGlobal;
 use std::random::RandomSource;
+use std::str;
 
 /// A machine and handles on which the same script is played, and what each answered to the last
 /// line.
@@ -90,7 +95,10 @@ impl<H: RandomSource + AllocGlobal + Drop> Twin<H> {
             Err(refusal) => Err(Halt::from(refusal)),
         };
         let command = match command {
-            Ok(command) => self.hands.with_draw(command),
+            Ok(command) => match self.common_length(command) {
+                Some(length) => Command::Whole(SaidCall::Lend(length)),
+                None => self.hands.with_draw(command),
+            },
             Err(halt) => {
                 finish(Err(halt), number, &mut self.handles)?;
                 return Ok(Compared::Refused);
@@ -98,7 +106,7 @@ impl<H: RandomSource + AllocGlobal + Drop> Twin<H> {
         };
         let played = self.player.play(command, &mut self.machine);
         let is_refused = finish(played.map_err(Halt::from), number, &mut self.machine)?;
-        let played = self.hands.play(command, &mut self.handles);
+        let played = self.hands.play_any(command, &mut self.handles);
         finish(played, number, &mut self.handles)?;
         Ok(if self.machine.as_bytes() != self.handles.as_bytes() {
             Compared::Differ(Difference { untold: None })
@@ -108,4 +116,30 @@ impl<H: RandomSource + AllocGlobal + Drop> Twin<H> {
             Compared::Alike
         })
     }
+
+    // How many places both lend where the contracts leave open how many a lend gets: as many as the
+    // one of the two that lends fewer, so that both go on with as many.
+    fn common_length(&mut self, command: Command) -> Option<usize>
+        requires { IsInLimits command }
+        ensures { IfSome result (λ n. n ≤ greatest_number) }
+    {
+        if !is_open_lend(&command) {
+            return None;
+        }
+        let on_machine = self.player.play(command, &mut self.machine);
+        let on_handles = self.hands.play_any(command, &mut self.handles);
+        let on_machine = on_machine.ok().and_then(|()| length_of(&self.machine));
+        let on_handles = on_handles.ok().and_then(|()| length_of(&self.handles));
+        self.machine.clear();
+        self.handles.clear();
+        let length = on_machine?.min(on_handles?);
+        (length >= MOST_OF_ONE_LENGTH).then_some(length)
+    }
+}
+
+// The number that was printed.
+fn length_of(reply: &Reply) -> Option<usize>
+    ensures { IfSome result (λ n. n ≤ greatest_number) }
+{
+    number(str::from_utf8(reply.as_bytes()).ok()?, 0, MOST).ok()
 }
