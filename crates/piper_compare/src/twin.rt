@@ -1,5 +1,5 @@
 //! Plays commands on the handles and on the machine, and holds the answers against each other.
-ghost use Rattle.std.specs.Prelude.{◌≡◌, ◌≤◌, None, Some, IfErr, IfOk, IfSome, OnOk};
+ghost use Rattle.std.specs.Prelude.{◌≡◌, ◌≤◌, ◌⊎◌, None, Some, IfErr, IfOk, IfSome, OnOk};
 ghost use Rattle.piper_interpreter.specs.Ended.{IsEndOf};
 ghost use Rattle.piper_script.specs.Command.{IsInLimits};
 ghost use Rattle.piper_script.specs.Limits.{greatest_number};
@@ -84,7 +84,8 @@ impl<H: RandomSource + AllocGlobal + Drop> Twin<H> {
     /// Plays a line on both.
     pub fn play(&mut self, number: u64, line: &[u8]) -> Result<Compared, Stop>
         ensures alike { IfOk result (λ compared.
-            compared ≡ Compared.Alike → self.new.machine ≡ self.new.handles) }
+            (compared ≡ Compared.Alike) ⊎ (compared ≡ Compared.Refused) →
+            self.new.machine ≡ self.new.handles) }
     {
         self.machine.clear();
         self.handles.clear();
@@ -100,21 +101,30 @@ impl<H: RandomSource + AllocGlobal + Drop> Twin<H> {
                 None => self.hands.with_draw(command),
             },
             Err(halt) => {
+                finish(Err(halt), number, &mut self.machine)?;
                 finish(Err(halt), number, &mut self.handles)?;
-                return Ok(Compared::Refused);
+                return Ok(self.compared(true));
             }
         };
         let played = self.player.play(command, &mut self.machine);
         let is_refused = finish(played.map_err(Halt::from), number, &mut self.machine)?;
         let played = self.hands.play_any(command, &mut self.handles);
         finish(played, number, &mut self.handles)?;
-        Ok(if self.machine.as_bytes() != self.handles.as_bytes() {
+        Ok(self.compared(is_refused))
+    }
+
+    // What came of a line, by what both print.
+    fn compared(&self, is_refused: bool) -> Compared
+        ensures { (result ≡ Compared.Alike) ⊎ (result ≡ Compared.Refused) →
+            self.now.machine ≡ self.now.handles }
+    {
+        if self.machine.as_bytes() != self.handles.as_bytes() {
             Compared::Differ(Difference { untold: None })
         } else if is_refused {
             Compared::Refused
         } else {
             Compared::Alike
-        })
+        }
     }
 
     // How many places both lend where the contracts leave open how many a lend gets: as many as the
