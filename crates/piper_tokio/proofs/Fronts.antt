@@ -4,7 +4,7 @@ use Rattle.piper.specs.WriteView.{WriteView}
 use Rattle.piper.specs.WriterCalls.{Filled, SameWriterButMoved}
 use Rattle.piper.specs.declared.handles.Writer.{Writer}
 use Rattle.piper.proofs.Traits.{as_many}
-use Rattle.piper_tokio.specs.Passing.{Gave}
+use Rattle.piper_tokio.specs.Passing.{Gave, IsWritten}
 
 -- n bytes were counted, and the first m of them published
 pub counted : (n m : ℕ) (xs : List ℕ) → m ≤ n → take n xs ≡ take m xs ++ drop m (take n xs)
@@ -25,9 +25,7 @@ gave_front a b n xs filled over same =
       sent = filled.front.2;
       all = λ unseen. none_lost n m xs (as_many a.side.end.sent b.side.end.sent xs m n filled.front.1 filled.count filled.front.2 (filled.all unseen));
       over = λ seen. let none : n ≡ 0 = over seen in let zero : m ≡ 0 = omega (arith, filled.front.1) in ap (λ k. take k xs) zero;
-      end = record {
-        saw = same.end.saw;
-        rest = subst (λ (v : WriteView). v ≡ record a.side.end { sent = v.sent; room = v.room; lent = v.lent; saw = v.saw }) (sym same.end.rest) refl;
-      };
+      saw = same.end.saw;
+      end = subst (λ (v : WriteView). IsWritten a.side.end v) (sym same.end.rest) refl;
       handle = (same.cells, same.source);
     }

@@ -8,7 +8,7 @@ use Rattle.futures.specs.declared.task.context.Context.{Context}
 use Rattle.futures.specs.declared.task.Poll.{Poll}
 use Rattle.futures.specs.declared.task.Poll.TheVariants.{Ready, Pending}
 use Rattle.piper.specs.Copies.{ReaderCopied}
-use Rattle.piper.specs.Fills.{WriterFilled}
+use Rattle.piper.specs.WriteView.{WriteView}
 use Rattle.piper.specs.declared.error.CopyError.{CopyError}
 use Rattle.piper.specs.declared.error.CopyError.TheVariants.{Memory}
 use Rattle.piper.specs.declared.handles.Reader.{Reader}
@@ -21,6 +21,11 @@ pub record Took (a : Reader) (xs : List ℕ) (b : Reader) : Type 0 where
   pub end : ReaderCopied a.side.end b.side.end
   pub handle : (b.side.cells ≡ a.side.cells) × (b.source ≡ a.source)
 
+-- what a write and a shutdown change of a writer
+abbrev pub IsWritten : WriteView → WriteView → Type 0
+IsWritten a b =
+    b ≡ record a { sent = b.sent; room = b.room; lent = b.lent; shut = b.shut; saw = b.saw }
+
 -- the writer a was given the bytes xs, in this order, and is b now:
 -- an end of the same pipe. What it published of them is their front,
 -- and all of them unless it saw the pipe closed; and none once it saw that
@@ -31,7 +36,8 @@ pub record Gave (a : Writer) (xs : List ℕ) (b : Writer) : Type 0 where
   pub sent : b.side.end.sent ≡ a.side.end.sent ++ published
   pub all : b.side.end.saw ≡ false → lost ≡ []
   pub over : a.side.end.saw ≡ true → published ≡ []
-  pub end : WriterFilled a.side.end b.side.end
+  pub saw : a.side.end.saw ≡ true → b.side.end.saw ≡ true
+  pub end : IsWritten a.side.end b.side.end
   pub handle : (b.side.cells ≡ a.side.cells) × (b.source ≡ a.source)
 
 -- want of memory, since no waker could be made

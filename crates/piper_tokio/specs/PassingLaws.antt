@@ -2,12 +2,11 @@
 use Rattle.std.specs.Prelude.{◌≡◌, ◌≤◌, ◌++◌, Bool, true, false, List, [], ℕ, refl}
 use Rattle.std.proofs.Common.{sym, ap, ap₂, ◌∙◌, append_assoc, append-nil, le_refl, le_trans, not-suc-le-zero, true≢false}
 use Rattle.piper.specs.Copies.{ReaderCopied}
-use Rattle.piper.specs.Fills.{WriterFilled}
 use Rattle.piper.specs.ReadView.{ReadView}
 use Rattle.piper.specs.WriteView.{WriteView}
 use Rattle.piper.specs.declared.handles.Reader.{Reader}
 use Rattle.piper.specs.declared.handles.Writer.{Writer}
-use Rattle.piper_tokio.specs.Passing.{Took, Gave}
+use Rattle.piper_tokio.specs.Passing.{Took, Gave, IsWritten}
 
 -- what is unseen was unseen
 pub unseen_before : (a b : Bool) → (a ≡ true → b ≡ true) → b ≡ false → a ≡ false
@@ -22,13 +21,9 @@ copied_on a b c p q =
           ∙ ap (λ (v : ReadView). record v { taken = c.taken; known = c.known; saw = c.saw; all = c.all }) p.rest;
     }
 
-pub filled_on : (a b c : WriteView) → WriterFilled a b → WriterFilled b c → WriterFilled a c
-filled_on a b c p q =
-    record {
-      saw = λ seen. q.saw (p.saw seen);
-      rest = q.rest
-          ∙ ap (λ (v : WriteView). record v { sent = c.sent; room = c.room; lent = c.lent; saw = c.saw }) p.rest;
-    }
+pub written_on : (a b c : WriteView) → IsWritten a b → IsWritten b c → IsWritten a c
+written_on a b c p q =
+    q ∙ ap (λ (v : WriteView). record v { sent = c.sent; room = c.room; lent = c.lent; shut = c.shut; saw = c.saw }) p
 
 -- bytes joined on after others
 pub joined_on : (us vs ws xs ys : List ℕ) → vs ≡ us ++ xs → ws ≡ vs ++ ys → ws ≡ us ++ (xs ++ ys)
@@ -60,7 +55,8 @@ gave_nothing a =
       sent = sym (append-nil a.side.end.sent);
       all = λ _. refl;
       over = λ _. refl;
-      end = record { saw = λ seen. seen; rest = refl };
+      saw = λ seen. seen;
+      end = refl;
       handle = (refl, refl);
     }
 
@@ -96,11 +92,12 @@ gave_in_order a xs b ys c p q =
           joined_on a.side.end.sent b.side.end.sent c.side.end.sent
           p.published q.published p.sent q.sent;
       all = λ unseen.
-          both_nil p.lost q.lost (p.all (unseen_before b.side.end.saw c.side.end.saw q.end.saw unseen))
+          both_nil p.lost q.lost (p.all (unseen_before b.side.end.saw c.side.end.saw q.saw unseen))
           (q.all unseen);
       over = λ seen.
           both_nil p.published q.published (p.over seen)
-          (q.over (p.end.saw seen));
-      end = filled_on a.side.end b.side.end c.side.end p.end q.end;
+          (q.over (p.saw seen));
+      saw = λ seen. q.saw (p.saw seen);
+      end = written_on a.side.end b.side.end c.side.end p.end q.end;
       handle = (q.handle.0 ∙ p.handle.0, q.handle.1 ∙ p.handle.1);
     }
