@@ -82,6 +82,32 @@ try_silent 'a file that is overwritten' 10 0 '$pump --force -o long --tee kept <
 try_silent 'a file that is overwritten by nothing' 10 0 '$pump --force -o long < /dev/null && test ! -s long'
 try_silent 'a new file and a copy of nothing' 10 0 '$pump -o none --tee nothing < /dev/null && test -e none -a -e nothing && rm none nothing'
 
+# Files that are appended to.
+echo old > log
+try_silent 'a file and a copy that are appended to' 10 0 'cp log more; $pump --append -o log --tee more < short && cat <(echo old) short | cmp - log && cmp log more; status=$?; rm more; exit $status'
+try_silent 'a run that goes on where another ended' 10 0 '$pump -o whole --stop-after 1000 < file && $pump --append -o whole --skip 1000 < file && cmp whole file; status=$?; rm whole; exit $status'
+try_silent 'a new file that is appended to' 10 0 '$pump --append -o fresh < short && cmp fresh short; status=$?; rm fresh; exit $status'
+try_silent 'appended to, with --force, too' 10 0 'echo old > log; $pump --append --force -o log < short && cat <(echo old) short | cmp - log'
+try_silent 'nothing is appended' 10 0 'echo old > log; $pump --append -o log < /dev/null && test "$(cat log)" = old'
+try_silent 'two pumps that append to one file' 10 0 'echo old > log; $pump --append -o log < short & $pump --append -o log < short; wait && test "$(stat -c %s log)" -eq 40004 && head -c 4 log | cmp - <(echo old)'
+try_silent 'two pumps that append to one new file' 10 0 'rm log; { echo first; sleep 1; echo third; } | $pump --append -o log & sleep 0.5; echo second | $pump --append -o log && wait && cat log | cmp - <(echo first; echo second; echo third)'
+try 'an input that is appended to' 10 4 '^piper_pump: log: it is the input' 'echo old > log; $pump --append -i log -o log'
+try 'a copy that can not be made, and a file that is appended to' 10 4 '^piper_pump: /proc/new: ' '$pump --append -o log --tee /proc/new < short'
+note 'what a file holds stays' test "$(cat log)" = old
+rm -f log
+
+# A part of the input.
+try_silent 'what is left out, and how much is read' 10 0 '$pump --skip 1000 --stop-after 300K < file | cmp - <(tail -c +1001 file | head -c 307200) && exit ${PIPESTATUS[0]}'
+try_silent 'what is left out of a file by its name' 10 0 '$pump --skip 4700k --chunk 999 -i file -o part && cmp part <(tail -c +4812801 file); status=$?; rm part; exit $status'
+try_silent 'no more is read than is asked for' 10 0 '{ $pump --stop-after 3000 > part && cat > rest; } < file; cat part rest | cmp - file && test "$(stat -c %s part)" -eq 3000'
+try_silent 'an input that is shorter than what is left out' 10 0 '$pump --skip 1G < short | cmp - /dev/null && exit ${PIPESTATUS[0]}'
+try_silent 'the end of a part, and an idle input' 5 0 '$pump --skip 2 --stop-after 5 < <(echo a line; exec sleep 30) | cmp - <(echo line) && exit ${PIPESTATUS[0]}'
+try_silent 'a part of no byte, and an idle input' 5 0 '$pump --stop-after 0 < <(exec sleep 30) | cmp - /dev/null && exit ${PIPESTATUS[0]}'
+try 'the sum of a part' 10 0 "^$(tail -c +11 short | head -c 50 | sha256sum)" '$pump --sha256 --skip 10 --stop-after 50 < short > /dev/null'
+try 'a part that is none' 10 2 "invalid value 'x' for '--skip <N>': .* from 0 to " '$pump --skip x < file'
+try 'an end of a part that is none' 10 2 "invalid value '-5' for '--stop-after <N>'" '$pump --stop-after=-5 < file'
+rm -f part rest
+
 # Copies that fail: the output and the other copies get all bytes, and the file is named.
 try 'a copy that is full' 20 7 '^piper_pump: /dev/full: No space' '$pump --tee /dev/full --tee second < file > first; status=$?; cmp first file && cmp second file && exit $status'
 try 'a copy whose reader left' 20 7 '^piper_pump: /dev/fd/[0-9]*: Broken pipe' '$pump --tee >(exec true) --tee third < file > first; status=$?; cmp first file && cmp third file && exit $status'

@@ -77,6 +77,10 @@ try_silent 'a rate' 20 0 'lines 100000 | $pump --rate 100k > /dev/null'
 took=$((($(date +%s%N) - begun) / 1000000))
 note "100,000 bytes at 100 KiB a second took $took ms" test "$took" -ge 900 -a "$took" -le 5000
 
+try_silent 'a part of a file, in each size' 30 0 'for skip in 0 1 999 65536 65537 5000000; do for most in 0 1 65536 999999 9999999; do $pump --skip $skip --stop-after $most < file | cmp - <(tail -c +$((skip + 1)) file | head -c $most) || exit 1; done; done'
+try 'how much is done of a part' 20 0 '; 100%$' '$pump --progress --skip 1000 --stop-after 3m -i file > /dev/null'
+try_silent 'a part on one thread' 20 0 '$alone prlimit --nproc=1 $pump --skip 1000 --stop-after 100000 < file | cmp - <(tail -c +1001 file | head -c 100000) && exit ${PIPESTATUS[0]}'
+
 # What is reported.
 try_silent 'nothing is told unasked' 10 0 '(lines 1000; sleep 1; lines 1000) | $pump > /dev/null'
 try_silent 'nothing is told quietly' 10 0 '(lines 1000; sleep 1; lines 1000) | $pump --progress --quiet > /dev/null'

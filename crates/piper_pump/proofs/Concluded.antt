@@ -16,33 +16,33 @@ use Rattle.pump_files.specs.declared.sinks.Sink.{Sink}
 -- once all are open
 pub taken_done : (o : Opening) (have : Type 0) (passed : List ℕ) → IsDone o → HaveTaken o have passed → have
 taken_done opening.Done have passed done taken = taken
-taken_done (opening.Awaited overwrites) have passed done taken = absurd done
+taken_done (opening.Awaited takes_held) have passed done taken = absurd done
 taken_done (opening.Refused e) have passed done taken = absurd done
 
 pub done_taken : (o : Opening) (have : Type 0) (passed : List ℕ) → IsDone o → have → HaveTaken o have passed
 done_taken opening.Done have passed done taken = taken
-done_taken (opening.Awaited overwrites) have passed done taken = absurd done
+done_taken (opening.Awaited takes_held) have passed done taken = absurd done
 done_taken (opening.Refused e) have passed done taken = absurd done
 
 -- none had been taken where they were opened, or refused
 pub answered_taken : (o : Opening) (have : Type 0) (passed : List ℕ) → IsAnswered o → (IsDone o → have) → passed ≡ [] → HaveTaken o have passed
 answered_taken opening.Done have passed answered taken none = taken tt
-answered_taken (opening.Awaited overwrites) have passed answered taken none = absurd answered
+answered_taken (opening.Awaited takes_held) have passed answered taken none = absurd answered
 answered_taken (opening.Refused e) have passed answered taken none = (none, answered)
 
 pub awaited_taken : (o : Opening) (have : Type 0) (passed : List ℕ) → IsAwaited o → HaveTaken o have passed → have × (passed ≡ [])
 awaited_taken opening.Done have passed awaited taken = absurd awaited
-awaited_taken (opening.Awaited overwrites) have passed awaited taken = taken
+awaited_taken (opening.Awaited takes_held) have passed awaited taken = taken
 awaited_taken (opening.Refused e) have passed awaited taken = absurd awaited
 
 pub awaiting_taken : (o : Opening) (have : Type 0) → IsAwaited o → have → HaveTaken o have []
 awaiting_taken opening.Done have awaited taken = absurd awaited
-awaiting_taken (opening.Awaited overwrites) have awaited taken = (taken, refl)
+awaiting_taken (opening.Awaited takes_held) have awaited taken = (taken, refl)
 awaiting_taken (opening.Refused e) have awaited taken = absurd awaited
 
 pub map_taken : (o : Opening) (have more : Type 0) (passed : List ℕ) → (have → more) → HaveTaken o have passed → HaveTaken o more passed
 map_taken opening.Done have more passed f taken = f taken
-map_taken (opening.Awaited overwrites) have more passed f taken = (f taken.0, taken.1)
+map_taken (opening.Awaited takes_held) have more passed f taken = (f taken.0, taken.1)
 map_taken (opening.Refused e) have more passed f taken = taken
 
 pub all_flushed_same : {D F : Type 0} (flushed : D → Type 0) (file_flushed : F → Type 0) (o p : Opening) (d e : Drain D F) (s t : List (Sink F))
@@ -54,14 +54,14 @@ all_flushed_same flushed file_flushed o p d e s t same_opening same_drain same_s
 
 pub taken_answered : (o : Opening) (have : Type 0) (passed : List ℕ) → IsRefused o → HaveTaken o have passed → IsAnswered o
 taken_answered opening.Done have passed refused taken = absurd refused
-taken_answered (opening.Awaited overwrites) have passed refused taken = absurd refused
+taken_answered (opening.Awaited takes_held) have passed refused taken = absurd refused
 taken_answered (opening.Refused e) have passed refused taken = taken.1
 
 -- what was flushed, and awaits no opening, is open
 pub flushed_done : {D F : Type 0} (flushed : D → Type 0) (file_flushed : F → Type 0) (o : Opening) (d : Drain D F) (sinks : List (Sink F))
     → AreAllFlushed flushed file_flushed o d sinks → ¬ IsAwaited o → IsDone o
 flushed_done flushed file_flushed opening.Done d sinks all opened = tt
-flushed_done flushed file_flushed (opening.Awaited overwrites) d sinks all opened = absurd (opened tt)
+flushed_done flushed file_flushed (opening.Awaited takes_held) d sinks all opened = absurd (opened tt)
 flushed_done flushed file_flushed (opening.Refused e) d sinks all opened = absurd all
 
 appends_kept : (a b c : Option (List ℕ)) (bs : List ℕ) → Appends a b bs → Keeps b c → Appends a c bs

@@ -1,3 +1,4 @@
 mod Concluded
 pub mod Named
+mod Parts
 mod Tees

@@ -2,7 +2,7 @@
 use Rattle.std.specs.Prelude.{◌≡◌, ◌⊎◌, ℕ, List, Option, IsSomeAnd, codes}
 use Rattle.std.specs.List.{Any}
 use Rattle.pump_words.specs.Arguments.{IsSizeOf, text_in}
-use Rattle.pump_words.specs.Plan.{IsLevelOf, IsPercent, IsRead, IsTotalOf, WritesNone}
+use Rattle.pump_words.specs.Plan.{IsLevelOf, IsPercent, IsRead, IsSkipOf, IsTotalOf, WritesNone}
 use Rattle.pump_words.specs.declared.arguments.Arguments.{Arguments}
 use Rattle.piper_pump.specs.Ended.{IsOfOption}
 use Rattle.piper_pump.specs.Streams.{IsOfClosed}
@@ -16,6 +16,8 @@ pub record HasRead (arguments : Arguments) (accepted : Accepted) : Type 0 where
       accepted.sizes.level
   pub rate : IsRead IsSizeOf (text_in arguments.texts.rate) accepted.rate
   pub total : IsRead IsTotalOf (text_in arguments.texts.size) accepted.total
+  pub skip : IsSkipOf (text_in arguments.texts.skip) accepted.skip
+  pub most : IsRead IsTotalOf (text_in arguments.texts.stop_after) accepted.most
 
 -- the text after this option writes no number in this way, which is told
 abbrev pub RefusesNumber :
@@ -34,5 +36,7 @@ IsRefusedFor arguments streams e =
     RefusesNumber (codes "--rate <N>") IsSizeOf (text_in arguments.texts.rate) e
     ⊎ RefusesNumber (codes "--size <N>") IsTotalOf (text_in arguments.texts.size) e
     ⊎ RefusesNumber (codes "--start-at <N>") IsPercent (text_in arguments.texts.start_at) e
+    ⊎ RefusesNumber (codes "--skip <N>") IsTotalOf (text_in arguments.texts.skip) e
+    ⊎ RefusesNumber (codes "--stop-after <N>") IsTotalOf (text_in arguments.texts.stop_after) e
     ⊎ RefusesCopy arguments e
     ⊎ IsOfClosed arguments.texts streams e

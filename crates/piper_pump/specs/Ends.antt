@@ -11,12 +11,19 @@ use Rattle.piper_pump.specs.declared.ends.Outlet.{Outlet}
 use Rattle.pump_files.specs.declared.sinks.Sink.{Sink}
 use Rattle.pump_files.specs.Copies.{AreFlushed, HavePassed}
 use Rattle.piper_pump.specs.Ended.{IsUnopened}
+use Rattle.piper_pump.specs.Section.{section_bytes}
+use Rattle.piper_pump.specs.declared.section.Section.{Section}
 
 -- the bytes that reads will give, where they are known
 abbrev pub inlet_bytes : {S F : Type 0} → (S → Option (List ℕ)) → (F → Option (List ℕ))
     → Inlet S F → Option (List ℕ)
 inlet_bytes remaining file_remaining (inlet.Standard s) = remaining s
 inlet_bytes remaining file_remaining (inlet.File f) = file_remaining f
+
+-- the same of the part of them that is handed on
+abbrev pub part_bytes : {S F : Type 0} → (S → Option (List ℕ)) → (F → Option (List ℕ))
+    → Section (Inlet S F) → Option (List ℕ)
+part_bytes remaining file_remaining s = section_bytes (inlet_bytes remaining file_remaining) s
 
 -- a read has failed with this error
 abbrev pub InletFails : {S F : Type 0} → (S → Error → Type 0) → (F → Error → Type 0)
@@ -48,12 +55,12 @@ DrainFails fails file_fails (drain.File sink) e = file_fails sink.file e
 
 -- the files that are written are not open yet
 abbrev pub IsAwaited : Opening → Type 0
-IsAwaited (opening.Awaited overwrites) = ⊤
+IsAwaited (opening.Awaited takes_held) = ⊤
 IsAwaited other = ⊥
 
--- they are not, and bytes that they hold are to be overwritten, or not
+-- they are not, and those that hold bytes are taken, or refused
 abbrev pub Awaits : Bool → Opening → Type 0
-Awaits wanted (opening.Awaited overwrites) = overwrites ≡ wanted
+Awaits wanted (opening.Awaited takes_held) = takes_held ≡ wanted
 Awaits wanted other = ⊥
 
 -- they are open
@@ -68,13 +75,13 @@ IsRefused other = ⊥
 
 -- they were opened, or one of them can't be, and so says this
 abbrev pub IsAnswered : Opening → Type 0
-IsAnswered (opening.Awaited overwrites) = ⊥
+IsAnswered (opening.Awaited takes_held) = ⊥
 IsAnswered opening.Done = ⊤
 IsAnswered (opening.Refused e) = IsUnopened e
 
 -- these bytes were taken, as this says of them; and none before all files were open
 abbrev pub HaveTaken : Opening → Type 0 → List ℕ → Type 0
-HaveTaken (opening.Awaited overwrites) have passed = have × (passed ≡ [])
+HaveTaken (opening.Awaited takes_held) have passed = have × (passed ≡ [])
 HaveTaken opening.Done have passed = have
 HaveTaken (opening.Refused e) have passed = (passed ≡ []) × IsUnopened e
 
@@ -95,7 +102,7 @@ IsStreamFlushed flushed (drain.File sink) = ⊤
 -- copy that has failed
 abbrev pub AreAllFlushed : {D F : Type 0} → (D → Type 0) → (F → Type 0)
     → Opening → Drain D F → List (Sink F) → Type 0
-AreAllFlushed flushed file_flushed (opening.Awaited overwrites) d sinks = IsStreamFlushed flushed d
+AreAllFlushed flushed file_flushed (opening.Awaited takes_held) d sinks = IsStreamFlushed flushed d
 AreAllFlushed flushed file_flushed opening.Done d sinks =
     IsFlushed flushed file_flushed d × AreFlushed file_flushed sinks
 AreAllFlushed flushed file_flushed (opening.Refused e) d sinks = ⊥

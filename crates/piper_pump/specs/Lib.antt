@@ -8,6 +8,7 @@ pub mod Outcome
 pub mod Planned
 pub mod Prepared
 pub mod Running
+pub mod Section
 pub mod Streams
 pub mod Why
 pub mod Written

@@ -1,11 +1,12 @@
 -- The files that are opened: by which names, that no two are one file, and that none holds bytes.
-use Rattle.std.specs.Prelude.{◌≡◌, ◌≢◌, ◌≤◌, ◌⊎◌, ℕ, Bool, IfSome, List, length, ◌∷◌, Option, Some, None, IsSomeAnd, Result, Ok, Err, codes, false, map, string_bytes}
+use Rattle.std.specs.Prelude.{◌≡◌, ◌≢◌, ◌≤◌, ◌⊎◌, ◌||◌, ℕ, Bool, IfSome, List, length, ◌∷◌, Option, Some, None, IsSomeAnd, Result, Ok, Err, codes, false, map, string_bytes}
 use Rattle.std.specs.List.{All, AllPairs, filter_map}
 use Rattle.std.specs.declared.io.Error.{Error}
 use Rattle.pump_files.specs.Files.{IsJust}
 use Rattle.pump_files.specs.Found.{IsFound, IsFoundAtStream, IsFoundOfReports}
 use Rattle.pump_files.specs.Handle.{IsAnswerFor}
 use Rattle.pump_words.specs.Plan.{IsOfStream}
+use Rattle.pump_words.specs.declared.arguments.Arguments.{Arguments}
 use Rattle.piper_pump.specs.declared.ends.Drain.{Drain}
 use Rattle.piper_pump.specs.declared.ends.Drain.TheVariants as drain
 use Rattle.piper_pump.specs.declared.ends.Inlet.{Inlet}
@@ -63,10 +64,19 @@ pub record WritesNamed {D F : Type 0}
 abbrev pub founds_of : {F : Type 0} → List (Sink F) → List Found
 founds_of sinks = map (λ sink. sink.found) sinks
 
--- all files that are written are on their devices before the program ends, or none is waited for
-pub record AreSyncedAs {F : Type 0} (syncs : Bool) (output : Option (Sink F)) (tees : List (Sink F)) : Type 0 where
-  pub written : IfSome output (λ sink. sink.syncs ≡ syncs)
-  pub copied : All (λ sink. sink.syncs ≡ syncs) tees
+-- whether it is written behind what a file holds, and whether each flush waits for its device
+abbrev pub IsWrittenAs : {F : Type 0} → Bool → Bool → Sink F → Type 0
+IsWrittenAs syncs appends sink = (sink.way.syncs ≡ syncs) × (sink.way.appends ≡ appends)
+
+-- so are all files that are written
+pub record AreWrittenAs {F : Type 0} (syncs appends : Bool) (output : Option (Sink F))
+    (tees : List (Sink F)) : Type 0 where
+  pub written : IfSome output (IsWrittenAs syncs appends)
+  pub copied : All (IsWrittenAs syncs appends) tees
+
+-- files that hold bytes are taken: those are overwritten, or what is written follows them
+abbrev pub takes_held : Arguments → Bool
+takes_held arguments = arguments.overwrites || arguments.appends
 
 -- which of them are files that are told from others
 abbrev pub ids_of : List Found → List FileId

@@ -9,19 +9,21 @@ use Rattle.piper_pump.specs.Ends.{Awaits, IsAwaited}
 use Rattle.piper_pump.specs.Opening.{AreFoundApart, HoldNothing, ReadsNamed, WritesNamed}
 use Rattle.pump_files.specs.Pace.{HasRate}
 use Rattle.pump_files.specs.declared.attributes.Attributes.{Attributes}
-use Rattle.pump_words.specs.Plan.{IsLevelOf, IsOfStream, IsRead, KnowsTotal}
+use Rattle.pump_words.specs.Plan.{IsLevelOf, IsOfStream, IsRead, IsSkipOf, IsTotalOf, KnowsTotal}
 use Rattle.piper_pump.specs.declared.ends.Inlet.{Inlet}
 use Rattle.piper_pump.specs.declared.ends.Outlet.{Outlet}
 use Rattle.piper_pump.specs.declared.running.Plan.{Plan}
+use Rattle.piper_pump.specs.declared.section.Section.{Section}
 use Rattle.piper_pump.specs.declared.streams.Streams.{Streams}
 
 -- what these words have after an option
 abbrev pub after : Text → List Text → Option Text
 after option words = first_of option (said_by words)
 
--- these words say that files which hold bytes are not to be overwritten
+-- these words say that files which hold bytes are not taken, to be overwritten or appended to
 abbrev pub SparesBytes : List Text → Type 0
-SparesBytes words = one_of (codes "force") (said_by words) ≡ Some (codes "false")
+SparesBytes words = (one_of (codes "force") (said_by words) ≡ Some (codes "false"))
+    × (one_of (codes "append") (said_by words) ≡ Some (codes "false"))
 
 -- the pipe holds so many bytes, and moves so many at a time, as these words ask for
 pub record AreSizedBy (words : List Text) (sizes : Sizes) : Type 0 where
@@ -33,6 +35,8 @@ pub record HasNumbers (words : List Text) (streams : Streams) (plan : Plan) : Ty
   pub sizes : AreSizedBy words plan.sizes
   pub level : IsLevelOf plan.sizes.capacity (after (codes "start-at") words) plan.sizes.level
   pub rate : IsRead IsSizeOf (after (codes "rate") words) plan.rate
+  pub skip : IsSkipOf (after (codes "skip") words) plan.skip
+  pub most : IsRead IsTotalOf (after (codes "stop-after") words) plan.most
   pub shown : ShowsAsAsked words plan.asked
   pub watched : IfSome plan.asked (λ w. (w.capacity ≡ plan.sizes.capacity) × (w.redraws ≡ streams.redraws))
   pub total : IfSome plan.asked (λ w. KnowsTotal (after (codes "size") words) w.total)
@@ -56,22 +60,23 @@ pub record HasFiles {R S D F : Type 0}
   pub spared : SparesBytes words
       → HoldNothing (after (codes "output") words) plan.places.output p.copies.tees.items
 
--- the run goes on from here: nothing has passed, the copies and the rate are those that these words ask
--- for, and no file is open that is written
+-- the run goes on from here: nothing has passed, the part of the input, the copies and the rate are
+-- those that these words ask for, and no file is open that is written
 pub record IsPlanned {R S D F : Type 0}
     (name written : F → Option (List ℕ))
     (fails : F → Error → Type 0)
     (answers : F → Result Attributes Error → Type 0)
     (words : List Text)
     (streams : Streams)
-    (i : Inlet S F)
+    (i : Section (Inlet S F))
     (o : Outlet R D F)
     (plan : Plan)
-    (j : Inlet S F)
+    (j : Section (Inlet S F))
     (p : Outlet R D F) : Type 0 where
   pub taken : fault_of pump_command words ≡ []
   pub numbers : HasNumbers words streams plan
-  pub files : HasFiles name answers words streams plan i j o p
+  pub files : HasFiles name answers words streams plan i.source j.source o p
+  pub part : (j.skip ≡ plan.skip) × (j.most ≡ plan.most)
   pub copies : HaveGot name written fails words p.copies []
   pub paced : HasRate plan.rate p.copies.pace
   pub awaited : IsAwaited p.opening

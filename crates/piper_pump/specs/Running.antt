@@ -8,6 +8,7 @@ use Rattle.piper_pump.specs.declared.ended.Ended.{Ended}
 use Rattle.piper_pump.specs.declared.ends.Inlet.{Inlet}
 use Rattle.piper_pump.specs.declared.ends.Outlet.{Outlet}
 use Rattle.piper_pump.specs.declared.running.Plan.{Plan}
+use Rattle.piper_pump.specs.declared.section.Section.{Section}
 
 -- it ended as a transfer did, unless a file that is to be written could not be opened
 abbrev pub EndsSo : Type 0 → Result Unit TransferError → Bool → Ended → Type 0
@@ -42,17 +43,17 @@ pub record EndsWithTransfer
 -- it ended before the first byte, and left what is read and written as it was; or by a plan, from what
 -- was opened by that
 pub record FollowsPlan {R S D F : Type 0}
-    (IsPlanned : Plan → Inlet S F → Outlet R D F → Type 0)
-    (Ends : Inlet S F → Outlet R D F → Type 0) : Type 0 where
+    (IsPlanned : Plan → Section (Inlet S F) → Outlet R D F → Type 0)
+    (Ends : Section (Inlet S F) → Outlet R D F → Type 0) : Type 0 where
   pub plan : Plan
-  pub input : Inlet S F
+  pub input : Section (Inlet S F)
   pub output : Outlet R D F
   pub planned : IsPlanned plan input output
   pub ends : Ends input output
 
 abbrev pub Runs : {R S D F : Type 0}
-    → (Plan → Inlet S F → Outlet R D F → Type 0)
-    → (i j : Inlet S F) → (o p : Outlet R D F)
-    → (Inlet S F → Outlet R D F → Type 0) → Ended → Type 0
+    → (Plan → Section (Inlet S F) → Outlet R D F → Type 0)
+    → (i j : Section (Inlet S F)) → (o p : Outlet R D F)
+    → (Section (Inlet S F) → Outlet R D F → Type 0) → Ended → Type 0
 Runs IsPlanned i j o p Ends ended =
     (IsEarly ended × (j ≡ i) × (p.drain ≡ o.drain)) ⊎ FollowsPlan IsPlanned Ends

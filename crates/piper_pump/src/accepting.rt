@@ -3,6 +3,7 @@ ghost use Rattle.std.specs.Prelude.{◌≡◌, ◌≢◌, IfErr, IfOk, OnOk, cod
 ghost use Rattle.std.specs.List.{All};
 ghost use Rattle.piper_pump.specs.Accepting.{HasRead, IsRefusedFor};
 ghost use Rattle.piper_pump.specs.Ended.{IsEarly};
+ghost use Rattle.piper_pump.specs.Opening.{takes_held};
 ghost use Rattle.piper_pump.specs.Streams.{IsOfClosed};
 ghost use Rattle.pump_words.specs.Arguments.{text_in};
 ghost use Rattle.pump_words.specs.Plan.{IsOfStream};
@@ -22,6 +23,9 @@ pub struct Accepted {
     pub rate: Option<usize>,
     /// How many bytes come, if that was reported.
     pub total: Option<u64>,
+    /// How many bytes of the input are left out, and how many are read after those at most.
+    pub skip: u64,
+    pub most: Option<u64>,
 }
 
 /// Reads the numbers after the options. A copy to `-` is refused, and a standard stream that was
@@ -57,7 +61,16 @@ pub fn accept(alloc: Global, arguments: &Arguments<'_>, streams: Streams) -> Res
         },
         rate: numbers.rate,
         total: numbers.total,
+        skip: numbers.skip,
+        most: numbers.most,
     })
+}
+
+/// Whether files are taken that hold bytes: those are overwritten, or what is written follows them.
+pub fn takes_held(arguments: &Arguments<'_>) -> bool
+    ensures { result ≡ takes_held arguments.now }
+{
+    arguments.overwrites || arguments.appends
 }
 
 // Refuses a standard stream that was closed, where no file is named in its place.

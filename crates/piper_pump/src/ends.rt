@@ -42,8 +42,8 @@ pub enum Drain<D: Destination + Drop, F: NamedFile> {
 /// Whether the files that are written are open.
 #[derive(Drop)]
 pub enum Opening {
-    /// They are opened with the first bytes; those that they hold are to be overwritten, or not.
-    Awaited { overwrites: bool },
+    /// They are opened with the first bytes; those that hold bytes are taken, or refused.
+    Awaited { takes_held: bool },
     /// They are open, and may have got bytes.
     Done,
     /// One can't be opened, so that the run ends so, and none has got a byte.
@@ -159,16 +159,16 @@ where
         ensures refused { IfErr result (λ e. IsRefused self.new.opening × IsLasting e) }
     {
         match &self.opening {
-            Opening::Awaited { overwrites } => {
-                let overwrites = *overwrites;
-                self.open(overwrites)
+            Opening::Awaited { takes_held } => {
+                let takes_held = *takes_held;
+                self.open(takes_held)
             }
             Opening::Done => Ok(()),
             Opening::Refused(_) => Err(cannot_open()),
         }
     }
 
-    fn open(&mut self, overwrites: bool) -> io::Result<()>
+    fn open(&mut self, takes_held: bool) -> io::Result<()>
         ensures bytes { drain_bytes D.contents F.written self.new.drain
             ≡ drain_bytes D.contents F.written self.old.drain }
         ensures took { (parts : List (List ℕ)) → HavePassed F.name F.written F.fails
@@ -178,7 +178,7 @@ where
         ensures refused { IfErr result (λ e. IsRefused self.new.opening × IsLasting e) }
     {
         let tees = self.copies.tees.as_mut_slice();
-        match open_outputs(self.rt, overwrites, &mut self.drain, tees) {
+        match open_outputs(self.rt, takes_held, &mut self.drain, tees) {
             Ok(()) => {
                 self.turn(Opening::Done);
                 Ok(())

@@ -12,6 +12,7 @@ mod outputs;
 mod program;
 mod progress;
 mod running;
+mod section;
 mod sizing;
 mod streams;
 

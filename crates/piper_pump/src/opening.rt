@@ -13,11 +13,12 @@ ghost use Rattle.pump_files.specs.Files.{IsJust};
 ghost use Rattle.pump_files.specs.Found.{IsFound, IsFoundAtStream, IsFoundOfReports};
 ghost use Rattle.pump_files.specs.Handle.{IsAnswerFor};
 ghost use Rattle.pump_files.specs.declared.streams.Stream.TheVariants as stream;
-ghost use Rattle.piper_pump.specs.Opening.{AreDistinct, AreFoundApart, AreSyncedAs, AreTold, HoldNothing};
+ghost use Rattle.piper_pump.specs.Opening.{AreDistinct, AreFoundApart, AreTold, AreWrittenAs, HoldNothing};
 ghost use Rattle.piper_pump.specs.Opening.{IsFoundAt, IsFoundByName, IsFoundOpen, OpensNamed};
-ghost use Rattle.piper_pump.specs.Opening.{ReadsNamed, WritesNamed, founds_of, ids_of};
+ghost use Rattle.piper_pump.specs.Opening.{ReadsNamed, WritesNamed, founds_of, ids_of, takes_held};
 ghost use Rattle.pump_files.specs.Pace.{HasRate};
 
+use crate::accepting::takes_held;
 use crate::ended::{Ended, Unopened};
 use crate::ends::{Drain, Inlet, Opening, Outlet};
 use piper_protocol::reported::reported;
@@ -25,7 +26,7 @@ use piper_transfer::{Destination, Source};
 use pump_files::attributes::Kind;
 use pump_files::files::{NamedFile, Opens};
 use pump_files::found::{FileId, Found};
-use pump_files::sinks::{FOLDER, HOLDS_BYTES, Sink};
+use pump_files::sinks::{FOLDER, HOLDS_BYTES, Sink, Way};
 use pump_files::streams::Stream;
 use pump_words::arguments::Arguments;
 use pump_words::plan::named;
@@ -63,7 +64,7 @@ struct Opened<F: NamedFile> {
 /// Opens the input that is named, looks at the files that are to be written, and takes them in place
 /// of what represents them. Where one is refused, both stay. A file is refused that is the input,
 /// standard error or another output, too; and one that holds bytes, unless those are to be
-/// overwritten. So are files that can't be told from one another.
+/// overwritten, or what is written is to follow them. So are files that can't be told from one another.
 /// Returns what the system reports of what is read, and of what is written.
 pub fn open_files<R, F, S, D>(
     rt: &R,
@@ -84,19 +85,20 @@ where
         input.old input.new) }
     ensures output { IfOk result (λ places. WritesNamed F.name
         (text_in arguments.now.texts.output) places.output output.old.drain output.new.drain) }
-    ensures awaited { OnOk result (Awaits arguments.now.overwrites output.new.opening) }
+    ensures awaited { OnOk result (Awaits (takes_held arguments.now) output.new.opening) }
     ensures copies { OnOk result (HavePassed F.name F.written F.fails output.new.copies
         (parts_wanted arguments.now) [] × HasRate rate output.new.copies.pace) }
     ensures apart { IfOk result (λ places. AreFoundApart F.answers
         (text_in arguments.now.texts.input) (text_in arguments.now.texts.output) places
         input.new output.new.copies.tees.items) }
-    ensures spared { arguments.now.overwrites ≡ false → IfOk result (λ places.
+    ensures spared { takes_held arguments.now ≡ false → IfOk result (λ places.
         HoldNothing (text_in arguments.now.texts.output) places.output
         output.new.copies.tees.items) }
 {
     let opened = open_all(rt, arguments)?;
     refuse_shared(rt.alloc(), &opened)?;
-    refuse_overwritten(rt.alloc(), arguments.overwrites, &opened)?;
+    let takes_held = takes_held(arguments);
+    refuse_held_bytes(rt.alloc(), takes_held, &opened)?;
     let Opened {
         input: source,
         output: dest,
@@ -106,9 +108,7 @@ where
     take_input(input, source);
     take_output(&mut output.drain, dest);
     output.copies.ask(tees, arguments.shows_sum, rate);
-    output.opening = Opening::Awaited {
-        overwrites: arguments.overwrites,
-    };
+    output.opening = Opening::Awaited { takes_held };
     Ok(places)
 }
 
@@ -160,13 +160,16 @@ where
         ≡ map (λ name. name.now) arguments.now.tees.items) }
     ensures copies { IfOk result (λ opened.
         All (IsCopy F.name F.written F.fails []) opened.tees.items) }
-    ensures synced { IfOk result (λ opened. AreSyncedAs arguments.now.syncs
-        opened.output opened.tees.items) }
+    ensures written { IfOk result (λ opened. AreWrittenAs arguments.now.syncs
+        arguments.now.appends opened.output opened.tees.items) }
 {
     let input = open_input(rt, rt.alloc(), named(arguments.texts.input))?;
-    let syncs = arguments.syncs;
-    let output = look_at_output(rt, rt.alloc(), named(arguments.texts.output), syncs)?;
-    let tees = look_at_tees(rt, rt.alloc(), arguments.tees.as_slice(), syncs)?;
+    let way = Way {
+        syncs: arguments.syncs,
+        appends: arguments.appends,
+    };
+    let output = look_at_output(rt, rt.alloc(), named(arguments.texts.output), way)?;
+    let tees = look_at_tees(rt, rt.alloc(), arguments.tees.as_slice(), way)?;
     let places = Places {
         input: found_of_input(rt, &input)?,
         reports: Found::of_reports(rt),
@@ -248,7 +251,7 @@ fn look_at_output<R, F>(
     rt: &R,
     alloc: Global,
     name: Option<&str>,
-    syncs: bool,
+    way: Way,
 ) -> Result<Option<Sink<F>>, Ended>
 where
     R: Opens<F>,
@@ -259,17 +262,17 @@ where
         IsSomeAnd opened (λ sink. IsJust (F.name sink.file) text.now))) }
     ensures found { IfSome name.entry (λ text. IfOk result (λ opened.
         IsSomeAnd opened (λ sink. IsFound (IsAnswerFor text.now) sink.found))) }
-    ensures synced { IfOk result (λ opened. IfSome opened (λ sink. sink.syncs ≡ syncs)) }
+    ensures way { IfOk result (λ opened. IfSome opened (λ sink. sink.way ≡ way)) }
     ensures failed { IfErr result IsOfFailure }
 {
     match name {
         None => Ok(None),
-        Some(name) => Ok(Some(look_at(rt, alloc, name, syncs)?)),
+        Some(name) => Ok(Some(look_at(rt, alloc, name, way)?)),
     }
 }
 
 // Looks at a file that is to be written.
-fn look_at<R, F>(rt: &R, alloc: Global, name: &str, syncs: bool) -> Result<Sink<F>, Ended>
+fn look_at<R, F>(rt: &R, alloc: Global, name: &str, way: Way) -> Result<Sink<F>, Ended>
 where
     R: Opens<F>,
     F: NamedFile,
@@ -278,10 +281,10 @@ where
     ensures name { IfOk result (λ sink. string_bytes sink.name ≡ name.now) }
     ensures copy { IfOk result (IsCopy F.name F.written F.fails []) }
     ensures found { IfOk result (λ sink. IsFound (IsAnswerFor name.now) sink.found) }
-    ensures synced { IfOk result (λ sink. sink.syncs ≡ syncs) }
+    ensures way { IfOk result (λ sink. sink.way ≡ way) }
     ensures failed { IfErr result IsOfFailure }
 {
-    match Sink::look(rt, alloc, name, syncs) {
+    match Sink::look(rt, alloc, name, way) {
         Ok(sink) => Ok(sink),
         Err(error) => Err(Ended::NoOutput(Unopened::new(alloc, name, error)?)),
     }
@@ -292,7 +295,7 @@ fn look_at_tees<R, F>(
     rt: &R,
     alloc: Global,
     names: &[&str],
-    syncs: bool,
+    way: Way,
 ) -> Result<Vec<Sink<F>>, Ended>
 where
     R: Opens<F>,
@@ -301,12 +304,12 @@ where
     ensures names { IfOk result (λ tees. names_of tees.items ≡ map (λ name. name.now) names.now) }
     ensures copies { IfOk result (λ tees. All (IsCopy F.name F.written F.fails []) tees.items) }
     ensures found { IfOk result (λ tees. All IsFoundByName tees.items) }
-    ensures synced { IfOk result (λ tees. All (λ sink. sink.syncs ≡ syncs) tees.items) }
+    ensures way { IfOk result (λ tees. All (λ sink. sink.way ≡ way) tees.items) }
     ensures failed { IfErr result IsOfFailure }
 {
     let mut tees = Vec::new(alloc);
     for name in names {
-        let sink = look_at(rt, alloc, *name, syncs)?;
+        let sink = look_at(rt, alloc, *name, way)?;
         add_tee(&mut tees, sink)?;
     }
     Ok(tees)
@@ -375,17 +378,17 @@ fn add(known: &mut Vec<FileId>, name: &str, found: Found) -> Result<(), Ended>
     reported(known.push(id).map_err(|_| Ended::Memory))
 }
 
-// Refuses files that hold bytes, unless those are to be overwritten.
-fn refuse_overwritten<F>(alloc: Global, overwrites: bool, opened: &Opened<F>) -> Result<(), Ended>
+// Refuses files that hold bytes, unless such files are taken.
+fn refuse_held_bytes<F>(alloc: Global, takes_held: bool, opened: &Opened<F>) -> Result<(), Ended>
 where
     F: NamedFile,
     ensures early { IfErr result IsUnopened }
-    ensures output { overwrites ≡ false → OnOk result (IfSome opened.now.output
+    ensures output { takes_held ≡ false → OnOk result (IfSome opened.now.output
         (λ sink. sink.found.holds ≡ false)) }
-    ensures tees { overwrites ≡ false → OnOk result
+    ensures tees { takes_held ≡ false → OnOk result
         (All (λ sink. sink.found.holds ≡ false) opened.now.tees.items) }
 {
-    if overwrites {
+    if takes_held {
         return Ok(());
     }
     if let Some(sink) = &opened.output {

@@ -23,7 +23,7 @@ use std::alloc::AllocGlobal;
 /// again, and the others have not changed.
 pub(crate) fn open_outputs<R, D, F>(
     rt: &R,
-    overwrites: bool,
+    takes_held: bool,
     drain: &mut Drain<D, F>,
     tees: &mut [Sink<F>],
 ) -> Result<(), Ended>
@@ -36,7 +36,7 @@ where
         (drain_bytes D.contents F.written drain.new) tees.old tees.new result }
     ensures cut { OnOk result (HaveAll (IsCutUnlessFailed F.is_cut) drain.new tees.new) }
 {
-    take_all(rt, Step::Open { overwrites }, drain, tees)?;
+    take_all(rt, Step::Open { takes_held }, drain, tees)?;
     match make_and_cut(rt, drain, tees) {
         Ok(()) => Ok(()),
         Err(ended) => {

@@ -5,6 +5,7 @@ use crate::command_line::CommandLine;
 use crate::ends::{Drain, Inlet, Opening, Outlet};
 use crate::outcome::Outcome;
 use crate::running::run;
+use crate::section::Section;
 use crate::streams::Streams;
 use piper_transfer::{Destination, Meter, Source};
 use pump_files::copies::Copies;
@@ -49,13 +50,13 @@ where
     S: Source + Send + Drop,
     D: Destination + Drop,
 {
-    let mut input: Inlet<S, F> = Inlet::Standard(source);
+    let mut input: Section<Inlet<S, F>> = Section::whole(Inlet::Standard(source));
     let meter = Meter::new();
     let mut output = Outlet {
         rt: &rt,
         drain: Drain::Standard(dest),
         copies: Copies::new(&rt, Vec::new(rt.alloc())),
-        opening: Opening::Awaited { overwrites: false },
+        opening: Opening::Awaited { takes_held: false },
         outcome: &outcome,
         meter: &meter,
         progress: None,

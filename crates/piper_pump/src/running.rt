@@ -7,13 +7,13 @@ ghost use Rattle.piper_protocol.specs.Reported.{HasFailed};
 ghost use Rattle.piper_pump.specs.Asked.{HaveGot};
 ghost use Rattle.pump_files.specs.Copies.{lacks_some};
 ghost use Rattle.piper_pump.specs.Ended.{IsEarly};
-ghost use Rattle.piper_pump.specs.Ends.{drain_bytes, inlet_bytes, AreAllFlushed, Awaits, HaveTaken};
+ghost use Rattle.piper_pump.specs.Ends.{drain_bytes, part_bytes, AreAllFlushed, Awaits, HaveTaken};
 ghost use Rattle.piper_pump.specs.Ends.{InletFails, IsAwaited, IsDone, IsFull, IsRefused};
 ghost use Rattle.piper_pump.specs.Ends.{OutletFails, OutletTook};
 ghost use Rattle.piper_pump.specs.Opening.{AreFoundApart, HoldNothing, ReadsNamed, WritesNamed};
 ghost use Rattle.piper_pump.specs.Outcome.{RunReturned};
 ghost use Rattle.pump_files.specs.Pace.{HasRate};
-ghost use Rattle.pump_words.specs.Plan.{IsLevelOf, IsOfStream, IsRead, KnowsTotal};
+ghost use Rattle.pump_words.specs.Plan.{IsLevelOf, IsOfStream, IsRead, IsSkipOf, IsTotalOf, KnowsTotal};
 ghost use Rattle.piper_pump.specs.Planned.{AreSizedBy, IsPlanned, SparesBytes, after};
 ghost use Rattle.piper_pump.specs.Running.{EndsWithTransfer, Runs};
 
@@ -22,7 +22,8 @@ use crate::ended::{EndNames, Ended};
 use crate::ends::{Inlet, Outlet};
 use crate::opening::{Places, open_files};
 use crate::progress::{EndSignal, Watched, watch};
-use crate::sizing::size_of;
+use crate::section::Section;
+use crate::sizing::size_of_part;
 use crate::streams::Streams;
 use clap::error::ErrorKind;
 use piper_protocol::reported::reported;
@@ -45,6 +46,9 @@ pub struct Plan {
     pub sizes: Sizes,
     /// How many bytes may pass in a second.
     pub rate: Option<usize>,
+    /// How many bytes of the input are left out, and how many are read after those at most.
+    pub skip: u64,
+    pub most: Option<u64>,
     /// What is told of the transfer, if progress is asked for.
     pub asked: Option<Watched>,
 }
@@ -59,7 +63,7 @@ pub struct Plan {
 pub fn run<R, F, S, D>(
     rt: &R,
     words: &[String],
-    input: &mut Inlet<S, F>,
+    input: &mut Section<Inlet<S, F>>,
     output: &mut Outlet<'_, R, D, F>,
     streams: Streams,
 ) -> Ended
@@ -75,8 +79,8 @@ where
     ensures runs { Runs (IsPlanned F.name F.written F.fails F.answers
         (map string_bytes words.now) streams input.old output.old)
         input.old input.new output.old output.new
-        (λ i o. EndsWithTransfer (inlet_bytes S.remaining F.remaining i)
-        (inlet_bytes S.remaining F.remaining input.new)
+        (λ i o. EndsWithTransfer (part_bytes S.remaining F.remaining i)
+        (part_bytes S.remaining F.remaining input.new)
         (drain_bytes D.contents F.written o.drain)
         (drain_bytes D.contents F.written output.new.drain)
         (λ passed. HaveTaken output.new.opening (HaveGot F.name F.written F.fails
@@ -84,15 +88,16 @@ where
         (AreAllFlushed D.flushed F.flushed output.new.opening output.new.drain
         output.new.copies.tees.items)
         (IsDone output.new.opening) (IsRefused output.new.opening)
-        (IsOfSide (InletFails S.fails F.fails input.new)
+        (IsOfSide (InletFails S.fails F.fails input.new.source)
         (OutletFails D.fails F.fails output.new.opening output.new.drain)
         (IsFull D.full F.full output.new.drain))
         (lacks_some output.new.copies) result) result }
 {
-    let plan = match prepare(rt, words, input, output, streams) {
+    let plan = match prepare(rt, words, &mut input.source, output, streams) {
         Ok(plan) => plan,
         Err(ended) => return ended,
     };
+    input.limit(plan.skip, plan.most);
     let watched = output.ask_progress(plan.asked);
     let moved = move_all(rt, input, output, plan.sizes, watched);
     output.report_rest(&moved);
@@ -102,7 +107,7 @@ where
 // Moves all bytes. The files that are written are opened by that, also where there are none.
 fn move_all<R, F, S, D>(
     rt: &R,
-    input: &mut Inlet<S, F>,
+    input: &mut Section<Inlet<S, F>>,
     output: &mut Outlet<'_, R, D, F>,
     sizes: Sizes,
     watched: Option<Watched>,
@@ -113,14 +118,14 @@ where
     F: NamedFile + Send,
     S: Source + Send + Drop,
     D: Destination + Drop,
-    ensures moved { Transfers result (inlet_bytes S.remaining F.remaining input.old)
-        (inlet_bytes S.remaining F.remaining input.new)
+    ensures moved { Transfers result (part_bytes S.remaining F.remaining input.old)
+        (part_bytes S.remaining F.remaining input.new)
         (λ o. drain_bytes D.contents F.written o.drain)
         (OutletTook F.name F.written F.fails) output.old output.new }
     ensures flushed { WritesAll result → AreAllFlushed D.flushed F.flushed output.new.opening
         output.new.drain output.new.copies.tees.items }
     ensures opened { OnOk result (IsDone output.new.opening) }
-    ensures reported { IfErr result (IsOfSide (InletFails S.fails F.fails input.new)
+    ensures reported { IfErr result (IsOfSide (InletFails S.fails F.fails input.new.source)
         (OutletFails D.fails F.fails output.new.opening output.new.drain)
         (IsFull D.full F.full output.new.drain)) }
 {
@@ -154,6 +159,10 @@ where
         (after (codes "start-at") (map string_bytes words.now)) plan.sizes.level) }
     ensures rate { IfOk result (λ plan.
         IsRead IsSizeOf (after (codes "rate") (map string_bytes words.now)) plan.rate) }
+    ensures skip { IfOk result (λ plan.
+        IsSkipOf (after (codes "skip") (map string_bytes words.now)) plan.skip) }
+    ensures most { IfOk result (λ plan.
+        IsRead IsTotalOf (after (codes "stop-after") (map string_bytes words.now)) plan.most) }
     ensures shown { IfOk result (λ plan.
         ShowsAsAsked (map string_bytes words.now) plan.asked) }
     ensures watched { IfOk result (λ plan. IfSome plan.asked (λ w.
@@ -196,7 +205,9 @@ where
     output.outcome.name(rt, names);
     let watched = Watched {
         capacity: numbers.sizes.capacity,
-        total: numbers.total.or(size_of(rt, input)),
+        total: numbers
+            .total
+            .or(size_of_part(rt, input, numbers.skip, numbers.most)),
         redraws: streams.redraws,
     };
     let shows_progress = arguments.shows_progress && !arguments.is_quiet;
@@ -204,6 +215,8 @@ where
         places,
         sizes: numbers.sizes,
         rate: numbers.rate,
+        skip: numbers.skip,
+        most: numbers.most,
         asked: if shows_progress { Some(watched) } else { None },
     })
 }

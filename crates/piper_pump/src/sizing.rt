@@ -3,6 +3,7 @@ ghost use Rattle.std.specs.Prelude.{◌≡◌, ◌≢◌, None, Result, Some};
 ghost use Rattle.std.specs.declared.io.Error.{Error};
 ghost use Rattle.piper_protocol.specs.Reported.{IsOfStd};
 ghost use Rattle.piper_pump.specs.Opening.{TellsSize};
+ghost use Rattle.piper_pump.specs.Section.{size_of_section};
 ghost use Rattle.pump_files.specs.declared.attributes.Attributes.{Attributes};
 ghost use Rattle.pump_files.specs.declared.attributes.Kind.TheVariants.{Regular};
 
@@ -15,8 +16,8 @@ use pump_files::streams::Stream;
 use std::alloc::AllocGlobal;
 use std::fs::{self, Files};
 
-/// How many bytes the input has, from where it is read on, if it is a regular file.
-pub fn size_of<R, F, S>(rt: &R, input: &Inlet<S, F>) -> Option<u64>
+// How many bytes the input has, from where it is read on, if it is a regular file.
+fn size_of<R, F, S>(rt: &R, input: &Inlet<S, F>) -> Option<u64>
 where
     R: Files + AllocGlobal,
     F: NamedFile,
@@ -29,6 +30,28 @@ where
             let len = len_of(&ask(rt, Stream::Input.name()).ok()?)?;
             Some(len.saturating_sub(position(rt).unwrap_or(0)))
         }
+    }
+}
+
+/// How many bytes of the input are handed on, if that is known: of those that it has after so many,
+/// at most so many. If it is not known how many it has, the bound is the best that can be told.
+pub fn size_of_part<R, F, S>(
+    rt: &R,
+    input: &Inlet<S, F>,
+    skip: u64,
+    most: Option<u64>,
+) -> Option<u64>
+where
+    R: Files + AllocGlobal,
+    F: NamedFile,
+    S: Source + Drop,
+    ensures { (read : Result Attributes Error) × (size : _) × IsOfStd read
+        × TellsSize read size × (result ≡ size_of_section size skip most) }
+{
+    match (size_of(rt, input), most) {
+        (None, most) => most,
+        (Some(size), None) => Some(size.saturating_sub(skip)),
+        (Some(size), Some(most)) => Some(size.saturating_sub(skip).min(most)),
     }
 }
 

@@ -28,7 +28,7 @@ pub record SameSink {F : Type 0} (name : F → Option (List ℕ)) (old new : Sin
   pub file : name new.file ≡ name old.file
   pub failed : new.has_failed ≡ old.has_failed
   pub unsaid : new.unsaid ≡ old.unsaid
-  pub syncs : new.syncs ≡ old.syncs
+  pub way : new.way ≡ old.way
 
 -- the file was flushed, or a call of it has failed, and nothing of that is left to be said
 abbrev pub IsFlushedOrFailed : {F : Type 0} → (F → Type 0) → Sink F → Type 0

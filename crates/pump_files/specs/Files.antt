@@ -1,6 +1,6 @@
 -- What is known of a file.
-use Rattle.std.specs.Prelude.{◌≡◌, ◌⊎◌, ℕ, true, List, Option, IfSome, IsErr, Result, MatchResult, take}
-use Rattle.std.specs.Fs.{new_options, with_create_new, with_read, with_write}
+use Rattle.std.specs.Prelude.{◌≡◌, ◌⊎◌, ℕ, Bool, true, List, Option, IfSome, IsErr, Result, MatchResult, take}
+use Rattle.std.specs.Fs.{new_options, with_append, with_create_new, with_read, with_write}
 use Rattle.std.specs.declared.fs.options.OpenOptions.{OpenOptions}
 use Rattle.std.specs.declared.io.Error.{Error}
 use Rattle.std.specs.Io.KnownBytes.{append_known}
@@ -17,15 +17,16 @@ IsJust known bs = IfSome known (λ xs. xs ≡ bs)
 abbrev pub Writes : {E : Type 0} → Option (List ℕ) → Option (List ℕ) → Result ℕ E → List ℕ → Type 0
 Writes old new r buf = MatchResult r (λ n. new ≡ append_known old (take n buf)) (λ _. new ≡ old)
 
--- ways to open a file: to be read; to be written, as it is; to be written, where there is none
+-- ways to open a file: to be read; to be written, as it is, and always behind what it holds or not;
+-- the same, where there is none
 abbrev pub reads : OpenOptions
 reads = with_read new_options true
 
-abbrev pub keeps : OpenOptions
-keeps = with_write new_options true
+abbrev pub keeps : Bool → OpenOptions
+keeps appends = with_append (with_write new_options true) appends
 
-abbrev pub makes : OpenOptions
-makes = with_create_new (with_write new_options true) true
+abbrev pub makes : Bool → OpenOptions
+makes appends = with_create_new (keeps appends) true
 
 -- the system opened it in this way
 abbrev pub IsFileOf : OpenOptions → SystemFile → Type 0
@@ -36,7 +37,8 @@ IsFileOf how (system.Open handle) = (name : List ℕ) × IsOpenedBy how name han
 abbrev pub IsCutFile : SystemFile → Type 0
 IsCutFile system.Named = ⊥
 IsCutFile (system.Open handle) =
-    HasLength 0 handle ⊎ ((name : List ℕ) × IsOpenedBy makes name handle)
+    HasLength 0 handle
+    ⊎ ((appends : Bool) × (name : List ℕ) × IsOpenedBy (makes appends) name handle)
 
 -- the system wrote it to its device
 abbrev pub IsSyncedFile : SystemFile → Type 0

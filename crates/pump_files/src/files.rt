@@ -1,5 +1,5 @@
 //! Files that are opened by their names: those that are written later than they are named.
-ghost use Rattle.std.specs.Prelude.{◌≡◌, ◌<◌, ℕ, List, [], length, Option, None, Ok, OnOk, IfOk, IfErr, ⊤};
+ghost use Rattle.std.specs.Prelude.{◌≡◌, ◌<◌, ℕ, List, [], false, length, Option, None, Ok, OnOk, IfOk, IfErr, ⊤};
 ghost use Rattle.std.specs.Io.{ReadsAtMost, WritesAtMost};
 ghost use Rattle.std.specs.Io.KnownBytes.{append_known, ReadConsumes};
 ghost use Rattle.piper_protocol.specs.Reported.{HasFailed, IsOfStd};
@@ -19,7 +19,7 @@ use std::{fs, io};
 /// It can say which one, whether it is open, what was written to it since then, whether that is
 /// flushed, and how its calls fail. Of the system's files nothing of that is said, but each answer is one of theirs.
 pub trait NamedFile: Drop {
-    ghost use Rattle.std.specs.Prelude.{Result};
+    ghost use Rattle.std.specs.Prelude.{Bool, Result};
     ghost use Rattle.std.specs.declared.io.Error.{Error};
     ghost use Rattle.pump_files.specs.declared.attributes.Attributes.{Attributes};
 
@@ -29,11 +29,12 @@ pub trait NamedFile: Drop {
     // it was opened to be read alone
     ghost is_read: { Self → Type 0 } = { λ _. ⊤ };
 
-    // it was there and was opened to be written, which left what it holds
-    ghost is_kept: { Self → Type 0 } = { λ _. ⊤ };
+    // it was there and was opened to be written, which left what it holds; and whether all that is
+    // written follows that
+    ghost is_kept: { Bool → Self → Type 0 } = { λ _ _. ⊤ };
 
-    // it was not there, and was made
-    ghost is_made: { Self → Type 0 } = { λ _. ⊤ };
+    // it was not there, and was made; likewise
+    ghost is_made: { Bool → Self → Type 0 } = { λ _ _. ⊤ };
 
     // the system was asked of it, and answered so
     ghost answers: { Self → Result Attributes Error → Type 0 } = { λ _ _. ⊤ };
@@ -76,8 +77,8 @@ pub trait NamedFile: Drop {
     /// Cuts off what it held where it was opened, which waits until all files are open.
     fn cut(&mut self, all_open: AllOpen) -> io::Result<()>
         ensures cut { OnOk result (is_cut self.new) }
-        ensures opened { (is_kept self.old → is_kept self.new)
-            × (is_made self.old → is_made self.new) }
+        ensures opened { (is_kept false self.old → is_kept false self.new)
+            × ((appends : Bool) → is_made appends self.old → is_made appends self.new) }
         ensures name { name self.new ≡ name self.old }
         ensures bytes { written self.new ≡ written self.old }
         ensures error { IfErr result (fails self.new) }
@@ -136,18 +137,19 @@ pub trait Opens<F: NamedFile> {
         ensures name { IsJust (F.name result) name.now }
         ensures bytes { IsJust (F.written result) [] };
 
-    /// Opens it, where there is one. It keeps what it holds.
-    fn open_to_write(&self, name: &str, file: &mut F) -> io::Result<()>
+    /// Opens it, where there is one. It keeps what it holds, and all that is written follows that
+    /// where it is appended to.
+    fn open_to_write(&self, name: &str, appends: bool, file: &mut F) -> io::Result<()>
         ensures name { F.name file.new ≡ F.name file.old }
         ensures bytes { F.written file.new ≡ F.written file.old }
-        ensures opened { OnOk result (F.is_kept file.new) }
+        ensures opened { OnOk result (F.is_kept appends file.new) }
         ensures failed { IfErr result HasFailed };
 
-    /// Makes it, where there is none, and opens it.
-    fn make(&self, name: &str, file: &mut F) -> io::Result<()>
+    /// Makes it, where there is none, and opens it, likewise.
+    fn make(&self, name: &str, appends: bool, file: &mut F) -> io::Result<()>
         ensures name { F.name file.new ≡ F.name file.old }
         ensures bytes { F.written file.new ≡ F.written file.old }
-        ensures opened { OnOk result (F.is_made file.new × F.is_cut file.new) }
+        ensures opened { OnOk result (F.is_made appends file.new × F.is_cut file.new) }
         ensures failed { IfErr result HasFailed };
 
     /// Takes the file of this name away, which this run made.
@@ -165,9 +167,9 @@ pub enum SystemFile {
 impl NamedFile for SystemFile {
     ghost is_read = { IsFileOf reads };
 
-    ghost is_kept = { IsFileOf keeps };
+    ghost is_kept = { λ appends. IsFileOf (keeps appends) };
 
-    ghost is_made = { IsFileOf makes };
+    ghost is_made = { λ appends. IsFileOf (makes appends) };
 
     ghost answers = { IsAnswerOfFile };
 
@@ -242,14 +244,17 @@ impl<R: Files<File = File>> Opens<SystemFile> for R {
         SystemFile::Named
     }
 
-    fn open_to_write(&self, name: &str, file: &mut SystemFile) -> io::Result<()> {
-        *file = SystemFile::Open(Handle::open(self, OpenOptions::new().write(true), name)?);
+    fn open_to_write(&self, name: &str, appends: bool, file: &mut SystemFile) -> io::Result<()> {
+        let mut how = OpenOptions::new();
+        how.write(true).append(appends);
+        *file = SystemFile::Open(Handle::open(self, &how, name)?);
         Ok(())
     }
 
-    fn make(&self, name: &str, file: &mut SystemFile) -> io::Result<()> {
+    fn make(&self, name: &str, appends: bool, file: &mut SystemFile) -> io::Result<()> {
         let mut how = OpenOptions::new();
-        let opened = Handle::open(self, how.write(true).create_new(true), name)?;
+        how.write(true).append(appends).create_new(true);
+        let opened = Handle::open(self, &how, name)?;
         *file = SystemFile::Open(opened);
         Ok(())
     }

@@ -15,8 +15,8 @@ pub struct Made {
 }
 
 /// Of a file that was not there, and was made.
-pub fn of_file<F: NamedFile>(_file: &F) -> Made
-    requires own { F.is_made _file.now }
+pub fn of_file<F: NamedFile>(_file: &F, _appends: bool) -> Made
+    requires own { F.is_made _appends _file.now }
 {
     let made = Made { made: () };
     made

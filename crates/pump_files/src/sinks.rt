@@ -26,16 +26,25 @@ use std::io::ErrorKind;
 use std::{fmt, io};
 
 /// What is said of a file that holds bytes, where those are not to be overwritten.
-pub const HOLDS_BYTES: &str = "it holds bytes, which --force overwrites";
+pub const HOLDS_BYTES: &str = "it holds bytes, which --force overwrites and --append keeps";
 
 /// What is said of a folder. One is put in the place of a standard stream that is closed, too.
 pub const FOLDER: &str = "it is a folder, or a standard stream that is closed";
+
+/// How a file is written.
+#[derive(Clone, Copy)]
+pub struct Way {
+    /// Whether each flush waits until what was written is on its device.
+    pub syncs: bool,
+    /// Whether all that is written follows what the file holds, which stays then.
+    pub appends: bool,
+}
 
 /// What is done for each file that is written, for one after another.
 #[derive(Clone, Copy)]
 pub enum Step {
     /// It is opened if it is there; bytes that it holds are to be overwritten, or it is refused.
-    Open { overwrites: bool },
+    Open { takes_held: bool },
     /// It is made if it is not there.
     Make,
     /// What it holds is cut off, once all are open.
@@ -66,8 +75,8 @@ pub struct Sink<F: NamedFile> {
     pub name: String,
     /// Which file it is, and whether it held bytes, where it was looked at.
     pub found: Found,
-    /// Whether each flush waits until what was written is on its device.
-    pub syncs: bool,
+    /// How it is written.
+    pub way: Way,
     /// Whether there was one of this name.
     pub is_there: bool,
     /// That this run made it, if it did.
@@ -82,12 +91,12 @@ pub struct Sink<F: NamedFile> {
 impl<F: NamedFile> Sink<F> {
     /// Looks at the file of this name, and neither opens nor makes it. Where there is none, there
     /// has to be the folder that it is made in.
-    pub fn look<R>(rt: &R, alloc: Global, name: &str, syncs: bool) -> io::Result<Sink<F>>
+    pub fn look<R>(rt: &R, alloc: Global, name: &str, way: Way) -> io::Result<Sink<F>>
     where
         R: Opens<F>,
         ensures named { IfOk result (λ sink. string_bytes sink.name ≡ name.now) }
         ensures copy { IfOk result (IsCopy F.name F.written F.fails []) }
-        ensures syncs { IfOk result (λ sink. sink.syncs ≡ syncs) }
+        ensures way { IfOk result (λ sink. sink.way ≡ way) }
         ensures found { IfOk result (λ sink. IsFound (IsAnswerFor name.now) sink.found) }
         ensures failed { IfErr result HasFailed }
     {
@@ -99,7 +108,7 @@ impl<F: NamedFile> Sink<F> {
         Ok(Sink {
             name: reported(String::from_str(alloc, name).map_err(io::Error::from))?,
             found: Found::of_name(&looked),
-            syncs,
+            way,
             is_there,
             made: None,
             has_failed: false,
@@ -122,7 +131,7 @@ impl<F: NamedFile> Sink<F> {
             return Ok(());
         }
         match step {
-            Step::Open { overwrites } => self.open(rt, overwrites),
+            Step::Open { takes_held } => self.open(rt, takes_held),
             Step::Make => self.make(rt),
             Step::Cut { all_open } => self.cut(all_open),
         }
@@ -130,22 +139,23 @@ impl<F: NamedFile> Sink<F> {
 
     // Opens the file, if there is one. It is to be the one that was looked at, and to hold no bytes
     // unless those are to be overwritten.
-    fn open(&mut self, rt: &impl Opens<F>, overwrites: bool) -> io::Result<()>
+    fn open(&mut self, rt: &impl Opens<F>, takes_held: bool) -> io::Result<()>
         ensures same { SameSink F.name self.old self.new }
         ensures bytes { F.written self.new.file ≡ F.written self.old.file }
-        ensures opened { OnOk result (self.new.is_there ≡ true → F.is_kept self.new.file) }
+        ensures opened { OnOk result (self.new.is_there ≡ true →
+            F.is_kept self.new.way.appends self.new.file) }
         ensures found { OnOk result (self.old.is_there ≡ true →
-            IsAsLookedAt (F.answers self.new.file) overwrites self.old.found) }
+            IsAsLookedAt (F.answers self.new.file) takes_held self.old.found) }
     {
         if !self.is_there {
             return Ok(());
         }
-        rt.open_to_write(self.name.as_str(), &mut self.file)?;
+        rt.open_to_write(self.name.as_str(), self.way.appends, &mut self.file)?;
         let found = Found::of_open(&self.file)?;
         if found.id != self.found.id {
             return Err(io::Error::other("it has become another file"));
         }
-        if found.holds && !overwrites {
+        if found.holds && !takes_held {
             return Err(io::Error::other(HOLDS_BYTES));
         }
         Ok(())
@@ -153,7 +163,8 @@ impl<F: NamedFile> Sink<F> {
 
     // Makes the file, if there is none.
     fn make(&mut self, rt: &impl Opens<F>) -> io::Result<()>
-        requires kept { self.old.is_there ≡ true → F.is_kept self.old.file }
+        requires kept { self.old.is_there ≡ true →
+            F.is_kept self.old.way.appends self.old.file }
         ensures same { SameSink F.name self.old self.new }
         ensures bytes { F.written self.new.file ≡ F.written self.old.file }
         ensures opened { OnOk result (IsOpened F.is_kept F.is_made self.new) }
@@ -161,11 +172,11 @@ impl<F: NamedFile> Sink<F> {
         if self.is_there {
             return Ok(());
         }
-        match rt.make(self.name.as_str(), &mut self.file) {
+        match rt.make(self.name.as_str(), self.way.appends, &mut self.file) {
             Ok(()) => {}
             Err(error) => return Err(why_unmade(rt, self.name.as_str(), error)),
         }
-        self.made = Some(made::of_file(&self.file));
+        self.made = Some(made::of_file(&self.file, self.way.appends));
         Ok(())
     }
 
@@ -250,14 +261,17 @@ impl<F: NamedFile> Sink<F> {
         self.unsaid = None;
     }
 
-    // Cuts off what it holds.
+    // Cuts off what it holds, unless what is written follows that.
     fn cut(&mut self, all_open: AllOpen) -> io::Result<()>
         ensures same { SameSink F.name self.old self.new }
         ensures bytes { F.written self.new.file ≡ F.written self.old.file }
         ensures opened { IsOpened F.is_kept F.is_made self.old
             → IsOpened F.is_kept F.is_made self.new }
-        ensures cut { OnOk result (F.is_cut self.new.file) }
+        ensures cut { OnOk result (self.old.way.appends ≡ false → F.is_cut self.new.file) }
     {
+        if self.way.appends {
+            return Ok(());
+        }
         let attributes = self.file.attributes()?;
         if attributes.kind == Kind::Regular && 0 < attributes.len {
             self.file.cut(all_open)?;
@@ -290,11 +304,11 @@ impl<F: NamedFile> Sink<F> {
         ensures same { SameSink F.name self.old self.new }
         ensures bytes { F.written self.new.file ≡ F.written self.old.file }
         ensures done { OnOk result (F.flushed self.new.file) }
-        ensures synced { OnOk result (self.old.syncs ≡ true → F.synced self.new.file) }
+        ensures synced { OnOk result (self.old.way.syncs ≡ true → F.synced self.new.file) }
         ensures error { IfErr result (F.fails self.new.file) }
     {
         self.file.flush()?;
-        if self.syncs {
+        if self.way.syncs {
             self.file.sync()?;
         }
         Ok(())

@@ -59,7 +59,8 @@ pump_rules =
     ∷ size_rule (codes "capacity") ∷ size_rule (codes "chunk")
     ∷ size_rule (codes "rate") ∷ size_rule (codes "size") ∷ size_rule (codes "start-at")
     ∷ file_rule (codes "input") 105 ∷ file_rule (codes "output") 111
-    ∷ tee_rule ∷ flag_rule (codes "force") ∷ flag_rule (codes "fsync") ∷ []
+    ∷ tee_rule ∷ flag_rule (codes "force") ∷ flag_rule (codes "fsync")
+    ∷ size_rule (codes "skip") ∷ size_rule (codes "stop-after") ∷ flag_rule (codes "append") ∷ []
 
 abbrev pub pump_command : App
 pump_command = on_top (λ s. record s { rules = pump_rules }) (versioned (new_app (codes "piper_pump")))
@@ -133,6 +134,12 @@ pub record AskFor (words : List Text) (arguments : Arguments) : Type 0 where
       → arguments.syncs ≡ true
   pub no_sync : one_of (codes "fsync") (said_by words) ≡ Some (codes "false")
       → arguments.syncs ≡ false
+  pub skip : IsText (codes "skip") words arguments.texts.skip
+  pub stop_after : IsText (codes "stop-after") words arguments.texts.stop_after
+  pub append : one_of (codes "append") (said_by words) ≡ Some (codes "true")
+      → arguments.appends ≡ true
+  pub no_append : one_of (codes "append") (said_by words) ≡ Some (codes "false")
+      → arguments.appends ≡ false
 
 -- these words ask for something: `clap` takes them, and what represents a size writes one
 pub record AreTaken (words : List Text) : Type 0 where

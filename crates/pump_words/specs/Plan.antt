@@ -31,6 +31,11 @@ IsRefused option Writes word refused =
 abbrev pub IsTotalOf : List ℕ → ℕ → Type 0
 IsTotalOf text n = IsSizeOf text n ⊎ ((text ≡ codes "0") × (n ≡ 0))
 
+-- the text writes how many bytes are left out, which are none where there is no text
+abbrev pub IsSkipOf : Option (List ℕ) → ℕ → Type 0
+IsSkipOf None n = n ≡ 0
+IsSkipOf (Some text) n = IsTotalOf text n
+
 -- the text writes so many percent, of which there are at most 100: in digits, with or without a plus
 -- before them
 abbrev pub IsPercent : List ℕ → ℕ → Type 0

@@ -31,6 +31,8 @@ pub struct Arguments<'a> {
     pub shows_sum: bool,
     /// Whether files that hold bytes are written, too.
     pub overwrites: bool,
+    /// Whether what is written follows the bytes that files hold.
+    pub appends: bool,
     /// Whether files are on their devices before the program ends.
     pub syncs: bool,
     pub texts: Texts<'a>,
@@ -46,6 +48,8 @@ pub struct Texts<'a> {
     pub start_at: Option<&'a str>,
     pub input: Option<&'a str>,
     pub output: Option<&'a str>,
+    pub skip: Option<&'a str>,
+    pub stop_after: Option<&'a str>,
 }
 
 /// What the words ask for. Those that ask for something are refused only for want of memory.
@@ -66,6 +70,7 @@ pub fn read_words<'a>(alloc: Global, words: &'a [String]) -> Result<Arguments<'a
         shows_sum: matches.get_flag("sha256"),
         overwrites: matches.get_flag("force"),
         syncs: matches.get_flag("fsync"),
+        appends: matches.get_flag("append"),
         texts: texts_of(&matches),
         tees,
     })
@@ -82,6 +87,10 @@ fn texts_of<'a>(matches: &ArgMatches<'a>) -> Texts<'a>
         ≡ first_value (found_of matches.now) (codes "input") }
     ensures output { option_map (λ s. s.now) result.output
         ≡ first_value (found_of matches.now) (codes "output") }
+    ensures skip { option_map (λ s. s.now) result.skip
+        ≡ first_value (found_of matches.now) (codes "skip") }
+    ensures stop_after { option_map (λ s. s.now) result.stop_after
+        ≡ first_value (found_of matches.now) (codes "stop-after") }
 {
     Texts {
         rate: matches.get_str("rate"),
@@ -89,6 +98,8 @@ fn texts_of<'a>(matches: &ArgMatches<'a>) -> Texts<'a>
         start_at: matches.get_str("start-at"),
         input: matches.get_str("input"),
         output: matches.get_str("output"),
+        skip: matches.get_str("skip"),
+        stop_after: matches.get_str("stop-after"),
     }
 }
 
@@ -164,6 +175,21 @@ fn command<'a>(alloc: Global) -> Result<Command<'a>, Error>
             alloc,
             "fsync",
             "Ends once the files that are named are on their devices",
+        ))?
+        .arg(option(
+            alloc,
+            "skip",
+            "How many bytes of the input it leaves out; it reads them",
+        ))?
+        .arg(option(
+            alloc,
+            "stop-after",
+            "How many bytes it reads at most, after those that it leaves out",
+        ))?
+        .arg(flag(
+            alloc,
+            "append",
+            "Writes behind the bytes that files hold, also with --force",
         ))?;
     Ok(command)
 }

@@ -3,7 +3,7 @@
 ghost use Rattle.std.specs.Prelude.{◌≡◌, ◌≢◌, ◌≤◌, ◌⊎◌, Some, None, IfErr, IfOk, OnOk, IfNone, IfSome, codes};
 ghost use Rattle.std.specs.List.{All, Any};
 ghost use Rattle.pump_words.specs.Arguments.{IsSizeOf, text_in};
-ghost use Rattle.pump_words.specs.Plan.{IsAfter, IsLevelOf, IsPercent, IsRead, IsRefused, IsTotalOf, WritesNone, level_of};
+ghost use Rattle.pump_words.specs.Plan.{IsAfter, IsLevelOf, IsPercent, IsRead, IsRefused, IsSkipOf, IsTotalOf, WritesNone, level_of};
 
 use crate::arguments::Texts;
 use crate::size::parse_size;
@@ -36,33 +36,54 @@ pub struct Numbers {
     pub rate: Option<usize>,
     /// How many bytes come, if that was reported.
     pub total: Option<u64>,
+    /// How many bytes of the input are left out, and how many are read after those at most.
+    pub skip: u64,
+    pub most: Option<u64>,
 }
 
 /// Reads the numbers after the options, of a pipe that can hold so many bytes.
 pub fn numbers_of<'a>(capacity: usize, texts: Texts<'a>) -> Result<Numbers, Untaken<'a>>
-    ensures most { IfOk result (λ n. n.level ≤ capacity) }
+    ensures bound { IfOk result (λ n. n.level ≤ capacity) }
     ensures level { IfOk result (λ n.
         IsLevelOf capacity (text_in texts.entry.start_at) n.level) }
     ensures rate { IfOk result (λ n. IsRead IsSizeOf (text_in texts.entry.rate) n.rate) }
     ensures total { IfOk result (λ n. IsRead IsTotalOf (text_in texts.entry.size) n.total) }
+    ensures skip { IfOk result (λ n. IsSkipOf (text_in texts.entry.skip) n.skip) }
+    ensures most { IfOk result (λ n. IsRead IsTotalOf (text_in texts.entry.stop_after) n.most) }
     ensures refused { IfErr result (λ word.
         IsRefused (codes "--rate <N>") IsSizeOf (text_in texts.entry.rate) word
         ⊎ IsRefused (codes "--size <N>") IsTotalOf (text_in texts.entry.size) word
-        ⊎ IsRefused (codes "--start-at <N>") IsPercent (text_in texts.entry.start_at) word) }
+        ⊎ IsRefused (codes "--start-at <N>") IsPercent (text_in texts.entry.start_at) word
+        ⊎ IsRefused (codes "--skip <N>") IsTotalOf (text_in texts.entry.skip) word
+        ⊎ IsRefused (codes "--stop-after <N>") IsTotalOf (text_in texts.entry.stop_after) word) }
 {
     let rate = match texts.rate {
         Some(text) => Some(size(text)?),
         None => None,
     };
     let total = match texts.size {
-        Some(text) => Some(total(text)?),
+        Some(text) => Some(amount("--size <N>", text)?),
         None => None,
     };
     let level = match texts.start_at {
         Some(text) => level(capacity, percent(text)?),
         None => 0,
     };
-    Ok(Numbers { level, rate, total })
+    let skip = match texts.skip {
+        Some(text) => amount("--skip <N>", text)?,
+        None => 0,
+    };
+    let most = match texts.stop_after {
+        Some(text) => Some(amount("--stop-after <N>", text)?),
+        None => None,
+    };
+    Ok(Numbers {
+        level,
+        rate,
+        total,
+        skip,
+        most,
+    })
 }
 
 // So many percent of the capacity.
@@ -88,9 +109,9 @@ fn size<'a>(text: &'a str) -> Result<usize, Untaken<'a>>
     }
 }
 
-// How many bytes come: a size, or none.
-fn total<'a>(text: &'a str) -> Result<u64, Untaken<'a>>
-    ensures named { IfErr result (IsAfter (codes "--size <N>") text.now) }
+// How many bytes come, are left out or are read: a size, or none.
+fn amount<'a>(option: &'static str, text: &'a str) -> Result<u64, Untaken<'a>>
+    ensures named { IfErr result (IsAfter option.now text.now) }
     ensures refused { IfErr result (λ _. WritesNone IsTotalOf text.now) }
     ensures read { IfOk result (IsTotalOf text.now) }
 {
@@ -100,7 +121,7 @@ fn total<'a>(text: &'a str) -> Result<u64, Untaken<'a>>
     match parse_size(text) {
         Ok(size) => Ok(size as u64),
         Err(_) => Err(Untaken {
-            option: "--size <N>",
+            option,
             text,
             range: TOTALS,
         }),

@@ -10,6 +10,6 @@ invariant-loop-name g l =
     record {
       named : names_of l.tees.items ≡ map (λ name. name.now) (take l.name-index l.names);
       found : All IsFoundByName l.tees.items;
-      synced : All (λ sink. sink.syncs ≡ l.syncs) l.tees.items;
+      way : All (λ sink. sink.way ≡ l.way) l.tees.items;
       copies : All (IsCopy g.F.NamedFile.name g.F.NamedFile.written g.F.NamedFile.fails []) l.tees.items;
     }

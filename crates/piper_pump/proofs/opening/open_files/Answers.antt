@@ -1,4 +1,4 @@
-use Rattle.std.proofs.Common.{◌≡◌, false, sym, subst}
+use Rattle.std.proofs.Common.{◌≡◌, ◌∙◌, false, sym, subst}
 use Rattle.std.specs.List.{All}
 use Rattle.pump_words.specs.Arguments.{text_in}
 use Rattle.piper_pump.specs.Opening.{AreFoundApart}
@@ -28,8 +28,8 @@ returns-clause-apart g c =
     })
 
 pub returns-clause-spared : goal.returns-clause-spared
-returns-clause-spared g c = λ unasked. record {
+returns-clause-spared g c = λ spares. let unasked = c.takes_held-takes_held.ensures ∙ spares in record {
   named = none_held g.F.NamedFile.name (text_in c.args.arguments.now.texts.output) c.in_ok-opened.opened.output c.in_ok-opened.opened.places.output c.in_ok-opened.ensures.output
-      c.in_ok-opened.ensures.found (c.in_ok-refuse_overwritten.ensures.output unasked);
-  others = subst (λ tees. All (λ sink. sink.found.holds ≡ false) tees.items) (sym c.ask.ensures.tees) (c.in_ok-refuse_overwritten.ensures.tees unasked);
+      c.in_ok-opened.ensures.found (c.in_ok-refuse_held_bytes.ensures.output unasked);
+  others = subst (λ tees. All (λ sink. sink.found.holds ≡ false) tees.items) (sym c.ask.ensures.tees) (c.in_ok-refuse_held_bytes.ensures.tees unasked);
 }

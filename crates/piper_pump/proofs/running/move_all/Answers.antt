@@ -1,4 +1,4 @@
-use Rattle.piper_pump.specs.Ends.{drain_bytes, inlet_bytes, OutletTook}
+use Rattle.piper_pump.specs.Ends.{drain_bytes, OutletTook, part_bytes}
 use Rattle.piper_pump.proofs.Concluded.{concluded}
 use Rattle.piper_pump.proofs.running.move_all.Goals as goal
 
@@ -6,5 +6,5 @@ pub returns-in-Ok-clause-moved : goal.returns-in-Ok-clause-moved
 returns-in-Ok-clause-moved g c =
     let file = g.F.NamedFile in
     concluded (λ o. drain_bytes g.D.Destination.contents file.written o.drain) (OutletTook file.name file.written file.fails)
-    (inlet_bytes g.S.Source.remaining file.remaining c.args.input.now) (inlet_bytes g.S.Source.remaining file.remaining c.pump.new.source)
+    (part_bytes g.S.Source.remaining file.remaining c.args.input.now) (part_bytes g.S.Source.remaining file.remaining c.pump.new.source)
     c.args.output.now c.pump.new.dest c.conclude.new.self c.conclude.result c.in-Ok.ensures.moved c.conclude.ensures.bytes c.conclude.ensures.took

@@ -4,5 +4,5 @@ use Rattle.pump_files.proofs.made.of_file.Goals as goal
 
 pub invariant_of-made : goal.invariant_of-made
 invariant_of-made g c = record {
-  was_made = as_made g.F.NamedFile.is_made c.args._file.now c.requires.own;
+  was_made = as_made (g.F.NamedFile.is_made c.args._appends) c.args._file.now c.requires.own;
 }

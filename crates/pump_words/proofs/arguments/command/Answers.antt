@@ -22,5 +22,8 @@ returns-clause-taken c =
     let is_9 = added (file_rule (codes "output") 111) _ _ _ _ c.file_option-2.ensures c.in_ok-arg-10.ensures is_8 in
     let is_10 = added (tee_rule) _ _ _ _ c.tee_option.ensures c.in_ok-arg-11.ensures is_9 in
     let is_11 = added (flag_rule (codes "force")) _ _ _ _ c.flag-4.ensures c.in_ok-arg-12.ensures is_10 in
-    let is_12 = added (flag_rule (codes "fsync")) _ _ _ _ c.flag-5.ensures c.in_ok-command.ensures is_11 in
-    is_12
+    let is_12 = added (flag_rule (codes "fsync")) _ _ _ _ c.flag-5.ensures c.in_ok-arg-13.ensures is_11 in
+    let is_13 = added (size_rule (codes "skip")) _ _ _ _ c.option-6.ensures c.in_ok-arg-14.ensures is_12 in
+    let is_14 = added (size_rule (codes "stop-after")) _ _ _ _ c.option-7.ensures c.in_ok-arg-15.ensures is_13 in
+    let is_15 = added (flag_rule (codes "append")) _ _ _ _ c.flag-6.ensures c.in_ok-command.ensures is_14 in
+    is_15

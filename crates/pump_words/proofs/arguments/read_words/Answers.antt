@@ -57,4 +57,8 @@ returns-clause-asked c =
       no_force = λ reported. c.get_flag-4.ensures.other (flag_said words c.in_ok-matches.matches (codes "force") said ∙ reported);
       sync = λ reported. c.get_flag-5.ensures.value (flag_said words c.in_ok-matches.matches (codes "fsync") said ∙ reported);
       no_sync = λ reported. c.get_flag-5.ensures.other (flag_said words c.in_ok-matches.matches (codes "fsync") said ∙ reported);
+      skip = text_found words c.in_ok-matches.matches (codes "skip") _ said c.texts_of.ensures.skip;
+      stop_after = text_found words c.in_ok-matches.matches (codes "stop-after") _ said c.texts_of.ensures.stop_after;
+      append = λ reported. c.get_flag-6.ensures.value (flag_said words c.in_ok-matches.matches (codes "append") said ∙ reported);
+      no_append = λ reported. c.get_flag-6.ensures.other (flag_said words c.in_ok-matches.matches (codes "append") said ∙ reported);
     }
