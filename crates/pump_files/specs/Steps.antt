@@ -33,7 +33,7 @@ GetsBy (step.Cut all_open) is_kept is_made is_cut sink =
     IsCutUnlessFailed is_cut sink × IsOpenedUnlessFailed is_kept is_made sink
 
 -- what the system answered of the open file: it is the one that was looked at by its name, and it
--- holds nothing, unless that may be overwritten
+-- holds nothing, unless files that hold bytes are taken
 pub record IsAsLookedAt (IsAsked : Result Attributes Error → Type 0) (takes_held : Bool)
     (looked : Found) : Type 0 where
   pub opened : Found

@@ -25,7 +25,7 @@ use std::fmt::{Display, Formatter};
 use std::io::ErrorKind;
 use std::{fmt, io};
 
-/// What is said of a file that holds bytes, where those are not to be overwritten.
+/// What is said of a file that holds bytes, if such files are not taken.
 pub const HOLDS_BYTES: &str = "it holds bytes, which --force overwrites and --append keeps";
 
 /// What is said of a folder. One is put in the place of a standard stream that is closed, too.
@@ -43,7 +43,7 @@ pub struct Way {
 /// What is done for each file that is written, for one after another.
 #[derive(Clone, Copy)]
 pub enum Step {
-    /// It is opened if it is there; bytes that it holds are to be overwritten, or it is refused.
+    /// It is opened if it is there; one that holds bytes is taken, or refused.
     Open { takes_held: bool },
     /// It is made if it is not there.
     Make,
@@ -138,7 +138,7 @@ impl<F: NamedFile> Sink<F> {
     }
 
     // Opens the file, if there is one. It is to be the one that was looked at, and to hold no bytes
-    // unless those are to be overwritten.
+    // unless files that hold some are taken.
     fn open(&mut self, rt: &impl Opens<F>, takes_held: bool) -> io::Result<()>
         ensures same { SameSink F.name self.old self.new }
         ensures bytes { F.written self.new.file ≡ F.written self.old.file }
