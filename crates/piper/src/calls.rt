@@ -1,4 +1,4 @@
-//! The calls of both handles, but for copies (copies/) and those that their end of the ring answers
+//! The calls of both handles, except copies (copies/) and those that their end of the ring answers
 //! (handles/ends.rt).
 ghost use Rattle.std.specs.Prelude.{◌≡◌, ◌-◌, ◌<◌, ◌≤◌, ◌++◌, length, take, drop, IsTrue, Ok, true};
 ghost use Rattle.futures.specs.Task.{Keeps};
@@ -31,7 +31,8 @@ impl Reader {
     /// How many bytes are unread now.
     ///
     /// Returns: a count of at most the capacity. It includes each known byte, and each byte that a
-    /// mark reported and the reader has not taken. The writer may publish more at any time.
+    /// mark reported and the reader has not taken. As long as the pipe is open the writer may
+    /// publish more. Once this reader saw it closed, or a mark said so, the count is exact.
     pub fn len(&self) -> usize
         ensures { ReaderMayHave self.now result }
     {
@@ -77,8 +78,8 @@ impl Reader {
     /// Returns: `true` if a byte is known, which `peek_buf` lends; `false` at the end: the pipe is
     /// closed, and every byte that was ever published has been taken. The end is final.
     /// Pending: no byte is known, and the pipe was not seen closed.
-    /// Errors: `OutOfMemory` if no byte is known and no waker can be made, also at the end, since
-    /// the waker is made before closed is loaded.
+    /// Errors: `OutOfMemory`, only if no byte is known and no waker can be made. It may come at the
+    /// end too, since the waker is made before closed is loaded.
     pub fn poll(&mut self, cx: &mut Context<'_>) -> Poll<Result<bool, OutOfMemory>>
         ensures ran { Ran (looks_at (end_of self.old) Purpose.Poll) (poll_answer result)
             (log self.old) (log self.new) }
@@ -145,8 +146,8 @@ impl Reader {
         self.end().mark()
     }
 
-    /// Closes the pipe, and frees its memory if the writer was dropped before. Unread bytes are
-    /// lost.
+    /// Closes the pipe, and frees its memory if the writer was dropped before (tested, not proved).
+    /// Unread bytes are lost.
     ///
     /// Returns: evidence for the writer's `meet_finished`: how many bytes were ever taken, and that
     /// the writer's slot was checked after the close.
@@ -192,8 +193,9 @@ impl Writer {
 
     /// How many bytes are unread now.
     ///
-    /// Returns: a count in which the known room is free, and bytes that a mark reported are taken.
-    /// Bytes that a dropped reader left unread are counted. The reader may take more at any time.
+    /// Returns: a count of at most the capacity less the known room. It leaves out the bytes that a
+    /// mark reported as taken, and includes those that a dropped reader left unread. The reader may
+    /// take more at any time.
     pub fn len(&self) -> usize
         ensures { WriterMayHave self.now result }
     {
@@ -237,8 +239,8 @@ impl Writer {
     /// Returns: `true` if there is room, which `write_buf` lends; `false` if the pipe is closed,
     /// even if there is room. `false` is final.
     /// Pending: there is no room, and the pipe was not seen closed.
-    /// Errors: `OutOfMemory` if there is no room, the pipe was not seen closed, and no waker can be
-    /// made.
+    /// Errors: `OutOfMemory`, only if there is no room, the pipe was not seen closed, and no waker
+    /// can be made.
     pub fn poll(&mut self, cx: &mut Context<'_>) -> Poll<Result<bool, OutOfMemory>>
         ensures ran { Ran (Point.Writer (WritePoint.LookClosed Purpose.Poll)) (poll_answer result)
             (log self.old) (log self.new) }
@@ -293,7 +295,8 @@ impl Writer {
     /// more.
     ///
     /// Returns: `Ok(())`, at once and always: the result has the form of the trait's.
-    /// Wakes: the reader, if it waits. No waker of this writer is left.
+    /// Wakes: the reader, if it waits. A task that is still registered at this writer is woken (not
+    /// proved), and no waker of this writer is left.
     pub fn poll_close(&mut self, cx: &mut Context<'_>) -> Poll<Result<(), OutOfMemory>>
         ensures ran { Ran (Point.Writer (WritePoint.StoreClosed AfterWrite.WakeWriter)) Answer.Done
             (log self.old) (log self.new) }
@@ -321,8 +324,8 @@ impl Writer {
         self.end().mark()
     }
 
-    /// Closes the pipe, and frees its memory if the reader was dropped before. Unread bytes can
-    /// still be read; what is lent is not published.
+    /// Closes the pipe, and frees its memory if the reader was dropped before (tested, not proved).
+    /// Unread bytes can still be read; what is lent is not published.
     ///
     /// Returns: evidence for the reader's `meet_finished`: which bytes were ever published, and
     /// that the reader's slot was checked after the close.

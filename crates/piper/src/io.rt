@@ -186,9 +186,9 @@ pub trait AsyncWrite {
 
     /// Publishes bytes from the front of `source`.
     ///
-    /// Returns: how many bytes it counts. 0 for a `source` that is not empty says that the pipe is
-    /// closed, and so does each later answer. In the call that sees the pipe closed at most 131,072
-    /// of the counted bytes are lost.
+    /// Returns: how many bytes it counts. If `source` is not empty, 0 says that the pipe is closed.
+    /// Each later call also returns 0. In the call that sees the pipe closed at most 131,072 of
+    /// the counted bytes are lost.
     /// Pending: nothing was published.
     /// Errors: those of the type. Nothing was published.
     fn poll_write(&mut self, cx: &mut Context<'_>, source: &[u8]) -> Poll<Result<usize, PipeError>>
@@ -204,7 +204,7 @@ pub trait AsyncWrite {
     /// Waits until what was written is on its way.
     ///
     /// Returns: `Ok(())` once all of it is.
-    /// Pending: some of it is not yet. No byte is published by this call.
+    /// Pending: for a reason of the type. No byte is published by this call, whatever it answers.
     /// Errors: those of the type.
     fn poll_flush(&mut self, cx: &mut Context<'_>) -> Poll<Result<(), PipeError>>
         ensures flushed { OnReadyOk result (flushed self.new)
@@ -220,8 +220,7 @@ pub trait AsyncWrite {
     /// Closes the pipe for good, with what was written on its way.
     ///
     /// Returns: `Ok(())` once all of it is, and this writer saw the pipe closed.
-    /// Pending: some of it is not yet, or the pipe is not closed yet. No byte is published by this
-    /// call.
+    /// Pending: for a reason of the type. No byte is published by this call, whatever it answers.
     /// Errors: those of the type.
     fn poll_close(&mut self, cx: &mut Context<'_>) -> Poll<Result<(), PipeError>>
         ensures closed { OnReadyOk result ((saw self.new ≡ true) × flushed self.new)

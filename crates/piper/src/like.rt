@@ -42,7 +42,8 @@ pub trait ReadLike {
         ensures error { IfErr result (λ e. fails self.old e self.new) }
         ensures failures { Counts result (failures self.old) (failures self.new) };
 
-    /// How many bytes it asks to be lent next.
+    /// How many bytes it asks to be lent next. A fill lends it no more, and doesn't read if that is
+    /// 0.
     ///
     /// Returns: 0 only if it has none left to give. A source that can't tell returns any other
     /// number.
@@ -86,7 +87,7 @@ pub trait WriteLike {
         ensures error { IfErr result (λ e. fails self.old e self.new) }
         ensures failures { Counts result (failures self.old) (failures self.new) };
 
-    /// How many bytes it asks for next.
+    /// How many bytes it asks for next. A drain doesn't call it if that is 0, and may hand it more.
     ///
     /// Returns: 0 only if it takes no more. A destination that can't tell returns any other number.
     fn asks(&self) -> usize

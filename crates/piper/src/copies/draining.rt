@@ -31,13 +31,13 @@ impl Reader {
 
     /// Moves known bytes into a writer of std.
     ///
-    /// Returns: how many bytes `dest` took. 0 is the end, for good, or `dest` took none though
-    /// bytes are known. `dest` is not flushed.
+    /// Returns: how many bytes `dest` took. 0 says that the pipe is at its end, for good, or that
+    /// `dest` took none of the known bytes. `dest` is not flushed.
     /// Pending: no byte is known, and the pipe was not seen closed; or the call yields. `dest`
     /// stays as it was.
     /// Errors: `Memory`, for the reason for which `poll` fails; no byte is taken. `Io`, with the
-    /// error of `dest`: what `dest` took in earlier rounds stays taken and is not counted, and the
-    /// round that failed took none.
+    /// error of `dest`. The round that failed took no byte. The bytes of earlier rounds are in
+    /// `dest` and are not given back; the error doesn't say how many.
     /// Wakes: the writer, if it waits and a byte was moved.
     pub fn poll_drain<W: StdWriter>(
         &mut self,
@@ -96,8 +96,8 @@ impl Reader {
     /// Moves known bytes into the front of `dest`, as many as fit, and doesn't wait.
     ///
     /// Returns: how many bytes. 0 says that no byte has come, that `dest` has no room, or that the
-    /// pipe is at its end. To tell the end, call `try_drain_with` with room: it is pending if no
-    /// byte has come, and 0 at the end.
+    /// pipe is at its end. To tell these apart, call `try_drain_with` with a destination that has
+    /// room: it is pending if no byte has come, and returns 0 at the end.
     /// Wakes: the writer, if it waits and a byte was moved.
     pub fn try_drain(&mut self, dest: &mut [u8]) -> usize
         ensures ran { Ran (looks_at (end_of self.old) (Purpose.Copy Form.Try)) (Answer.Count result)
@@ -119,8 +119,8 @@ impl Reader {
 
     /// Moves known bytes into any destination, as `poll_drain` does into a writer of std.
     ///
-    /// Returns: how many bytes `dest` took. 0 is the end, for good, or `dest` took none though
-    /// bytes are known.
+    /// Returns: how many bytes `dest` took. 0 says that the pipe is at its end, for good, or that
+    /// `dest` took none of the known bytes.
     /// Pending: as `poll_drain`.
     /// Errors: `Memory`, as `poll_drain`. `Like`, with the error of `dest`: as `Io` of
     /// `poll_drain`.
@@ -160,8 +160,8 @@ impl Reader {
     /// Moves known bytes into any destination, and doesn't wait: it registers no task and never
     /// yields.
     ///
-    /// Returns: how many bytes `dest` took. 0 is the end, for good, or `dest` took none though
-    /// bytes are known.
+    /// Returns: how many bytes `dest` took. 0 says that the pipe is at its end, for good, or that
+    /// `dest` took none of the known bytes.
     /// Pending: no byte is known, and the pipe was not seen closed. The call registers no task; one
     /// that was registered before stays so.
     /// Errors: `Like`, with the error of `dest`: as `Io` of `poll_drain`.

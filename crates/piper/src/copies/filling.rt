@@ -35,8 +35,8 @@ impl Writer {
     /// Pending: there is no room, and the pipe was not seen closed; or the call yields. `source`
     /// stays as it was.
     /// Errors: `Memory`, for the reason for which `poll` fails; no byte is published. `Io`, with
-    /// the error of `source`: what `source` gave in earlier rounds stays published and is not
-    /// counted, and the round that failed gave none.
+    /// the error of `source`. The round that failed gave no byte. The bytes of earlier rounds stay
+    /// published; the error doesn't say how many.
     /// Wakes: the reader, if it waits and a byte was published.
     pub fn poll_fill<R: StdReader>(
         &mut self,

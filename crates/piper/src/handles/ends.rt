@@ -24,9 +24,9 @@ impl Reader {
     /// Learns what the mark reports.
     ///
     /// From now on a look finds at least the bytes that were published before the mark, and a pipe
-    /// that the writer closed before it is seen closed. The mark's bytes agree with those that the
-    /// reader took and knows of, as far as both go. If the mark says that the writer closed the
-    /// pipe, they are all bytes that were ever published.
+    /// that the writer closed before it is seen closed. The mark's bytes, and those that the reader
+    /// took and knows of, begin alike: the shorter is the front of the longer. If the mark says that
+    /// the writer closed the pipe, its bytes are all that were ever published.
     ///
     /// Requires: the mark is of the same pipe.
     pub fn observe(&mut self, mark: &WriteMark)
@@ -47,10 +47,10 @@ impl Reader {
     /// either saw the pipe closed, the writer closed it, and what the reader holds to be all bytes
     /// is what the writer published. It allocates nothing.
     ///
-    /// No side that waits is forgotten. Take a side that is pending in its slot, while the other
-    /// has checked that slot since its last store: then the other took its waker, and called it; or
-    /// the side has nothing to do, and the pipe is open. If both sides are pending so, one of them
-    /// took and called the other's waker: a pipe is not empty and full.
+    /// No side that waits is forgotten. If a side is pending in its slot, and the other has checked
+    /// that slot since its last store, then the other took the side's waker and called it, or the
+    /// side has nothing to do and the pipe is open. If both sides are pending so, one of them took
+    /// and called the other's waker: a pipe is not empty and full.
     ///
     /// Requires: both handles are of one pipe.
     pub fn meet(&mut self, other: &mut Writer)
@@ -65,7 +65,7 @@ impl Reader {
         self.side.meet(&mut other.side);
     }
 
-    /// Observes the last mark of the writer that was dropped; its bytes become known at the next look.
+    /// Observes the last mark of the writer that was dropped. The next look then finds its bytes.
     ///
     /// If the reader waits in its slot, the writer has taken its waker and called it, at the latest
     /// when it left. `left` stays as it was: the proof alone needs a `&mut`.
@@ -145,10 +145,11 @@ impl Writer {
 
     /// Lends at most `max` bytes of the known room, in one piece, to be written.
     ///
-    /// Returns: all that is asked for and lies in one piece, but none once this writer closed the
-    /// pipe. As long as a part of the buffer was never written it may be less, but at least `4096 +
-    /// 2 × (published + lent)` bytes of it. An empty slice doesn't say that the pipe is closed or
-    /// full. What its bytes hold is not said. It takes the place of the slice lent before.
+    /// Returns: none once this writer closed the pipe. Else it lends as much of the known room as
+    /// lies in one piece, up to `max` bytes. It may lend less than that, but then at least `4096 +
+    /// 2 × (p + l)` bytes: p bytes were ever published, and l are left of the slice lent before. An
+    /// empty slice doesn't say that the pipe is closed or full. What its bytes hold is not said. It
+    /// takes the place of the slice lent before.
     pub fn write_buf(&mut self, max: usize) -> &mut [u8]
         ensures* writes { sem 𝓛 (lends_room self.entry result) }
         ensures length { MayLend self.old max (length result.now) }

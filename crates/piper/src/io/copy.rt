@@ -25,11 +25,13 @@ pub enum Copied {
 /// It polls the reader first, so the close of the writer's pipe is seen only once a byte is known.
 /// The copy holds no bytes of its own: the next poll goes on from where this one ended.
 ///
-/// Returns: `ToTheEnd` at the reader's end; `UntilClosed` if the writer's pipe is closed and a byte
-/// was known. As long as the writer has not seen its pipe closed, all that was taken is published.
-/// The poll in which it sees the close may have lost bytes that it took, with any answer.
-/// Pending: a call of the reader or of the writer is pending; or bytes were copied, 64 pieces as it
-/// is now, and the task is polled again. A reader that was told of the end is not waited for.
+/// Returns: `ToTheEnd` only at the reader's end; `UntilClosed` only if the writer saw its pipe
+/// closed. All bytes that were taken are published, unless the writer saw its pipe closed in this
+/// poll. Then the last of them may be lost, also if the poll returns `ToTheEnd`, fails or is
+/// pending. A poll after that takes none. The writer is neither flushed nor closed.
+/// Pending: a call of the reader or of the writer is pending; or it copied 64 pieces, and asked for
+/// another poll. If the reader was told of the end, the copy is pending only since the writer is, or
+/// since it asked for another poll itself.
 /// Errors: that of the reader or of the writer.
 pub fn poll_copy<R: AsyncBufRead, W: AsyncWrite>(
     cx: &mut Context<'_>,
