@@ -10,8 +10,8 @@ use piper_protocol::answer::{Answer, Failed, Polled};
 use piper_protocol::table::Query;
 use piper_script::command::Refusal;
 
-/// Makes a call of the reader without a waker, and returns what it returns. Bytes that it takes go to the front
-/// of `dest`.
+/// Makes a call of the reader without a waker, and returns what it returns. Bytes that it takes go to
+/// the front of `dest`.
 pub fn read_at_once(reader: &mut Reader, call: &Call, dest: &mut [u8]) -> Result<Answer, Halt> {
     Ok(match call {
         Call::Query(_, Query::Len) => Answer::Count(reader.len()),
@@ -30,8 +30,8 @@ pub fn read_at_once(reader: &mut Reader, call: &Call, dest: &mut [u8]) -> Result
     })
 }
 
-/// Makes a call of the reader as this task, and returns what it returns. Bytes that it takes go to the front of
-/// `dest`.
+/// Makes a call of the reader as this task, and returns what it returns. Bytes that it takes go to
+/// the front of `dest`.
 pub fn read_as_task(
     reader: &mut Reader,
     task: &MockTask,
@@ -57,8 +57,8 @@ pub fn read_as_task(
     })
 }
 
-/// Makes a call of the writer without a waker, and returns what it returns. `lent` is how much is left of what is
-/// lent.
+/// Makes a call of the writer without a waker, and returns what it returns. `lent` is how much is
+/// left of what is lent.
 pub fn write_at_once(writer: &mut Writer, lent: &mut usize, call: &Call) -> Result<Answer, Halt> {
     Ok(match call {
         Call::Query(_, Query::Len) => Answer::Count(writer.len()),

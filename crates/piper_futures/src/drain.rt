@@ -33,8 +33,8 @@ pub struct Draining<R, D> {
 /// Each write blocks the thread. `dest` is not flushed.
 ///
 /// Returns: a future of the reader and `dest`.
-/// Pending: the reader knows no byte, and its call is pending; or bytes were moved, 64 pieces as it
-/// is now, and the task is polled again.
+/// Pending: the reader knows no byte, and its call is pending; or it moved 64 pieces, and
+/// asked for another poll.
 /// Errors: the reader's own; that of `dest`; or one of the kind `WriteZero`, if `dest` takes none
 /// of some bytes. `left` has the reader and `dest`.
 /// Cancel safety: a byte is taken only once it was written, so a dropped future loses none.
@@ -84,8 +84,8 @@ impl<R: AsyncBufRead + Drop, D: Write + Drop> Future for Draining<R, D> {
 /// Moves the bytes of the reader into a writer of std, up to the reader's end.
 ///
 /// Returns: `Ok(())` at the reader's end. `dest` is not flushed.
-/// Pending: the reader knows no byte, and its call is pending; or bytes were moved, 64 pieces as it
-/// is now, and the task is polled again.
+/// Pending: the reader knows no byte, and its call is pending; or it moved 64 pieces, and
+/// asked for another poll.
 /// Errors: the reader's own; that of `dest`; or one of the kind `WriteZero`, if `dest` takes none
 /// of some bytes.
 /// Cancel safety: a byte is taken only once it was written, and the next poll goes on from there.

@@ -20,9 +20,9 @@ pub struct ReadOnce<R> {
 
 /// Waits for a byte, and puts what came at the front of `places`.
 ///
-/// Returns: a future of the reader, `places`, and how many bytes came: 0 is the end, if there are
-/// places.
-/// Pending: the reader knows no byte, and its call is pending.
+/// Returns: a future of the reader, `places`, and how many bytes came. If there are places, 0 says
+/// that the reader saw the end. A pipe's reader waits for a byte even if there are no places.
+/// Pending: the reader's call is pending.
 /// Errors: the reader's own. `left` has the reader, and `places` as they were.
 /// Cancel safety: a dropped future has taken no byte.
 pub fn read<R: AsyncRead + Drop>(reader: R, places: Vec<u8>) -> ReadOnce<R>

@@ -20,12 +20,13 @@ pub struct ReadExact<R> {
     size: usize,
 }
 
-/// Appends bytes of the reader to `bytes`, until there are `size` of them.
+/// Appends bytes of the reader to `bytes`, until `bytes` has `size` bytes, with those that it had
+/// before.
 ///
 /// Requires: `bytes` has at most `size` bytes.
 /// Returns: a future of the reader and `bytes`, which has fewer than `size` only at the reader's
 /// end.
-/// Pending: the reader knows no byte, and its call is pending.
+/// Pending: the reader's call is pending.
 /// Errors: the reader's own; or `Memory`, before the bytes are taken that lack room. `left` has the
 /// reader, and `bytes` with all that was taken.
 /// Cancel safety: a dropped future drops `bytes`, with all that was taken.

@@ -13,11 +13,11 @@ const MOST_PIECES: u32 = 64;
 /// Why a poll for all frames ended.
 #[derive(Clone, Copy, Debug, PartialEq, Eq)]
 pub enum Collected {
-    /// The end of the reader, after a whole frame.
+    /// The end of the reader, between frames.
     ToTheEnd,
     /// The end of the reader, inside a frame.
     Truncated,
-    /// The next frame has this many bytes, which are more than the limit.
+    /// The body of the next frame has this many bytes, which are more than the limit.
     UntilTooLong(usize),
 }
 

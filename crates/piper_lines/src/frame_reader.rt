@@ -19,14 +19,14 @@ use std::mem;
 /// What a poll for a frame returns.
 #[derive(Debug, Drop, Clone, Copy, PartialEq, Eq)]
 pub enum FrameAnswer {
-    /// A whole frame, of at most as many bytes as the limit.
+    /// A whole frame, whose body has at most as many bytes as the limit.
     Frame,
-    /// The next frame has this many bytes, which are more than the limit. This poll took none of
-    /// them.
+    /// The body of the next frame has this many bytes, which are more than the limit. This poll took
+    /// none of them.
     TooLong(usize),
     /// The end of the reader, inside a frame.
     Truncated,
-    /// The end of the reader, after a whole frame. Each later poll answers `End` again, or fails.
+    /// The end of the reader, between frames. Each later poll answers `End` or fails.
     End,
 }
 
@@ -111,7 +111,8 @@ impl<R: AsyncBufRead> Frames<R> {
     /// Gives up the next frame: the polls that follow take its bytes and drop them, and then take
     /// the frame after it.
     ///
-    /// Requires: the whole length of the frame was taken, as it is after `TooLong`.
+    /// Requires: the whole length of the frame was taken, as it is after `TooLong` and
+    /// `UntilTooLong`.
     pub fn skip(&mut self)
         requires { length (header_of self.old) ≡ header_size (format_of self.old) }
         ensures reader { reader_of self.new ≡ reader_of self.old }
@@ -130,8 +131,8 @@ impl<R: AsyncBufRead> Frames<R> {
     /// After `TooLong` the caller can `skip` the frame, ask again with another limit, or stop.
     ///
     /// Returns: whether `frame` is a whole body, or why there is none; then it is empty.
-    /// Pending: the reader knows no byte, and its call is pending; or bytes of a skipped frame were
-    /// passed over, 64 pieces as it is now, and the task is polled again. `frame` is empty.
+    /// Pending: the reader knows no byte, and its call is pending; or it passed over 64 pieces of a
+    /// skipped frame, and asked for another poll. `frame` is empty.
     /// Errors: the reader's own; or `Memory`, before the bytes are taken that lack room. `frame` is
     /// empty.
     /// Cancel safety: the next poll goes on from where this one ended. What was taken of an

@@ -14,7 +14,7 @@ pub enum ByteOrder {
     LittleEndian,
 }
 
-/// How many bytes before a frame give the length of its body, and in which order.
+/// How many bytes at the front of a frame give the length of its body, and in which order.
 #[derive(Clone, Copy, Debug, PartialEq, Eq)]
 pub enum FrameHeader {
     /// One byte: bodies of up to 255 bytes.

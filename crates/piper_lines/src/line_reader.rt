@@ -23,13 +23,13 @@ use std::mem;
 pub enum LineAnswer {
     /// A whole line with the byte that ends it, of at most as many bytes as the limit.
     Line,
-    /// As many bytes as the limit, none of which ends a line; or all that was kept, if that is
-    /// more.
+    /// As many bytes as the limit, none of which ends a line; or, if calls with a greater limit kept
+    /// more than that, all that was kept.
     TooLong,
     /// What follows the last line, at the end of the reader.
     Last,
-    /// The end of the reader, with nothing left of a line. Each poll after it, and after `Last`,
-    /// answers `End` again, or fails.
+    /// The end of the reader, with nothing left of a line. After `End`, and after `Last`, each poll
+    /// answers `End` or fails.
     End,
 }
 

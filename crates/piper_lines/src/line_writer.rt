@@ -27,15 +27,14 @@ pub struct WriteLine<'a> {
     ghost within_end: { end_written ≤ 1 },
 }
 
-/// Whether the text has no LF, so that with an LF after it it is one line.
+/// Whether no LF is in the text. If none is, the text and one LF after it are one line.
 pub fn is_one_line(text: &[u8]) -> bool
     ensures { IsTrue result ↔ Lacks line_feed text.now }
 {
     lacks(text, b'\n')
 }
 
-/// Whether the text has no such byte, so that with one after it it is one of the lines which that
-/// byte ends.
+/// Whether `end` is not in the text. If it is not, the text and one `end` after it are one line.
 pub fn lacks(text: &[u8], end: u8) -> bool
     ensures { IsTrue result ↔ Lacks end text.now }
 {

@@ -96,8 +96,8 @@ impl<R: AsyncBufRead + Drop> Stream for FrameStream<R> {
     /// The body of the next frame.
     ///
     /// Returns: `Some` body; `None` at the reader's end.
-    /// Pending: the reader knows no byte, and its call is pending; or bytes were taken, and the
-    /// task is polled again.
+    /// Pending: the reader knows no byte, and its call is pending; or bytes were taken, and it
+    /// asked for another poll.
     /// Errors: the reader's own, or `Memory`, before the bytes are taken that lack room: after
     /// these the stream goes on where it was. `InvalidData` if the frame has more bytes than the
     /// limit, `UnexpectedEof` if the reader ends inside a frame: after these the stream has ended.

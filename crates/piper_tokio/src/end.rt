@@ -6,10 +6,12 @@ ghost use Rattle.std.specs.declared.io.ErrorKind.TheVariants.{OutOfMemory as Out
 ghost use Rattle.futures.specs.Poll.{OnPending};
 ghost use Rattle.futures.specs.Task.{Keeps};
 ghost use Rattle.tokio.specs.Io.Moved.{bytes_moved, count_moved, OnReadyOk, IfReadyErr};
-ghost use Rattle.piper.specs.Handles.{NotifiesReader, NotifiesWriter, SameReader, read_source, write_source};
+ghost use Rattle.piper.specs.Called.{CallsTaken};
+ghost use Rattle.piper.specs.Traits.{Consumes};
+ghost use Rattle.piper.specs.Handles.{NotifiesReader, SameReader, read_source, write_source};
 ghost use Rattle.piper.specs.OfReader.{known};
-ghost use Rattle.piper.specs.OfWriter.{shut, saw};
-ghost use Rattle.piper.specs.ReaderCalls.{AtEnd, DrainPends, DrainsEnd, DrainsSlice, DrainDraws, Looks, PollsEnd, SameReaderButConsumed, WakesWriter};
+ghost use Rattle.piper.specs.OfWriter.{shut, saw, slots};
+ghost use Rattle.piper.specs.ReaderCalls.{AtEnd, DrainPends, DrainsEnd, DrainsSlice, DrainDraws, Looks, PollsEnd, WakesWriter};
 ghost use Rattle.piper.specs.SlotsView.{OnlyWaits};
 ghost use Rattle.piper.specs.Waits.{ReaderPends, WriterLeavesNone};
 ghost use Rattle.piper.specs.WriterCalls.{FillDraws, FillPends, FillsEnd, FillsSlice, SameWriterButMoved, SameWriterButShut, WakesReader};
@@ -126,8 +128,7 @@ impl AsyncBufRead for CompatEnd {
             (reading self.new) × (write_half self.new ≡ write_half self.old) }
         ensures known { known (reading self.new) ≡ drop amount (known (reading self.old)) }
         ensures end { AtEnd (reading self.old) → AtEnd (reading self.new) }
-        ensures woken { NotifiesWriter (reading self.new) }
-        ensures reader { SameReaderButConsumed (reading self.old) (reading self.new) }
+        ensures consumes { Consumes (reading self.old) (reading self.new) amount }
         ensures rest { shown_by (read_half self.new)
             ≡ drop amount (shown_by (read_half self.old)) }
     {
@@ -185,6 +186,7 @@ impl AsyncWrite for CompatEnd {
         ensures bytes { Gave (writing self.old) [] (writing self.new)
             × (read_half self.new ≡ read_half self.old) }
         ensures woken { NotifiesReader (writing self.new) }
+        ensures called { CallsTaken (slots (writing self.old)) (slots (writing self.new)) }
         ensures leaves { WriterLeavesNone (writing self.new) }
         ensures context { Keeps cx.old cx.new }
         ensures rest { SameWriterButShut (writing self.old) (writing self.new) }

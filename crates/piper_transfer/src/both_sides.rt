@@ -56,10 +56,9 @@ pub struct Sizes {
 ///
 /// Returns: `Ok(())`: all that the input gave is written, and the output is flushed.
 /// Errors: `Read`: all that the input gave before is written, and the output is flushed. `Write`: a
-/// write or a flush failed; the output has a front of what the input gave, and the input is read no
-/// further, except for a read that is under way. A flush that fails after a failed read is reported
-/// in its place. `Full`: a write took none of some bytes; else as `Write`. `Memory`: it was refused
-/// for the pipe, and nothing was moved, or for a waker. `Turns`: a thread could not be made to
+/// write or a flush failed; the output has a front of what the input gave. If a read fails and then
+/// the flush fails, `Write` is reported. `Full`: a write took none of some bytes; else as `Write`.
+/// `Memory`: memory was refused, for the pipe or for a waker. `Turns`: a thread could not be made to
 /// wait. In all cases the output was given a front of what the input gave, in order.
 pub fn transfer<R, S, D>(
     rt: &R,

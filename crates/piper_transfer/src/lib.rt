@@ -1,6 +1,6 @@
-//! Moves bytes from a reader to a writer through a pipe: one thread reads and another writes, so
-//! that a slow read does not hold up the writes, as long as the pipe has bytes, nor a slow write
-//! the reads, as long as it has room.
+//! Moves bytes from a reader to a writer through a pipe: one thread reads and another writes. A slow
+//! read doesn't hold up the writes as long as the pipe has bytes. A slow write doesn't hold up the
+//! reads as long as the pipe has room.
 #![tactic(auto)]
 
 mod both_sides;

@@ -26,9 +26,9 @@ pub struct Side<K> {
 
 /// What both sides of a transfer have done so far. Other threads may read it at any time.
 ///
-/// Transfers may share one, after another or at once, and move the same bytes then. Of those at
-/// once it counts all bytes; of waits that overlap it counts the last one, from its begin to
-/// whichever ends first.
+/// Several transfers may share a meter, at once or one after another. It doesn't change what they
+/// move, and counts the bytes of all. If two waits overlap, it counts only from the begin of the
+/// later one to the first end.
 #[derive(Drop)]
 pub struct Meter {
     /// The side that reads the input; it waits for room.

@@ -17,7 +17,8 @@ use std::{fs, io};
 /// A file that has a name.
 ///
 /// It can say which one, whether it is open, what was written to it since then, whether that is
-/// flushed, and how its calls fail. Of the system's files nothing of that is said, but each answer is one of theirs.
+/// flushed, and how its calls fail. Nothing of that is said of the system's files, but each answer is
+/// one of theirs.
 pub trait NamedFile: Drop {
     ghost use Rattle.std.specs.Prelude.{Bool, Result};
     ghost use Rattle.std.specs.declared.io.Error.{Error};

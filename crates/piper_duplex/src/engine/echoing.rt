@@ -21,7 +21,7 @@ const MOST_LINES: u32 = 64;
 /// Why an echo ended.
 #[derive(Clone, Copy, Debug, PartialEq, Eq)]
 pub enum Echoed {
-    /// All that the reader gave was written back.
+    /// The reader is at its end, and the writer counted all that the echo took.
     ToTheEnd,
     /// The writer's pipe is closed, and bytes of a line are left.
     UntilClosed,
@@ -53,14 +53,14 @@ impl LineEcho {
     /// Reads lines, and writes each back once it is whole, up to the reader's end or the close of
     /// the writer's pipe.
     ///
-    /// A line of more than `limit` bytes goes back in pieces of that many, unless a call with a
-    /// greater limit kept more of it before. What follows the last line goes back as well. As long
-    /// as the writer has not seen its pipe closed, all counted bytes are published.
+    /// If fewer than `limit` bytes were kept before, a line of more than `limit` bytes goes back in
+    /// pieces of `limit` bytes. What follows the last line goes back as well. As long as the writer
+    /// has not seen its pipe closed, all counted bytes are published.
     ///
     /// Requires: `limit`, which counts the byte that ends a line, is at least 1.
     /// Returns: why it ended.
     /// Pending: a line is on its way back, and the writer's call is pending; or none is, and the
-    /// reader's is; or bytes were taken, 64 lines as it is now, and the task is polled again. A
+    /// reader's is; or it took 64 lines, a number that may change, and asked for another poll. A
     /// reader that was told of the end is not waited for.
     /// Errors: that of the reader or of the writer; or `Memory`, before the bytes are taken that
     /// lack room.

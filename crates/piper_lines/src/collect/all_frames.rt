@@ -16,15 +16,15 @@ use futures::task::{Context, Poll};
 use piper::PipeError;
 use piper::io::AsyncBufRead;
 
-/// Appends the bodies of the reader's frames to `out`, up to the reader's end or to a frame of more
-/// than `limit` bytes.
+/// Appends the bodies of the reader's frames to `out`, up to the reader's end or to a frame whose
+/// body has more than `limit` bytes.
 ///
-/// Such a frame's body is not taken: the caller can skip it and poll again, or ask again with
-/// another limit.
+/// This call takes nothing of such a body. What an earlier call took of it stays kept. The caller
+/// can skip the frame and poll again, or ask again with another limit.
 ///
 /// Returns: why it ended.
-/// Pending: the reader knows no byte, and its call is pending; or 64 frames were appended, or 64
-/// pieces of a skipped frame passed over, and the task is polled again.
+/// Pending: the reader knows no byte, and its call is pending; or it appended 64 frames, or passed
+/// over 64 pieces of a skipped frame, and asked for another poll.
 /// Errors: the reader's own; or `Memory`, before the bytes are taken that lack room. `out` has each
 /// body that was taken whole.
 /// Cancel safety: the next poll goes on from where this one ended.

@@ -20,13 +20,13 @@ use piper::io::AsyncBufRead;
 
 /// Appends the lines of the reader to `out`, up to the reader's end.
 ///
-/// A longer line than `limit` bytes comes in pieces of that many if fewer were kept before. The
-/// first piece is longer if a call with another limit kept more.
+/// If fewer than `limit` bytes were kept before, a line of more than `limit` bytes comes in pieces
+/// of `limit` bytes. If more were kept, nothing is said of the pieces of this call.
 ///
 /// Requires: `limit`, which counts the byte that ends a line, is at least 1.
 /// Returns: what follows the last line.
-/// Pending: the reader knows no byte, and its call is pending; or 64 lines or pieces were appended,
-/// and the task is polled again.
+/// Pending: the reader knows no byte, and its call is pending; or it appended 64 lines or pieces,
+/// and asked for another poll.
 /// Errors: the reader's own; or `Memory`, before the bytes are taken that lack room. `out` has each
 /// line that was taken whole.
 /// Cancel safety: the next poll goes on from where this one ended.

@@ -130,8 +130,8 @@ impl ReadEnd {
         self.parts.seat.mark()
     }
 
-    /// From now on it knows what the mark reports: a load of the tail finds at least the bytes that were
-    /// published before it, and a ring that the writer closed before it is seen closed. Its bytes
+    /// From now on it knows what the mark reports: a load of the tail finds at least the bytes that
+    /// were published before it, and a ring that the writer closed before it is seen closed. Its bytes
     /// and those that this end took and knows of are beginnings of one stream, and those of a mark
     /// that reports of the end are all.
     pub fn observe(&mut self, mark: &WriteMark)
@@ -142,9 +142,9 @@ impl ReadEnd {
         self.parts.heard.observe(mark);
     }
 
-    /// Loads the tail, and so knows of bytes that were published: of all there are, once it is known where the pipe
-    /// ends. It is for an end that knows of none: one that does has something to do, and need not
-    /// touch the other's word.
+    /// Loads the tail, and so knows of bytes that were published: of all there are, once it is known
+    /// where the pipe ends. It is for an end that knows of none: one that does has something to do,
+    /// and need not touch the other's word.
     pub fn load_tail(&mut self)
         requires { length self.old.known ≡ 0 }
         ensures heard { length self.old.all ≤ length (self.new.taken ++ self.new.known) }

@@ -121,8 +121,8 @@ impl WriteEnd {
         self.parts.seat.mark()
     }
 
-    /// From now on it knows what the mark reports: a load of the head finds at least the room that was given
-    /// back before it.
+    /// From now on it knows what the mark reports: a load of the head finds at least the room that
+    /// was given back before it.
     pub fn observe(&mut self, mark: &ReadMark)
         requires { mark.now.names ≡ self.old.ring.names }
         ensures { self.new ≡ record self.old { told = max self.old.told mark.now.count } }
@@ -141,8 +141,8 @@ impl WriteEnd {
         self.parts.saw = mark.closed.duplicate();
     }
 
-    /// Loads the head, and so knows of room that was given back. It is for an end that knows of none,
-    /// as the reader's `load_tail`.
+    /// Loads the head, and so knows of room that was given back. It is for an end that knows of
+    /// none, as the reader's `load_tail`.
     pub fn load_head(&mut self)
         requires { self.old.room ≡ 0 }
         ensures fresh { self.old.told + self.old.capacity ≤ length self.new.sent + self.new.room }

@@ -5,15 +5,17 @@ ghost use Rattle.std.specs.declared.io.ErrorKind.TheVariants.{OutOfMemory as Out
 ghost use Rattle.futures.specs.Poll.{OnPending};
 ghost use Rattle.futures.specs.Task.{Keeps};
 ghost use Rattle.tokio.specs.Io.Moved.{bytes_moved, count_moved, OnReadyOk, IfReadyErr};
-ghost use Rattle.piper.specs.Handles.{NotifiesWriter, SameReader, read_source, NotifiesReader, write_source};
+ghost use Rattle.piper.specs.Called.{CallsTaken};
+ghost use Rattle.piper.specs.Traits.{Consumes};
+ghost use Rattle.piper.specs.Handles.{SameReader, read_source, NotifiesReader, write_source};
 ghost use Rattle.piper.specs.OfReader.{known};
-ghost use Rattle.piper.specs.ReaderCalls.{AtEnd, DrainPends, DrainsEnd, DrainsSlice, DrainDraws, Looks, PollsEnd, SameReaderButConsumed, WakesWriter};
+ghost use Rattle.piper.specs.ReaderCalls.{AtEnd, DrainPends, DrainsEnd, DrainsSlice, DrainDraws, Looks, PollsEnd, WakesWriter};
 ghost use Rattle.piper.specs.SlotsView.{OnlyWaits};
 ghost use Rattle.piper.specs.Waits.{ReaderPends, WriterLeavesNone};
 ghost use Rattle.piper_tokio.specs.Passing.{Took, WantsMemory, Gave, of_io};
 ghost use Rattle.piper_tokio.specs.Shown.{handle_of, shown_by, ShowsFront, writing};
 ghost use Rattle.piper_tokio.specs.PassingLaws.{took_nothing, took_in_order, gave_nothing, gave_in_order};
-ghost use Rattle.piper.specs.OfWriter.{shut, saw};
+ghost use Rattle.piper.specs.OfWriter.{shut, saw, slots};
 ghost use Rattle.piper.specs.WriterCalls.{FillDraws, FillPends, FillsEnd, FillsSlice, SameWriterButMoved, SameWriterButShut, WakesReader};
 
 use super::{CompatReader, CompatWriter};
@@ -64,8 +66,8 @@ impl tokio::io::AsyncRead for CompatReader {
     /// Moves known bytes into the front of `buf`, as many as fit. After it `buffer` shows nothing.
     ///
     /// Returns: how many bytes. 0 is the end, for good, if `buf` has room.
-    /// Pending: no byte is known and the pipe was not seen closed; or the call yields. `buf` stays
-    /// as it was.
+    /// Pending: no byte is known and the pipe was not seen closed, even if `buf` is empty; or the
+    /// call yields. `buf` stays as it was.
     /// Errors: one of the kind `OutOfMemory`, for the reason for which `Reader::poll` fails. No
     /// byte is taken, and `buf` stays as it was.
     /// Wakes: the writer, if it waits and a byte was moved.
@@ -130,15 +132,14 @@ impl tokio::io::AsyncBufRead for CompatReader {
     /// Takes the first `amount` bytes of what `buffer` shows.
     ///
     /// Requires: `amount` is at most the length of what `buffer` shows.
-    /// Wakes: the writer, if it waits.
+    /// Wakes: the writer, if it waits, also if `amount` is 0.
     fn consume(&mut self, amount: usize)
         requires { amount ≤ length (shown_by self.old) }
         ensures bytes { Took (handle_of self.old) (take amount (shown_by self.old))
             (handle_of self.new) }
         ensures known { known (handle_of self.new) ≡ drop amount (known (handle_of self.old)) }
         ensures end { AtEnd (handle_of self.old) → AtEnd (handle_of self.new) }
-        ensures woken { NotifiesWriter (handle_of self.new) }
-        ensures reader { SameReaderButConsumed (handle_of self.old) (handle_of self.new) }
+        ensures consumes { Consumes (handle_of self.old) (handle_of self.new) amount }
         ensures rest { shown_by self.new ≡ drop amount (shown_by self.old) }
     {
         self.shown -= amount;
@@ -233,6 +234,7 @@ impl tokio::io::AsyncWrite for CompatWriter {
         ensures answer { result ≡ Poll.Ready (Ok (record {})) }
         ensures bytes { Gave (writing self.old) [] (writing self.new) }
         ensures woken { NotifiesReader (writing self.new) }
+        ensures called { CallsTaken (slots (writing self.old)) (slots (writing self.new)) }
         ensures leaves { WriterLeavesNone (writing self.new) }
         ensures context { Keeps cx.old cx.new }
         ensures rest { SameWriterButShut (writing self.old) (writing self.new) }
