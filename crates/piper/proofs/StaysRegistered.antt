@@ -48,6 +48,6 @@ pub stays_waiting : {E : Type 0} (r : Poll (Result ℕ (CopyError E))) (a b d : 
 stays_waiting r a b d old left end rest h = record {
   draws = draws r a b d end rest h.draws;
   pending = pending r a b d left end rest h.pending;
-  memory = rw rest.slots h.memory;
+  memory = rw (rest.slots, end) h.memory;
   context = h.context;
 }

@@ -122,12 +122,13 @@ pub record DrainPends (a b : Reader) (cx : Context) : Type 0 where
 abbrev pub DrainDraws : {E : Type 0} → Poll (Result ℕ E) → Reader → Reader → Type 0
 DrainDraws r a b = Draws (0 < found_len a.side.end b.side.end) r a.rng b.rng
 
--- with a context a drain draws, waits, and is refused memory only for its waker
+-- with a context a drain draws, waits, and is refused memory only for its waker, and only if no byte
+-- is known
 pub record DrainsWaiting {E : Type 0} (r : Poll (Result ℕ (CopyError E)))
     (a b : Reader) (old left : Context) : Type 0 where
   pub draws : DrainDraws r a b
   pub pending : OnPending r (DrainPends a b left)
-  pub memory : OnMemory r (ReaderIsRefused b left)
+  pub memory : OnMemory r (ReaderIsRefused b left × (b.side.end.known ≡ []))
   pub context : Keeps old left
 
 -- without one it doesn't draw, is pending only if it found no byte and the pipe open, is refused
@@ -159,7 +160,7 @@ pub record ReadsAsDrain (a b : Reader) (r : Count) (old new : List ℕ)
   pub end : DrainsEnd r a b
   pub draws : DrainDraws r a b
   pub pending : OnPending r (DrainPends a b cx)
-  pub refused : IfReadyErr r (λ _. ReaderIsRefused b cx)
+  pub refused : IfReadyErr r (λ _. ReaderIsRefused b cx × (b.side.end.known ≡ []))
   pub woken : WakesWriter a b
   pub rest : SameReaderButMoved a b
 

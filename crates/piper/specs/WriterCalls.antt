@@ -103,12 +103,13 @@ pub record FillPends (a b : Writer) (cx : Context) : Type 0 where
 abbrev pub FillDraws : {E : Type 0} → Poll (Result ℕ (CopyError E)) → Writer → Writer → Type 0
 FillDraws r a b = Draws (FoundRoom r b.side.end) r a.rng b.rng
 
--- with a context a fill draws, waits, and is refused memory only for its waker
+-- with a context a fill draws, waits, and is refused memory only for its waker, and only if there is
+-- no room
 pub record FillsWaiting {E : Type 0} (r : Poll (Result ℕ (CopyError E)))
     (a b : Writer) (old left : Context) : Type 0 where
   pub draws : FillDraws r a b
   pub pending : OnPending r (FillPends a b left)
-  pub memory : OnMemory r (WriterIsRefused b left)
+  pub memory : OnMemory r (WriterIsRefused b left × (b.side.end.room ≡ 0))
   pub context : Keeps old left
 
 -- without one it doesn't draw, is pending only if it found no room, is refused no memory, and
@@ -139,7 +140,7 @@ pub record WritesAsFill (a b : Writer) (r : Count) (bytes : List ℕ)
   pub end : FillsEnd r a b
   pub draws : FillDraws (of_std r) a b
   pub pending : OnPending r (FillPends a b cx)
-  pub refused : IfReadyErr r (λ _. WriterIsRefused b cx)
+  pub refused : IfReadyErr r (λ _. WriterIsRefused b cx × (b.side.end.room ≡ 0))
   pub woken : WakesReader a b
   pub rest : SameWriterButMoved a b
 

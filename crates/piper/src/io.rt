@@ -52,8 +52,8 @@ pub trait AsyncRead {
     ///
     /// Returns: how many bytes. 0 is the end if `dest` has room: after it no byte comes, and no
     /// call is pending.
-    /// Pending: nothing was taken, and `dest` stays as it was. A reader that was told of the end is
-    /// pending only if it asked for another poll itself.
+    /// Pending: nothing was taken, and `dest` stays as it was. If the reader was told of the end, a
+    /// pending call has asked for another poll.
     /// Errors: those of the type. Nothing was taken, and `dest` stays as it was.
     fn poll_read(&mut self, cx: &mut Context<'_>, dest: &mut [u8]) -> Poll<Result<usize, PipeError>>
         ensures read { Reads result dest.old dest.new
@@ -187,8 +187,8 @@ pub trait AsyncWrite {
     /// Publishes bytes from the front of `source`.
     ///
     /// Returns: how many bytes it counts. If `source` is not empty, 0 says that the pipe is closed.
-    /// Each later call also returns 0. In the call that sees the pipe closed at most 131,072 of
-    /// the counted bytes are lost.
+    /// Once a call saw the pipe closed, each later call is ready with 0. In the call that sees it
+    /// closed at most 131,072 of the counted bytes are lost.
     /// Pending: nothing was published.
     /// Errors: those of the type. Nothing was published.
     fn poll_write(&mut self, cx: &mut Context<'_>, source: &[u8]) -> Poll<Result<usize, PipeError>>

@@ -42,8 +42,8 @@ pub trait ReadLike {
         ensures error { IfErr result (λ e. fails self.old e self.new) }
         ensures failures { Counts result (failures self.old) (failures self.new) };
 
-    /// How many bytes it asks to be lent next. A fill lends it no more, and doesn't read if that is
-    /// 0.
+    /// How many bytes it asks to be lent next. A fill lends it at most that many, and doesn't read if
+    /// it asks for 0 (not proved).
     ///
     /// Returns: 0 only if it has none left to give. A source that can't tell returns any other
     /// number.
@@ -87,7 +87,8 @@ pub trait WriteLike {
         ensures error { IfErr result (λ e. fails self.old e self.new) }
         ensures failures { Counts result (failures self.old) (failures self.new) };
 
-    /// How many bytes it asks for next. A drain doesn't call it if that is 0, and may hand it more.
+    /// How many bytes it asks for next. A drain may hand it more, and doesn't write if it asks for 0
+    /// (not proved).
     ///
     /// Returns: 0 only if it takes no more. A destination that can't tell returns any other number.
     fn asks(&self) -> usize

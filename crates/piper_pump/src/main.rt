@@ -11,6 +11,7 @@ mod outcome;
 mod outputs;
 mod program;
 mod progress;
+mod refusing;
 mod running;
 mod section;
 mod sizing;

@@ -13,7 +13,7 @@ ghost use Rattle.pump_files.specs.Files.{IsJust};
 ghost use Rattle.pump_files.specs.Found.{IsFound, IsFoundAtStream, IsFoundOfReports};
 ghost use Rattle.pump_files.specs.Handle.{IsAnswerFor};
 ghost use Rattle.pump_files.specs.declared.streams.Stream.TheVariants as stream;
-ghost use Rattle.piper_pump.specs.Opening.{AreDistinct, AreFoundApart, AreTold, AreWrittenAs, HoldNothing};
+ghost use Rattle.piper_pump.specs.Opening.{AreFoundApart, AreWrittenAs, HoldNothing};
 ghost use Rattle.piper_pump.specs.Opening.{IsFoundAt, IsFoundByName, IsFoundOpen, OpensNamed};
 ghost use Rattle.piper_pump.specs.Opening.{ReadsNamed, WritesNamed, founds_of, ids_of, takes_held};
 ghost use Rattle.pump_files.specs.Pace.{HasRate};
@@ -21,12 +21,13 @@ ghost use Rattle.pump_files.specs.Pace.{HasRate};
 use crate::accepting::takes_held;
 use crate::ended::{Ended, Unopened};
 use crate::ends::{Drain, Inlet, Opening, Outlet};
+use crate::refusing::{refuse_held_bytes, refuse_shared};
 use piper_protocol::reported::reported;
 use piper_transfer::{Destination, Source};
 use pump_files::attributes::Kind;
 use pump_files::files::{NamedFile, Opens};
-use pump_files::found::{FileId, Found};
-use pump_files::sinks::{FOLDER, HOLDS_BYTES, Sink, Way};
+use pump_files::found::Found;
+use pump_files::sinks::{FOLDER, Sink, Way};
 use pump_files::streams::Stream;
 use pump_words::arguments::Arguments;
 use pump_words::plan::named;
@@ -35,12 +36,6 @@ use std::fs::Files;
 use std::io;
 use std::sync::Wait;
 use std::time::Clock;
-
-/// What is said of a file that is named twice.
-const SHARED: &str = "it is the input, another output or standard error, too";
-
-/// What is said of a standard stream whose file the system does not tell.
-const UNTOLD: &str = "it can't be told from the other files without /proc";
 
 /// What was found of what is read, of what is reported to, and of what is written: files, or the
 /// standard streams.
@@ -54,11 +49,11 @@ pub struct Places {
 /// The files that are read and written in place of the standard streams, and the others that are
 /// written.
 #[derive(Drop)]
-struct Opened<F: NamedFile> {
-    input: Option<F>,
-    output: Option<Sink<F>>,
-    tees: Vec<Sink<F>>,
-    places: Places,
+pub(crate) struct Opened<F: NamedFile> {
+    pub(crate) input: Option<F>,
+    pub(crate) output: Option<Sink<F>>,
+    pub(crate) tees: Vec<Sink<F>>,
+    pub(crate) places: Places,
 }
 
 /// Opens the input that is named, looks at the files that are to be written, and takes them in place
@@ -321,93 +316,4 @@ fn add_tee<F: NamedFile>(tees: &mut Vec<Sink<F>>, sink: Sink<F>) -> Result<(), E
     ensures failed { IfErr result IsOfFailure }
 {
     reported(tees.push(sink).map_err(|_| Ended::Memory))
-}
-
-// Refuses a file that is the input, standard error or another output, too, and files that can't be
-// told from one another.
-fn refuse_shared<F: NamedFile>(alloc: Global, opened: &Opened<F>) -> Result<(), Ended>
-    ensures early { IfErr result IsUnopened }
-    ensures apart { OnOk result (AreDistinct (ids_of (opened.now.places.input
-        ∷ opened.now.places.reports ∷ opened.now.places.output
-        ∷ founds_of opened.now.tees.items))) }
-    ensures told { OnOk result (AreTold (ids_of (opened.now.places.input
-        ∷ opened.now.places.reports ∷ opened.now.places.output
-        ∷ founds_of opened.now.tees.items))) }
-{
-    let mut known = Vec::new(alloc);
-    let name = match &opened.output {
-        Some(sink) => sink.name.as_str(),
-        None => "standard output",
-    };
-    add(&mut known, "the input", opened.places.input)?;
-    add(&mut known, "standard error", opened.places.reports)?;
-    add(&mut known, name, opened.places.output)?;
-    for tee in opened.tees.iter() {
-        add(&mut known, tee.name.as_str(), tee.found)?;
-    }
-    refuse_untold(alloc, known.as_slice())?;
-    Ok(())
-}
-
-// Refuses files of which one can't be told from the others.
-fn refuse_untold(alloc: Global, known: &[FileId]) -> Result<(), Ended>
-    ensures early { IfErr result IsUnopened }
-    ensures told { OnOk result (AreTold known.now) }
-{
-    if known.len() <= 1 || !known.contains(&FileId::Untold) {
-        return Ok(());
-    }
-    let error = io::Error::other(UNTOLD);
-    Err(Ended::NoOutput(Unopened::new(alloc, "a standard stream", error)?))
-}
-
-// Adds a file to those that are known, unless it is one of them.
-fn add(known: &mut Vec<FileId>, name: &str, found: Found) -> Result<(), Ended>
-    ensures early { IfErr result IsUnopened }
-    ensures named { IfErr result (IsToldOf name.now) }
-    ensures added { OnOk result (known.new.items ≡ known.old.items ++ ids_of (found ∷ [])) }
-    ensures distinct { OnOk result (AreDistinct known.old.items → AreDistinct known.new.items) }
-{
-    let Some(id) = found.id else {
-        return Ok(());
-    };
-    if known.contains(&id) {
-        let error = io::Error::other(if id == FileId::Untold { UNTOLD } else { SHARED });
-        return Err(Ended::NoOutput(Unopened::new(*known.allocator(), name, error)?));
-    }
-    reported(known.push(id).map_err(|_| Ended::Memory))
-}
-
-// Refuses files that hold bytes, unless such files are taken.
-fn refuse_held_bytes<F>(alloc: Global, takes_held: bool, opened: &Opened<F>) -> Result<(), Ended>
-where
-    F: NamedFile,
-    ensures early { IfErr result IsUnopened }
-    ensures output { takes_held ≡ false → OnOk result (IfSome opened.now.output
-        (λ sink. sink.found.holds ≡ false)) }
-    ensures tees { takes_held ≡ false → OnOk result
-        (All (λ sink. sink.found.holds ≡ false) opened.now.tees.items) }
-{
-    if takes_held {
-        return Ok(());
-    }
-    if let Some(sink) = &opened.output {
-        refuse_held(alloc, sink)?;
-    }
-    for tee in opened.tees.iter() {
-        refuse_held(alloc, tee)?;
-    }
-    Ok(())
-}
-
-fn refuse_held<F: NamedFile>(alloc: Global, sink: &Sink<F>) -> Result<(), Ended>
-    ensures early { IfErr result IsUnopened }
-    ensures named { IfErr result (IsToldOf (string_bytes sink.now.name)) }
-    ensures none { OnOk result (sink.now.found.holds ≡ false) }
-{
-    if !sink.found.holds {
-        return Ok(());
-    }
-    let error = io::Error::other(HOLDS_BYTES);
-    Err(Ended::NoOutput(Unopened::new(alloc, sink.name.as_str(), error)?))
 }

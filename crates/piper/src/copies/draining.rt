@@ -32,7 +32,7 @@ impl Reader {
     /// Moves known bytes into a writer of std.
     ///
     /// Returns: how many bytes `dest` took. 0 says that the pipe is at its end, for good, or that
-    /// `dest` took none of the known bytes. `dest` is not flushed.
+    /// `dest` took none of the known bytes. `dest` is not flushed (tested, not proved).
     /// Pending: no byte is known, and the pipe was not seen closed; or the call yields. `dest`
     /// stays as it was.
     /// Errors: `Memory`, for the reason for which `poll` fails; no byte is taken. `Io`, with the

@@ -146,10 +146,10 @@ impl Writer {
     /// Lends at most `max` bytes of the known room, in one piece, to be written.
     ///
     /// Returns: none once this writer closed the pipe. Else it lends as much of the known room as
-    /// lies in one piece, up to `max` bytes. It may lend less than that, but then at least `4096 +
-    /// 2 × (p + l)` bytes: p bytes were ever published, and l are left of the slice lent before. An
-    /// empty slice doesn't say that the pipe is closed or full. What its bytes hold is not said. It
-    /// takes the place of the slice lent before.
+    /// lies in one piece, up to `max` bytes. It may lend less than that, but not less than `4096 +
+    /// 2 × (p + l)` bytes. Here p is how many bytes this writer ever published, and l is how many are
+    /// left of the slice lent before. An empty slice doesn't say that the pipe is closed or full.
+    /// What its bytes hold is not said. It takes the place of the slice lent before.
     pub fn write_buf(&mut self, max: usize) -> &mut [u8]
         ensures* writes { sem 𝓛 (lends_room self.entry result) }
         ensures length { MayLend self.old max (length result.now) }

@@ -22,16 +22,18 @@ pub enum Copied {
 
 /// Copies bytes from the reader to the writer, in order.
 ///
-/// It polls the reader first, so the close of the writer's pipe is seen only once a byte is known.
-/// The copy holds no bytes of its own: the next poll goes on from where this one ended.
+/// It polls the reader first, and the writer only if the reader lends a byte (not proved). As long
+/// as no byte comes, it doesn't see that the writer's pipe is closed. The copy holds no bytes of its
+/// own: the next poll goes on from where this one ended.
 ///
 /// Returns: `ToTheEnd` only at the reader's end; `UntilClosed` only if the writer saw its pipe
 /// closed. All bytes that were taken are published, unless the writer saw its pipe closed in this
-/// poll. Then the last of them may be lost, also if the poll returns `ToTheEnd`, fails or is
-/// pending. A poll after that takes none. The writer is neither flushed nor closed.
+/// poll. If it did, the last bytes that were taken may be lost, whatever the poll returns. Once the
+/// writer saw its pipe closed, a poll takes no byte. The copy neither flushes nor closes the writer
+/// (not proved).
 /// Pending: a call of the reader or of the writer is pending; or it copied 64 pieces, and asked for
-/// another poll. If the reader was told of the end, the copy is pending only since the writer is, or
-/// since it asked for another poll itself.
+/// another poll. If the reader was told of the end and the copy is pending, the writer wakes its
+/// task, or the copy has asked for another poll.
 /// Errors: that of the reader or of the writer.
 pub fn poll_copy<R: AsyncBufRead, W: AsyncWrite>(
     cx: &mut Context<'_>,

@@ -2,7 +2,7 @@ use Rattle.std.proofs.Common.{rules, ◌≤◌, ◌∷◌, ◌∙◌, ap, length
 use Rattle.std.proofs.lemmas.List.{take_all}
 use Rattle.piper_pump.specs.Opening.{AreTold, founds_of, ids_of}
 use Rattle.piper_pump.proofs.Tees.{known_more}
-use Rattle.piper_pump.proofs.opening.refuse_shared.Goals as goal
+use Rattle.piper_pump.proofs.refusing.refuse_shared.Goals as goal
 
 pub loop-tee-preserved : goal.loop-tee-preserved
 loop-tee-preserved g c =
