@@ -75,6 +75,10 @@ all_ends future = future.state
 abbrev pub WantsMore : {R : Type 0} → ReadExact R → Type 0
 WantsMore future = IsSomeAnd future.state (λ state. length state.1.items ≤ future.size)
 
+-- and some of those that are wanted are lacking
+abbrev pub LacksSome : {R : Type 0} → ReadExact R → Type 0
+LacksSome future = IsSomeAnd future.state (λ state. length state.1.items < future.size)
+
 -- what a future may give, of the reader that it holds
 module _ {R : Type 0} (taken known : R → List ℕ) (saw told : R → Bool) (woken : R → Type 0)
     (fails : R → Context → PipeError → Type 0) where

@@ -3,7 +3,7 @@ ghost use Rattle.std.specs.Prelude.{◌≤◌, length};
 ghost use Rattle.futures.specs.Poll.{IfReady, OnPending};
 ghost use Rattle.futures.specs.Task.{Covers, Keeps};
 ghost use Rattle.piper_futures.specs.Polling.{Needs, Waits};
-ghost use Rattle.piper_futures.specs.Reading.{GivesExact, StartsReadingUpTo, WantsMore, exact_ends};
+ghost use Rattle.piper_futures.specs.Reading.{GivesExact, LacksSome, StartsReadingUpTo, WantsMore, exact_ends};
 
 use crate::debug::gathering;
 use crate::failed::Failed;
@@ -57,7 +57,8 @@ impl<R: AsyncBufRead + Drop> Future for ReadExact<R> {
         ensures same { OnPending result ((x : _) → GivesExact R.taken R.known R.saw R.told R.woken R.fails self.new x
             → GivesExact R.taken R.known R.saw R.told R.woken R.fails self.old x) }
         ensures registered { OnPending result (Covers cx.new (Needs R.needs (exact_ends self.new))) }
-        ensures waits { OnPending result (Waits R.waits (exact_ends self.new) cx.new) }
+        ensures waits { OnPending result (Waits R.waits (exact_ends self.new) cx.new
+            × LacksSome self.new) }
         ensures kept { Keeps cx.old cx.new }
     {
         let Some((reader, bytes)) = &mut self.state else {

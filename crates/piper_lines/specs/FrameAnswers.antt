@@ -1,9 +1,10 @@
 -- What one poll for a frame hands out and keeps.
-use Rattle.std.specs.Prelude.{◌≡◌, ℕ, ◌<◌, ◌≤◌, Bool, List, [], length, Result, Ok, Err, ⊤}
+use Rattle.std.specs.Prelude.{◌≡◌, ℕ, ◌<◌, ◌≤◌, ◌⊎◌, Bool, List, [], length, Result, Ok, Err, ⊤}
 use Rattle.futures.specs.declared.task.Poll.{Poll}
 use Rattle.futures.specs.declared.task.Poll.TheVariants.{Ready, Pending}
 use Rattle.piper_lines.specs.AtEnd.{AtEnd}
 use Rattle.piper_lines.specs.Frame.{frame_bytes, EncodesLength, IsBetweenFrames, IsInsideFrame}
+use Rattle.piper_lines.specs.Header.{header_size, encoded_length}
 use Rattle.piper_lines.specs.declared.frame_reader.FrameAnswer.{FrameAnswer}
 use Rattle.piper_lines.specs.declared.header.FrameHeader.{FrameHeader}
 use Rattle.piper_lines.specs.declared.frame_reader.FrameAnswer.TheVariants.{Frame, TooLong, Truncated, End}
@@ -31,6 +32,12 @@ abbrev pub EndsAgain : {E : Type 0} → Poll (Result FrameAnswer E) → Type 0
 EndsAgain (Ready (Ok answer)) = answer ≡ End
 EndsAgain (Ready (Err e)) = ⊤
 EndsAgain Pending = ⊥
+
+-- unless a skipped frame was still to pass, the frame that is kept lacks bytes of its length or of its
+-- body
+abbrev pub LacksBytes : FrameHeader → ℕ → List ℕ → List ℕ → Type 0
+LacksBytes format skips header body =
+    skips ≡ 0 → (length header < header_size format) ⊎ (length body < encoded_length format header)
 
 -- by the answer: the frame that is handed out, and what is kept and has still to pass. What
 -- was taken of the body before stays where the frame is too long, and is at most more elsewhere

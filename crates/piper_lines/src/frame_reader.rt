@@ -53,7 +53,7 @@ pub struct Frames<R> {
 impl<R: AsyncBufRead> Frames<R> {
     ghost use Rattle.piper_lines.specs.FrameReader.{reader_of, format_of, kept_of, header_of, body_of, skips_of, header_room_of, body_room_of, lends_reader, IsSpent};
     ghost use Rattle.piper_lines.specs.Refusals.{IsReported, LacksFrameRoom};
-    ghost use Rattle.piper_lines.specs.FrameAnswers.{EndsAgain, HandsFrame, OnEnd, handed};
+    ghost use Rattle.piper_lines.specs.FrameAnswers.{EndsAgain, HandsFrame, LacksBytes, OnEnd, handed};
     ghost use Rattle.piper_lines.specs.Moves.{PassesMoves};
 
     /// The frames whose length is four bytes, the most significant first. Nothing is kept yet, and
@@ -158,7 +158,8 @@ impl<R: AsyncBufRead> Frames<R> {
         ensures pending { OnPending result (Covers cx.new (R.needs (reader_of self.new))
             × Pends R.known R.told R.waits (reader_of self.new)
             (WentOn (length (R.taken (reader_of self.old))) (length (R.taken (reader_of self.new))))
-            cx.new) }
+            cx.new × LacksBytes (format_of self.old) (skips_of self.old)
+            (header_of self.new) (body_of self.new)) }
         ensures kept { Keeps cx.old cx.new }
         ensures rest { (format_of self.new ≡ format_of self.old)
             × ReaderStays R.told R.woken (reader_of self.old) (reader_of self.new) }

@@ -19,7 +19,7 @@ const MOST_PIECES: u32 = 64;
 ///
 /// Requires: `gathered` has at most `size` bytes.
 /// Returns: `true` once there are `size` bytes; `false` at the reader's end, with fewer.
-/// Pending: the reader knows no byte, and its call is pending.
+/// Pending: there are fewer than `size` bytes, the reader knows none, and its call is pending.
 /// Errors: the reader's own; or `Memory`, before the bytes are taken that lack room.
 /// Cancel safety: what was taken is in `gathered`, and the next poll goes on from there.
 pub fn fill_up<R: AsyncBufRead>(
@@ -40,7 +40,8 @@ pub fn fill_up<R: AsyncBufRead>(
     ensures error { IfReadyErr result (λ e. IsReported e (R.fails reader.new cx.new)
         (LacksRoom size (vec_capacity gathered.old) gathered.new.items (R.known reader.new))) }
     ensures pending { OnPending result (Covers cx.new (R.needs reader.new)
-        × WaitsForBytes R.known R.told R.waits reader.new cx.new) }
+        × WaitsForBytes R.known R.told R.waits reader.new cx.new
+        × (length gathered.new.items < size)) }
     ensures rest { Keeps cx.old cx.new × ReaderStays R.told R.woken reader.old reader.new
         × (vec_capacity gathered.old ≤ vec_capacity gathered.new) }
 {
