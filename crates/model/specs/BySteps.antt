@@ -115,7 +115,7 @@ abbrev pub found_alone : Side → Pipe → ℕ
 found_alone Reader p = (reader_refreshed p).known
 found_alone Writer p = (writer_refreshed p).room
 
--- so many steps more of the side alone, and its call has returned
+-- after `steps` more steps of this side alone its call has returned
 pub record Returns (side : Side) (p : Pipe) (before : List Event) : Type 0 where
   pub steps : ℕ
   pub pipe : Pipe

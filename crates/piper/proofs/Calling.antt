@@ -22,10 +22,6 @@ calls_then a b c names first later = (
       (subst (λ z. AreCalled z later.0 b.taken c.taken) names later.1),
 )
 
--- nothing was taken
-pub calls_none : (a b : SlotsView) → b.taken ≡ a.taken → CallsTaken a b
-calls_none a b same = ([], same)
-
 -- a waker of the polled task stays one for the whole poll
 pub wakes_on : (waker : Waker) (old new : Context) → Keeps old new → Wakes waker old → Wakes waker new
 unfolding Holds

@@ -11,7 +11,6 @@ mod RoundsIn
 mod RoundsOut
 mod Wrote
 mod StaysNotified
-mod WaitsOn
 pub mod Calling
 mod Pending
 mod RoomOrNone

@@ -1,5 +1,5 @@
 -- Rounds of a drain, one after the other.
-use Rattle.std.proofs.Common.{◌≡◌, ℕ, ◌+◌, ◌*◌, ◌^◌, ◌<◌, ◌≤◌, ◌⊎◌, List, [], ◌++◌, take, drop, length, Ok, Err, refl, sym, ap, ◌∙◌, subst, append_assoc, append-nil, take-append-drop, length-append, length-take-le, arith}
+use Rattle.std.proofs.Common.{◌≡◌, ℕ, ◌+◌, ◌≤◌, ◌⊎◌, List, [], ◌++◌, take, drop, length, Ok, Err, sym, ap, ◌∙◌, subst, append_assoc, append-nil, take-append-drop, length-append, length-take-le, arith}
 use Rattle.futures.specs.declared.task.Poll.TheVariants.{Ready}
 use Rattle.piper_ring.specs.ReadView.{ReadView, in_one_piece}
 use Rattle.piper.specs.Drains.{DrainRounds}
@@ -14,12 +14,6 @@ pub record Drained {S : Type 0} (takes : Passes S) (a b : ReadView) (s t : S) (s
   pub passed : takes s moved t
   pub count : length moved ≡ sum
   pub rest : b ≡ record a { taken = b.taken; known = b.known }
-
--- the sum of the bytes fits, since the ring's capacity does
-pub sum_fits : {S : Type 0} (takes : Passes S) (a b whole : ReadView) (s t : S) (sum n most : ℕ) → Drained takes a b s t sum → whole ≡ a → length whole.known ≤ most → 2 * most < 2 ^ 64
-    → n ≤ in_one_piece b → sum + n < 2 ^ 64
-sum_fits takes a b whole s t sum n most d is_whole known small within =
-    omega (arith, ap (λ (r : ReadView). length r.known) is_whole, ap length d.known, length-append d.moved b.known, d.count)
 
 module _ {S : Type 0} (takes : Passes S) (in_order : PassesInOrder takes) (a b : ReadView) (s t u : S) (sum : ℕ) (d : Drained takes a b s t sum) where
   none_more : takes t [] u → takes s d.moved u
@@ -50,15 +44,3 @@ module _ {S : Type 0} (takes : Passes S) (in_order : PassesInOrder takes) (a b :
         count = length-append d.moved front ∙ omega (arith, d.count, length-take-le n b.known (omega (arith, within)));
         rest = ap (λ (v : ReadView). record v { taken = b.taken ++ front; known = drop n b.known }) d.rest;
       })
-
--- before the rounds
-pub drained_none : {S : Type 0} (takes : Passes S) (a : ReadView) (s : S) → takes s [] s → Drained takes a a s s 0
-drained_none takes a s none =
-    record {
-      moved = [];
-      taken = sym (append-nil a.taken);
-      known = refl;
-      passed = none;
-      count = refl;
-      rest = refl;
-    }

@@ -124,7 +124,7 @@ impl Reader {
         requires { amt ≤ front self.old }
         ensures ran { Ran (Point.Reader (ReadPoint.StoreHead amt AfterRead.Answer)) Answer.Done
             (log self.old) (log self.new) }
-        ensures taken { end_of self.new ≡ record (end_of self.old) {
+        ensures view { end_of self.new ≡ record (end_of self.old) {
           taken = taken self.old ++ take amt (known self.old);
           known = drop amt (known self.old);
         } }
@@ -277,7 +277,7 @@ impl Writer {
         ensures ran { Ran (Point.Writer (WritePoint.StoreTail n AfterWrite.Answer)) Answer.Done
             (log self.old) (log self.new) }
         ensures room { n ≤ room self.old }
-        ensures sent { end_of self.new ≡ record (end_of self.old) {
+        ensures view { end_of self.new ≡ record (end_of self.old) {
           sent = sent self.old ++ take n (lent self.old);
           lent = drop n (lent self.old);
           room = room self.old - n;

@@ -1,9 +1,9 @@
 //! The look of a call that waits: it registers if there is nothing to do, and looks once more.
-ghost use Rattle.std.specs.Prelude.{◌≡◌, OnErr, length, true, false};
+ghost use Rattle.std.specs.Prelude.{◌≡◌, OnErr, length, false};
 ghost use Rattle.futures.specs.Task.{Keeps};
-ghost use Rattle.piper_protocol.specs.Table.{goes_on, reader_found, reader_found_none, writer_found, writer_found_none};
-ghost use Rattle.piper_ring.specs.Log.{Comes, Opened, now};
-ghost use Rattle.piper_ring.specs.Looks.{IsEnded, ReaderIsUpToDate, ReaderLooked, WriterIsUpToDate, WriterLooked, looks_at};
+ghost use Rattle.piper_protocol.specs.Table.{goes_on, reader_found, writer_found};
+ghost use Rattle.piper_ring.specs.Log.{Comes, now};
+ghost use Rattle.piper_ring.specs.Looks.{IsEnded, ReaderIsUpToDate, ReaderLooked, WriterIsUpToDate, WriterLooked};
 ghost use Rattle.piper_ring.specs.ReadView.{KeepsAll};
 ghost use Rattle.piper_ring.specs.SlotsView.{OnlyWaits};
 ghost use Rattle.piper.specs.Looks.{IfPending, ReaderWaited, WriterWaited};

@@ -271,7 +271,7 @@ impl AsyncBufRead for OwnedReader {
     ghost consumes = { Consumes };
 
     fn poll_fill_buf(&mut self, cx: &mut Context<'_>) -> Poll<Result<&[u8], PipeError>> {
-        // Built anew: an answer that is moved whole takes along the room in which an error lies.
+        // Built anew: a move of the whole answer would also copy the bytes in which an error may lie.
         match self.reader.poll_fill_buf(cx) {
             Poll::Ready(Ok(lent)) => Poll::Ready(Ok(lent)),
             Poll::Ready(Err(_)) => Poll::Ready(Err(PipeError::Memory)),

@@ -3,7 +3,7 @@ use Rattle.std.specs.Prelude.{◌≡◌, ℕ, ◌<◌, ◌≤◌, ◌+◌, ◌-�
 use Rattle.piper_ring.specs.Loads.{FoundClosed, IsAway}
 use Rattle.piper_ring.specs.Looks.{WriterLooked as EndLooked}
 use Rattle.piper_ring.specs.WriteView.{HasLoadedHead, Lendable}
-use Rattle.piper_ring.specs.SlotsView.{SlotsView, IsWriterPending, IsWriterAtRest, OnlyWaits, WaitsAsBefore}
+use Rattle.piper_ring.specs.SlotsView.{SlotsView, EmptiesOwn, IsWriterPending, IsWriterAtRest, OnlyWaits, WaitsAsBefore}
 use Rattle.piper_c.specs.declared.halves.WriteHalf.{WriteHalf}
 use Rattle.piper_c.specs.declared.outcome.Outcome.{Outcome}
 use Rattle.piper_c.specs.declared.outcome.Outcome.TheVariants.{Pending, Ready, End, Again, Refused}
@@ -58,11 +58,11 @@ pub record TookReader (taken : Option Waiter) (old : SlotsView) (b : WriteHalf) 
   pub took : Took taken old.names old.taken b.side.slots.taken
   pub own : WaitsAsBefore old b.side.slots
 
--- the same in a close, which takes the writer's own words back, too, and leaves none
+-- the same in a close, which also takes the writer's own words back, and leaves none
 pub record TookReaderLast (taken : Option Waiter) (old : SlotsView) (b : WriteHalf) : Type 0 where
   pub rests : IsWriterAtRest b.side.end b.side.slots
   pub took : Took taken old.names old.taken b.side.slots.taken
-  pub own : b.side.slots.tickets ≡ old.tickets
+  pub own : EmptiesOwn old b.side.slots
 
 -- after the close by which a left, the reader's slot was checked: words come out exactly
 -- where a ticket of the reader's was taken
@@ -91,6 +91,7 @@ pub record WritesFrom (from : List ℕ) (n : ℕ) (a b : WriteHalf) : Type 0 whe
   pub most : b.side.end.saw ≡ false →
       Lendable (record a.side.end { room = b.side.end.room + n }) (length from) n
   pub loaded : a.side.end.room ≡ 0 → b.side.end.saw ≡ false → HasLoadedHead b.side.end
+  pub saw : a.side.end.saw ≡ true → b.side.end.saw ≡ true
   pub end : b.side.end ≡ record a.side.end
       { sent = b.side.end.sent; room = b.side.end.room; lent = []; saw = b.side.end.saw }
   pub places : b.side.cells ≡ a.side.cells
@@ -133,7 +134,7 @@ pub record WriterCloses (left : PiperLeft) (a b : WriteHalf) : Type 0 where
   pub rests : IsWriterAtRest b.side.end b.side.slots
   pub took : HandedOut left.wake a.side.slots.names a.side.slots.taken b.side.slots.taken
   pub mine : HandedBack left.mine a.side.slots.names a.side.slots.owns a.side.slots.tickets
-  pub own : b.side.slots.tickets ≡ a.side.slots.tickets
+  pub own : EmptiesOwn a.side.slots b.side.slots
   pub places : b.side.cells ≡ a.side.cells
 
 -- the first n bytes of room that C gave back were published, as it left them; after that the

@@ -51,7 +51,7 @@ pub fn read_as_task(
         Call::PollDrain(_, _, acts) => {
             let mut dest = Destination::new(acts.as_slice());
             let polled = task.enter(|cx| reader.poll_drain_with(cx, &mut dest));
-            Answer::Copy(copied_inner(polled))
+            Answer::Copy(copied_like(polled))
         }
         _ => return Err(Halt::OnlyMachine),
     })
@@ -108,7 +108,7 @@ pub fn write_as_task(
         }
         Call::PollFill(_, _, acts) => {
             let mut source = Source::new(acts.as_slice());
-            copied_inner(task.enter(|cx| writer.poll_fill_with(cx, &mut source)))
+            copied_like(task.enter(|cx| writer.poll_fill_with(cx, &mut source)))
         }
         _ => return Err(Halt::OnlyMachine),
     }))
@@ -143,7 +143,7 @@ pub fn copied(polled: Poll<Result<usize, PipeError>>) -> Polled<Result<usize, Fa
 }
 
 /// What a copy over a source or a destination returns.
-pub fn copied_inner(polled: Poll<Result<usize, CopyError<Failed>>>) -> Polled<Result<usize, Failed>> {
+pub fn copied_like(polled: Poll<Result<usize, CopyError<Failed>>>) -> Polled<Result<usize, Failed>> {
     match polled {
         Poll::Pending => Polled::Pending,
         Poll::Ready(Ok(count)) => Polled::Ready(Ok(count)),

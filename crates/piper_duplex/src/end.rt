@@ -28,7 +28,7 @@ pub struct End {
 /// Requires: each capacity is at least 1 and less than 2^63.
 /// Returns: two ends. What the first writes the second reads, through a pipe of `cap_a` bytes; what
 /// the second writes the first reads, through one of `cap_b`. Both pipes take `seed`.
-/// Errors: `OutOfMemory` if memory is refused; what was allocated is freed.
+/// Errors: `OutOfMemory` if memory is refused. Then nothing stays allocated (not proved).
 pub fn duplex(
     alloc: Global,
     cap_a: usize,
@@ -106,8 +106,8 @@ impl End {
         self.reader.meet(&mut other.writer);
     }
 
-    /// Closes both pipes, first the one that it writes into. What the other end has not read yet it
-    /// can still read.
+    /// Closes both pipes, first the one that it writes into (the order is tested, not proved). The
+    /// other end can still read what it has not read yet.
     ///
     /// Returns: evidence for `meet_finished` of the other end's handles, as `drop` of both handles
     /// gives it.

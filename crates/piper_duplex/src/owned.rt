@@ -21,7 +21,7 @@ use std::alloc::Global;
 use std::fmt::{self, Debug, Formatter};
 
 /// An end of a duplex stream that is dropped automatically: that closes both pipes, first the one
-/// that it writes into, and wakes who waits at the other end.
+/// that it writes into (the order is tested, not proved), and wakes who waits at the other end.
 ///
 /// It moves into threads, tasks and closures.
 ///
@@ -36,7 +36,7 @@ pub struct OwnedEnd {
 ///
 /// Requires: each capacity is at least 1 and less than 2^63.
 /// Returns: two ends, as of `duplex` with the seed `DEFAULT_SEED`.
-/// Errors: `OutOfMemory` if memory is refused; what was allocated is freed.
+/// Errors: `OutOfMemory` if memory is refused. Then nothing stays allocated (not proved).
 pub fn owned_duplex(
     alloc: Global,
     cap_a: usize,

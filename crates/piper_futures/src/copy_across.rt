@@ -22,8 +22,8 @@ pub struct Copying<R, W> {
 /// As `poll_copy`, it sees the close only once a byte is known.
 ///
 /// Returns: a future of the reader, the writer, and why it ended.
-/// Pending: a call of the reader or of the writer is pending; or it copied 64 pieces, and
-/// asked for another poll.
+/// Pending: a call of the reader or of the writer is pending; or this poll
+/// copied at least 64 bytes, and asked for another.
 /// Errors: that of the reader or of the writer. `left` has both.
 /// Cancel safety: as long as the writer has not seen its pipe closed, all that was taken is
 /// published, so a dropped future loses none.

@@ -30,11 +30,11 @@ pub struct Draining<R, D> {
 
 /// Moves all bytes of the reader into a writer of std, up to the reader's end.
 ///
-/// Each write blocks the thread. `dest` is not flushed.
+/// Each write blocks the thread. `dest` is not flushed (tested, not proved).
 ///
 /// Returns: a future of the reader and `dest`.
-/// Pending: the reader knows no byte, and its call is pending; or it moved 64 pieces, and
-/// asked for another poll.
+/// Pending: the reader knows no byte, and its call is pending; or this poll
+/// moved at least 64 bytes, and asked for another.
 /// Errors: the reader's own; that of `dest`; or one of the kind `WriteZero`, if `dest` takes none
 /// of some bytes. `left` has the reader and `dest`.
 /// Cancel safety: a byte is taken only once it was written, so a dropped future loses none.
@@ -83,9 +83,9 @@ impl<R: AsyncBufRead + Drop, D: Write + Drop> Future for Draining<R, D> {
 
 /// Moves the bytes of the reader into a writer of std, up to the reader's end.
 ///
-/// Returns: `Ok(())` at the reader's end. `dest` is not flushed.
-/// Pending: the reader knows no byte, and its call is pending; or it moved 64 pieces, and
-/// asked for another poll.
+/// Returns: `Ok(())` at the reader's end. `dest` is not flushed (tested, not proved).
+/// Pending: the reader knows no byte, and its call is pending; or this poll
+/// moved at least 64 bytes, and asked for another.
 /// Errors: the reader's own; that of `dest`; or one of the kind `WriteZero`, if `dest` takes none
 /// of some bytes.
 /// Cancel safety: a byte is taken only once it was written, and the next poll goes on from there.

@@ -30,7 +30,7 @@ pub trait AsyncFill: AsyncWrite {
     /// poll in which it sees the close may have lost bytes that `source` gave, with any answer.
     ///
     /// Returns: `ToTheEnd` or `UntilClosed`; if both hold it may be either.
-    /// Pending: the writer's call is pending; or bytes came, and it asked for another poll. A pipe
+    /// Pending: the writer's call is pending; or bytes came, and this poll asked for another. A pipe
     /// that was seen closed is not waited for.
     /// Errors: the writer's own, which is `Memory` for a pipe; or the error of `source` as it came.
     /// Cancel safety: the next poll goes on from where this one ended.
@@ -143,7 +143,7 @@ pub struct Filling<W, S> {
 /// Each read blocks the thread, so it belongs on a thread of its own.
 ///
 /// Returns: a future of the writer, `source`, and why it ended.
-/// Pending: the writer's call is pending; or bytes came, and it asked for another poll.
+/// Pending: the writer's call is pending; or bytes came, and this poll asked for another.
 /// Errors: the writer's own, which is `Memory` for a pipe; or the error of `source`. `left` has the
 /// writer and `source`.
 /// Cancel safety: as long as the writer has not seen its pipe closed, all that was read is

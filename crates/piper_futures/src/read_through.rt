@@ -34,8 +34,8 @@ pub struct ReadUntil<R> {
 /// Nothing bounds how many bytes come: the lines of `piper_lines` have a limit.
 ///
 /// Returns: a future of the reader and `bytes`.
-/// Pending: the reader knows no byte, and its call is pending; or it took 64 pieces, and
-/// asked for another poll.
+/// Pending: the reader knows no byte, and its call is pending; or this poll
+/// took at least 64 bytes, and asked for another.
 /// Errors: the reader's own; or `Memory`, before the bytes are taken that lack room. `left` has the
 /// reader, and `bytes` with all that was taken.
 /// Cancel safety: a dropped future drops `bytes`, with all that was taken.
@@ -87,8 +87,8 @@ impl<R: AsyncBufRead + Drop> Future for ReadUntil<R> {
 /// end.
 ///
 /// Returns: `true` after a `byte`, `false` at the reader's end.
-/// Pending: the reader knows no byte, and its call is pending; or it took 64 pieces, and
-/// asked for another poll.
+/// Pending: the reader knows no byte, and its call is pending; or this poll
+/// took at least 64 bytes, and asked for another.
 /// Errors: the reader's own; or `Memory`, before the bytes are taken that lack room.
 /// Cancel safety: what was taken is in `bytes`, and the next poll goes on from there.
 pub fn poll_read_until<R: AsyncBufRead>(

@@ -68,7 +68,8 @@ impl<D: Write> Promise<Result<(OwnedReader, D), Failed<Option<Drained<D>>>>> for
 /// Starts a thread that moves all that `source` gives into the pipe, as `fill_from` does, and then
 /// drops the writer, which closes the pipe.
 ///
-/// The pipe also ends if the fill fails: only `join` tells whether all of the source was moved.
+/// The pipe also ends if the fill fails (not proved if the thread's own wait does): only `join` tells
+/// whether all of the source was moved.
 ///
 /// Returns: a handle whose `join` gives the source with the writer's last mark, and why it ended;
 /// or the failure of `fill_from`; or, with `None` left, the error of the thread's own wait.

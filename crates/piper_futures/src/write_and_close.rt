@@ -25,7 +25,7 @@ pub struct WriteAllAndClose<'a, W> {
 ///
 /// Once it is ready it has dropped the writer, also if a write or the close failed: the other side
 /// of an owned writer then gets its end, while a `join` still holds what this future gave. If the
-/// writer is a `&mut` and a write failed, its pipe may still be open.
+/// writer is a `&mut` and the future fails, its pipe may still be open.
 ///
 /// It asks for no memory of its own. If the writer has not seen its pipe closed before it closes
 /// it, all counted bytes are published; in the poll that sees it closed some may be lost.

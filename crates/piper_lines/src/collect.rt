@@ -15,7 +15,7 @@ const MOST_PIECES: u32 = 64;
 pub enum Collected {
     /// The end of the reader, between frames.
     ToTheEnd,
-    /// The end of the reader, inside a frame.
+    /// The end of the reader, with bytes of a frame kept, or of a skipped one still to pass.
     Truncated,
     /// The body of the next frame has this many bytes, which are more than the limit.
     UntilTooLong(usize),

@@ -24,7 +24,7 @@ pub enum FrameAnswer {
     /// The body of the next frame has this many bytes, which are more than the limit. This poll took
     /// none of them.
     TooLong(usize),
-    /// The end of the reader, inside a frame.
+    /// The end of the reader, with bytes of a frame kept, or of a skipped one still to pass.
     Truncated,
     /// The end of the reader, between frames. Each later poll answers `End` or fails.
     End,
@@ -131,8 +131,8 @@ impl<R: AsyncBufRead> Frames<R> {
     /// After `TooLong` the caller can `skip` the frame, ask again with another limit, or stop.
     ///
     /// Returns: whether `frame` is a whole body, or why there is none; then it is empty.
-    /// Pending: the reader knows no byte, and its call is pending; or it passed over 64 pieces of a
-    /// skipped frame, and asked for another poll. `frame` is empty.
+    /// Pending: the reader knows no byte, and its call is pending; or this poll took at least 64
+    /// bytes, and asked for another. `frame` is empty.
     /// Errors: the reader's own; or `Memory`, before the bytes are taken that lack room. `frame` is
     /// empty.
     /// Cancel safety: the next poll goes on from where this one ended. What was taken of an

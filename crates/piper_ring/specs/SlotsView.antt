@@ -72,7 +72,9 @@ WaitsAsBefore a b = b ≡ record a { taken = b.taken; stored = b.stored }
 
 -- the side has not checked the other's slot since a: it waits as it did, or otherwise
 abbrev pub OnlyWaits : SlotsView → SlotsView → Type 0
-OnlyWaits a b = b ≡ slots_of a.names b.owns b.maybe_registered b.tickets b.heard a.taken a.stored
+OnlyWaits a b =
+    b ≡ record a
+    { owns = b.owns; maybe_registered = b.maybe_registered; tickets = b.tickets; heard = b.heard }
 
 -- the side emptied its own slot, and may have checked the other's
 abbrev pub EmptiesOwn : SlotsView → SlotsView → Type 0

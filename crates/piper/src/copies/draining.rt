@@ -1,15 +1,12 @@
 //! Copies out of the pipe.
-ghost use Rattle.std.specs.Prelude.{◌≡◌, ◌<◌, ◌≤◌, ◌⊎◌, [], IfOk, IfErr, None, Ok, true, false};
-ghost use Rattle.futures.specs.Task.{Keeps};
-ghost use Rattle.futures.specs.Poll.{OnPending};
-ghost use Rattle.piper_ring.specs.ReadView.{KnowsEnd, in_one_piece};
+ghost use Rattle.std.specs.Prelude.{◌≡◌, ◌<◌, ◌≤◌, ◌⊎◌, [], IfOk, IfErr, Ok, true, false};
+ghost use Rattle.piper_ring.specs.ReadView.{in_one_piece};
 ghost use Rattle.piper_protocol.specs.Table.{ends, goes_on};
 ghost use Rattle.piper_ring.specs.Log.{Comes, Ran, made, next, now};
 ghost use Rattle.piper_ring.specs.SlotsView.{KeepsSlots, WaitsAsBefore};
 ghost use Rattle.piper.specs.Copies.{ReaderCopied};
-ghost use Rattle.piper.specs.CopyAnswers.{OnMemory, CountsFailure, IsAtOnce, of_std, of_bytes};
-ghost use Rattle.piper.specs.Drains.{DrainRounds, EndIsTrue, EndIsUnseen, found_len};
-ghost use Rattle.piper.specs.Looks.{IsEnded};
+ghost use Rattle.piper.specs.CopyAnswers.{CountsFailure, IsAtOnce, of_std, of_bytes};
+ghost use Rattle.piper.specs.Drains.{DrainRounds};
 ghost use Rattle.piper.specs.Like.{Counts, passed};
 ghost use Rattle.piper_ring.specs.Looks.{looks_at};
 ghost use Rattle.piper.specs.Runs.{copy_answer};
@@ -27,7 +24,7 @@ use piper_ring::{Look, OutOfMemory};
 impl Reader {
     ghost use Rattle.piper.specs.Handles.{SameReader};
     ghost use Rattle.piper.specs.OfReader.{end_of, log};
-    ghost use Rattle.piper.specs.ReaderCalls.{Drained, DrainsAtOnce, DrainsEnd, DrainsLike, DrainsSlice, DrainsStd, DrainsWaiting, DrainPends, DrainDraws, KeepsEnd, SameReaderButMoved, WakesWriter};
+    ghost use Rattle.piper.specs.ReaderCalls.{Drained, DrainsAtOnce, DrainsEnd, DrainsLike, DrainsSlice, DrainsStd, DrainsWaiting, KeepsEnd, SameReaderButMoved, WakesWriter};
 
     /// Moves known bytes into a writer of std.
     ///

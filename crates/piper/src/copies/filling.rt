@@ -1,6 +1,5 @@
 //! Copies into the pipe.
-ghost use Rattle.std.specs.Prelude.{◌≡◌, ◌<◌, ◌≤◌, ◌⊎◌, length, IfOk, IfErr, None, Ok, true, false};
-ghost use Rattle.futures.specs.Task.{Keeps};
+ghost use Rattle.std.specs.Prelude.{◌≡◌, ◌<◌, ◌≤◌, ◌⊎◌, length, IfOk, IfErr, Ok, true, false};
 ghost use Rattle.futures.specs.Poll.{OnPending};
 ghost use Rattle.piper_protocol.specs.Table.{ends, goes_on};
 ghost use Rattle.piper_ring.specs.Log.{Comes, Ran, made, next, now};
@@ -25,7 +24,7 @@ use piper_ring::{Look, OutOfMemory};
 
 impl Writer {
     ghost use Rattle.piper.specs.Handles.{SameWriter};
-    ghost use Rattle.piper.specs.WriterCalls.{FillDraws, Filled, FillPends, FillsAtOnce, FillsEnd, FillsLike, FillsSlice, FillsStd, FillsWaiting, SameWriterButMoved, WakesReader};
+    ghost use Rattle.piper.specs.WriterCalls.{Filled, FillsAtOnce, FillsEnd, FillsLike, FillsSlice, FillsStd, FillsWaiting, SameWriterButMoved, WakesReader};
     ghost use Rattle.piper.specs.OfWriter.{end_of, log, saw};
 
     /// Publishes bytes that a reader of std gives.

@@ -104,7 +104,7 @@ impl Writer {
     /// Requires: the mark is of the same pipe.
     pub fn observe(&mut self, mark: &ReadMark)
         requires { mark.now.names ≡ (ring self.old).names }
-        ensures told { end_of self.new
+        ensures view { end_of self.new
             ≡ record (end_of self.old) { told = max (told self.old) mark.now.count } }
         ensures rest { SameWriterButTold self.old self.new }
     {
@@ -118,7 +118,7 @@ impl Writer {
     /// Requires: the mark is of the same pipe.
     pub fn observe_last(&mut self, mark: &LastReadMark)
         requires { mark.now.consumed.names ≡ (ring self.old).names }
-        ensures told { end_of self.new ≡ record (end_of self.old)
+        ensures view { end_of self.new ≡ record (end_of self.old)
             { told = max (told self.old) mark.now.consumed.count; saw = true } }
         ensures rest { SameWriterButTold self.old self.new }
     {
@@ -134,7 +134,7 @@ impl Writer {
     pub fn meet_finished(&mut self, left: &mut FinishedReader)
         requires { left.old.told.consumed.names ≡ (ring self.old).names }
         ensures woken { WriterWasWoken self.old left.old }
-        ensures told { end_of self.new ≡ record (end_of self.old)
+        ensures view { end_of self.new ≡ record (end_of self.old)
             { told = max (told self.old) left.old.told.consumed.count; saw = true } }
         ensures rest { SameWriterButTold self.old self.new }
         ensures kept { left.new ≡ left.old }

@@ -1,5 +1,5 @@
 //! What both handles do at the slots: in their own a task waits, in the other's they wake one.
-ghost use Rattle.std.specs.Prelude.{◌≡◌, ◌⊎◌, IsTrue, IsFalse, IfNone, IfSome, None, true, false};
+ghost use Rattle.std.specs.Prelude.{◌≡◌, ◌⊎◌, IsTrue, IsFalse, IfNone, IfSome, true, false};
 ghost use Rattle.futures.specs.Task.{Covers, Keeps, Wakes};
 ghost use Rattle.piper_ring.specs.Log.{Comes, WakesNext, made, next, now, other, own, then};
 ghost use Rattle.piper_ring.specs.SlotsView.{OnlyWaits, WaitsAsBefore};

@@ -31,9 +31,9 @@ pub enum Copied {
 /// poll. If it did, the last bytes that were taken may be lost, whatever the poll returns. Once the
 /// writer saw its pipe closed, a poll takes no byte. The copy neither flushes nor closes the writer
 /// (not proved).
-/// Pending: a call of the reader or of the writer is pending; or it copied 64 pieces, and asked for
-/// another poll. If the reader was told of the end and the copy is pending, the writer wakes its
-/// task, or the copy has asked for another poll.
+/// Pending: a call of the reader or of the writer is pending; or this poll copied at least 64 bytes,
+/// and asked for another. If the reader was told of the end and the copy is pending, the writer
+/// wakes its task, or the copy has asked for another poll.
 /// Errors: that of the reader or of the writer.
 pub fn poll_copy<R: AsyncBufRead, W: AsyncWrite>(
     cx: &mut Context<'_>,

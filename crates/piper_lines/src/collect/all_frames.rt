@@ -23,10 +23,11 @@ use piper::io::AsyncBufRead;
 /// can skip the frame and poll again, or ask again with another limit.
 ///
 /// Returns: why it ended.
-/// Pending: the reader knows no byte, and its call is pending; or it appended 64 frames, or passed
-/// over 64 pieces of a skipped frame, and asked for another poll.
-/// Errors: the reader's own; or `Memory`, before the bytes are taken that lack room. `out` has each
-/// body that was taken whole.
+/// Pending: the reader knows no byte, and its call is pending; or this poll appended 64 frames, or
+/// took at least 64 bytes, and asked for another.
+/// Errors: the reader's own; or `Memory`, if `out` lacks a place for one more body, or a vector lacks
+/// room for the bytes that are known: none of these is taken. `out` and what is kept have all that
+/// was taken, except skipped bytes.
 /// Cancel safety: the next poll goes on from where this one ended.
 pub fn poll_frames<R: AsyncBufRead>(
     frames: &mut Frames<R>,

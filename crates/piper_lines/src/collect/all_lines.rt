@@ -25,10 +25,11 @@ use piper::io::AsyncBufRead;
 ///
 /// Requires: `limit`, which counts the byte that ends a line, is at least 1.
 /// Returns: what follows the last line.
-/// Pending: the reader knows no byte, and its call is pending; or it appended 64 lines or pieces,
-/// and asked for another poll.
-/// Errors: the reader's own; or `Memory`, before the bytes are taken that lack room. `out` has each
-/// line that was taken whole.
+/// Pending: the reader knows no byte, and its call is pending; or this poll appended 64 lines or
+/// pieces, and asked for another.
+/// Errors: the reader's own; or `Memory`, if `out` lacks a place for one more line, or a line lacks
+/// room for the bytes that are known: none of these is taken. `out` has each line that was taken
+/// whole.
 /// Cancel safety: the next poll goes on from where this one ended.
 pub fn poll_lines<R: AsyncBufRead>(
     lines: &mut Lines<R>,

@@ -161,7 +161,7 @@ impl ReadEnd {
     }
 
     /// From now on it has heard of what the mark reports.
-    pub(crate) fn hear(&mut self, mark: &WriteMark)
+    pub(crate) fn observe_stored(&mut self, mark: &WriteMark)
         requires { mark.now.names ≡ self.old.ring.names }
         ensures heard { length mark.now.bytes ≤ length self.new.all }
         ensures all { KeepsAll self.old self.new }

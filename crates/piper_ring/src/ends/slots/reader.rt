@@ -80,7 +80,7 @@ impl<T> Side<ReadEnd, T> {
         ensures kept { KnowsMore self.old.end self.new.end }
         ensures rest { (self.new.slots ≡ self.old.slots) × (self.new.cells ≡ self.old.cells) }
     {
-        self.end.hear(&self.slots.parts.heard);
+        self.end.observe_stored(&self.slots.parts.heard);
         self.end.load_tail();
         let none = self.end.knows_none();
         self.log.index_loaded(none);
