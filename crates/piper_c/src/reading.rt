@@ -1,6 +1,6 @@
 //! The calls of the side that reads. Each is a run of the call table, or some of them.
-ghost use Rattle.std.specs.Prelude.{◌≡◌, [], ◌<◌, ◌≤◌, ◌++◌, length, take, drop, None};
-ghost use Rattle.piper_protocol.specs.Table.{ends, goes_on};
+ghost use Rattle.std.specs.Prelude.{◌≡◌, ◌<◌, ◌≤◌, ◌++◌, length, take, drop, None};
+ghost use Rattle.piper_protocol.specs.Table.{ends};
 ghost use Rattle.piper_ring.specs.Log.{Opened, Ran, now};
 ghost use Rattle.piper_ring.specs.Looks.{looks_at};
 ghost use Rattle.piper_ring.specs.ReadView.{in_one_piece};

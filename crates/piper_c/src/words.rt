@@ -1,5 +1,5 @@
 //! The two words that a side leaves while it waits.
-ghost use Rattle.std.specs.Prelude.{◌≡◌, ◌<◌, ◌↔◌, IsSome, true, false};
+ghost use Rattle.std.specs.Prelude.{◌≡◌, ◌<◌, ◌↔◌, IsSome};
 
 use crate::outcome::Outcome;
 use piper_ring::LeftWakers;

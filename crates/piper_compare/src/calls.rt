@@ -143,7 +143,9 @@ pub fn copied(polled: Poll<Result<usize, PipeError>>) -> Polled<Result<usize, Fa
 }
 
 /// What a copy over a source or a destination returns.
-pub fn copied_like(polled: Poll<Result<usize, CopyError<Failed>>>) -> Polled<Result<usize, Failed>> {
+pub fn copied_like(
+    polled: Poll<Result<usize, CopyError<Failed>>>,
+) -> Polled<Result<usize, Failed>> {
     match polled {
         Poll::Pending => Polled::Pending,
         Poll::Ready(Ok(count)) => Polled::Ready(Ok(count)),

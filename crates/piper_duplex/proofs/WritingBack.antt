@@ -136,12 +136,6 @@ pub moves_some : (t0 t1 k0 line k1 : List ℕ) → Moves t0 t1 k0 line k1 → k0
 moves_some t0 t1 k0 line k1 moves none some =
     omega (arith, ap length moves.1, length-append t0 moves.0, ap length moves.2, length-append k0 moves.0, length-append line k1, ap length none)
 
--- where none is handed out and none was kept, none was taken
-pub moves_nothing : (t0 t1 k0 line k1 : List ℕ) → Moves t0 t1 k0 line k1 → k0 ≡ [] → line ≡ [] → k1 ≡ [] → t1 ≡ t0
-moves_nothing t0 t1 k0 line k1 moves none no_line left =
-    let more : moves.0 ≡ [] = ap (λ ws. ws ++ moves.0) (sym none) ∙ moves.2 ∙ ap (λ ws. ws ++ k1) no_line ∙ left in
-    moves.1 ∙ ap (λ ws. t0 ++ ws) more ∙ append-nil t0
-
 -- what a poll for a line handed out, where it didn't report the end: a piece, or the rest
 pub handed : (E : Type 0) (a : LineAnswer) (end limit : ℕ) (before line kept known : List ℕ) (saw : Bool) (Spent : Type 0) → 0 < limit → ¬ (a ≡ End)
     → Hands {E = E} (Ready (Ok a)) end limit before line kept known saw → OnEnd {E = E} (Ready (Ok a)) Spent

@@ -142,7 +142,7 @@ fn told(rt: &impl Abort, polled: Poll<Result<bool, OutOfMemory>>) -> Polled {
 }
 
 /// What a copy over a source or a destination of the test's own returns.
-fn copied_inner(polled: Poll<Result<usize, CopyError<ErrorKind>>>) -> Moved<usize> {
+fn copied_like(polled: Poll<Result<usize, CopyError<ErrorKind>>>) -> Moved<usize> {
     match polled {
         Poll::Pending => Moved::Pending,
         Poll::Ready(Ok(count)) => Moved::Done(count),
@@ -277,12 +277,12 @@ impl Pair {
 
     fn fill_with(&mut self, rt: &impl Abort, source: &mut End) -> Moved<usize> {
         let writer = writer_of(rt, &mut self.writer);
-        copied_inner(self.writing.enter(|cx| writer.poll_fill_with(cx, source)))
+        copied_like(self.writing.enter(|cx| writer.poll_fill_with(cx, source)))
     }
 
     fn drain_with(&mut self, rt: &impl Abort, dest: &mut End) -> Moved<usize> {
         let reader = reader_of(rt, &mut self.reader);
-        copied_inner(self.reading.enter(|cx| reader.poll_drain_with(cx, dest)))
+        copied_like(self.reading.enter(|cx| reader.poll_drain_with(cx, dest)))
     }
 
     /// Fills from a slice: all that fits goes in, and this is left.

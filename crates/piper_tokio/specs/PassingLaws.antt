@@ -1,6 +1,6 @@
 -- What passes in two steps passes in order, and where nothing passes a handle is as it was.
-use Rattle.std.specs.Prelude.{◌≡◌, ◌≤◌, ◌++◌, Bool, true, false, List, [], ℕ, refl}
-use Rattle.std.proofs.Common.{sym, ap, ap₂, ◌∙◌, append_assoc, append-nil, le_refl, le_trans, not-suc-le-zero, true≢false}
+use Rattle.std.specs.Prelude.{◌≡◌, ◌++◌, Bool, true, false, List, [], ℕ, refl}
+use Rattle.std.proofs.Common.{sym, ap, ap₂, ◌∙◌, append_assoc, append-nil, true≢false}
 use Rattle.piper.specs.Copies.{ReaderCopied}
 use Rattle.piper.specs.ReadView.{ReadView}
 use Rattle.piper.specs.WriteView.{WriteView}

@@ -1,12 +1,12 @@
 -- What a side does in one step after another.
-use Rattle.std.proofs.Common.{◌≡◌, ◌<◌, ◌+◌, ℕ, Bool, true, false, true≢false, List, [], ◌++◌, Option, refl, sym, ap, ◌∙◌, append_assoc, append-nil, arith, subst, length, length-append}
+use Rattle.std.proofs.Common.{◌≡◌, ◌<◌, ◌+◌, ℕ, Bool, true, false, List, [], ◌++◌, Option, refl, sym, ap, ◌∙◌, append_assoc, append-nil, arith, subst, length, length-append}
 use Rattle.std.proofs.KnownBytes.{Consumes-nil, Consumes-trans, Appends-nil, Appends-trans, Appends-kept}
 use Rattle.std.specs.Io.KnownBytes.{Keeps}
 use Rattle.piper.specs.ReadView.{ReadView}
 use Rattle.piper.specs.WriteView.{WriteView}
 use Rattle.piper_ring.specs.Looks.{ReaderLooked, WriterLooked}
 use Rattle.piper_transfer.specs.Taken.{StaysTaken}
-use Rattle.piper_transfer.specs.Transfer.{Fed, Gets, IsOpen, Poured, PouredAll}
+use Rattle.piper_transfer.specs.Transfer.{Fed, Gets, Poured, PouredAll}
 
 pub fed_none : (i : Option (List ℕ)) (a : WriteView) → Fed i i a a
 fed_none i a = record { given = []; consumed = Consumes-nil i; sent = sym (append-nil a.sent); ring = refl }
@@ -110,10 +110,6 @@ poured_met C T d e a b c met p = poured_more C T d d e a b c (poured_same C T d 
 not_seen : (saw : Bool) → ¬ (saw ≡ true) → saw ≡ false
 not_seen true seen = absurd (seen refl)
 not_seen false seen = refl
-
--- a writer that did not close the pipe has not seen it closed, as both handles say that have met
-pub open_again : (w : WriteView) → w.shut ≡ false → (w.saw ≡ true → w.shut ≡ true) → IsOpen w
-open_again w shut closed = (shut, not_seen w.saw (λ seen. true≢false (sym (closed seen) ∙ shut)))
 
 pub poured_round : {D : Type 0} (C : D → Option (List ℕ)) (T : D → List (List ℕ) → List ℕ → Type 0) (d e f : D) (a b c r : ReadView)
     → PouredAll C T d e a b → ReaderLooked b c → PouredAll C T e f c r → PouredAll C T d f a r

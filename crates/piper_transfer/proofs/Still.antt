@@ -1,14 +1,10 @@
 -- Turns that are pending and still, and ends that close the pipe.
-use Rattle.std.proofs.Common.{◌≡◌, Err, inl, inr, true}
+use Rattle.std.proofs.Common.{inl, inr}
 use Rattle.futures.specs.declared.task.context.Context.{Context}
 use Rattle.piper.specs.Waits.{ReaderPends, WriterPends}
-use Rattle.piper.specs.WriteView.{WriteView}
 use Rattle.piper.specs.declared.handles.Reader.{Reader}
 use Rattle.piper.specs.declared.handles.Writer.{Writer}
-use Rattle.piper_transfer.specs.Transfer.{Closes}
 use Rattle.piper_transfer.specs.Turns.{IsStill}
-use Rattle.piper_transfer.specs.declared.error.TransferError.{TransferError}
-use Rattle.piper_transfer.specs.declared.error.TransferError.TheVariants.{Turns}
 
 pub reader_still : (a b : Reader) (cx : Context) → ReaderPends a b cx → IsStill cx
 reader_still a b cx pends = elim pends.registered [
@@ -21,8 +17,3 @@ writer_still a b cx pends = elim pends.registered [
   | inl waits ↦ inl (a.side.slots.owns, waits.calm)
   | inr away ↦ inr (away.0, inr (a, b, away.1))
 ]
-
--- a side that fails closes the pipe, however it fails
-pub closes_failed : (e : TransferError) (w : WriteView) → w.shut ≡ true → Closes (Err e) w
-closes_failed (Turns x) w shut = inl shut
-closes_failed e w shut = shut

@@ -1,6 +1,6 @@
 //! The ends once they closed the ring and are about to leave. The second one to leave frees the
 //! memory.
-ghost use Rattle.std.specs.Prelude.{◌≡◌, ◌+◌, ◌*◌, ◌<◌, ◌^◌, length, true, false, IfSome};
+ghost use Rattle.std.specs.Prelude.{◌≡◌, ◌*◌, ◌<◌, ◌^◌, length, true, false, IfSome};
 ghost use Rattle.piper_ring.specs.Cells.{AreCellsOf, CameOut, GetsLeft};
 ghost use Rattle.piper_ring.specs.Loads.{FoundGone};
 ghost use Rattle.piper_ring.specs.Shared.{flag};

@@ -1,5 +1,5 @@
 //! A ring is opened.
-ghost use Rattle.std.specs.Prelude.{◌≡◌, ℕ, ◌*◌, ◌<◌, ◌^◌, [], true, false, IfErr, IfOk};
+ghost use Rattle.std.specs.Prelude.{◌≡◌, ◌*◌, ◌<◌, ◌^◌, true, false, IfErr, IfOk};
 ghost use Rattle.piper_protocol.specs.Reported.{HasFailed};
 ghost use Rattle.piper_cells.specs.Space.{Fits};
 ghost use Rattle.piper_ring.specs.Block.{size_of_block, space_of, space_words};

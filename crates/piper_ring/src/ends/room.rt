@@ -1,5 +1,5 @@
 //! The places that a writer may write to.
-ghost use Rattle.std.specs.Prelude.{◌≡◌, ℕ, ◌+◌, ◌-◌, ◌<◌, ◌≤◌, List, [], length, max};
+ghost use Rattle.std.specs.Prelude.{◌≡◌, ◌+◌, ◌-◌, ◌<◌, ◌≤◌, [], length, max};
 ghost use Rattle.piper_ring.specs.RoomOrder.{IsRoom, SameRoom, end_of};
 ghost use Rattle.piper_ring.specs.Stretches.{BeginsAt, IsBlankFrom};
 

@@ -1,7 +1,7 @@
 //! What each end has of the two slots, at which a side waits for the other. A side that waits puts
 //! its waker, of any type, into its place, and whoever takes its ticket gets it out. Both share the
 //! place, and the right to it is one side's at each moment, or the slot's.
-ghost use Rattle.std.specs.Prelude.{◌≡◌, ℕ, Bool, true, not, IsFalse};
+ghost use Rattle.std.specs.Prelude.{◌≡◌, ℕ, Bool, true, not};
 ghost use Rattle.piper_ring.specs.Shared.{Names, waker_place};
 ghost use Rattle.piper_ring.specs.Slot.{PublishesWaker, Stored};
 

@@ -1,6 +1,6 @@
 //! Evidence of what the other end did. It takes no space, threads may hand it on, and it stays true
 //! for good.
-ghost use Rattle.std.specs.Prelude.{◌≡◌, ℕ, ◌≤◌, Bool, true, List, length, max};
+ghost use Rattle.std.specs.Prelude.{◌≡◌, ℕ, Bool, true, List, length, max};
 ghost use denote.Sharing.{said};
 ghost use Rattle.piper_ring.specs.Shared.{Names, names_code, announced, took, raised, flag};
 ghost use Rattle.piper_ring.specs.Streams.{Stream, Reaches};

@@ -1,5 +1,5 @@
 //! What is left of a ring once an end has left it. The last end frees it (ends/leaving.rt).
-ghost use Rattle.std.specs.Prelude.{◌≡◌, ◌<◌, ◌^◌, Bool, true, false};
+ghost use Rattle.std.specs.Prelude.{◌≡◌, Bool, true, false};
 ghost use denote.RawPtr.{Ptr};
 ghost use Rattle.piper_ring.specs.Block.{space_of, space_words};
 ghost use Rattle.piper_ring.specs.Shared.{Names, names_code, remains_own};

@@ -1,5 +1,5 @@
 //! Frames that are sent body by body.
-ghost use Rattle.std.specs.Prelude.{◌≡◌, ◌++◌, [], ◌∷◌, true, vec_capacity, vec_len, IfErr, OnErr, OnOk};
+ghost use Rattle.std.specs.Prelude.{◌≡◌, ◌++◌, [], ◌∷◌, vec_capacity, vec_len, IfErr, OnErr, OnOk};
 ghost use Rattle.piper_lines.specs.Header.{usual_header};
 ghost use Rattle.futures.specs.Poll.{IfReady, OnPending};
 ghost use Rattle.futures.specs.Task.{Covers, Keeps};

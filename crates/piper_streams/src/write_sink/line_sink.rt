@@ -1,5 +1,5 @@
 //! Lines that are sent text by text.
-ghost use Rattle.std.specs.Prelude.{◌≡◌, ◌≤◌, ◌++◌, [], ◌∷◌, true, vec_capacity, vec_len, IfErr, OnErr, OnOk};
+ghost use Rattle.std.specs.Prelude.{◌≡◌, ◌≤◌, ◌++◌, [], ◌∷◌, vec_capacity, vec_len, IfErr, OnErr, OnOk};
 ghost use Rattle.piper_lines.specs.Line.{line_feed};
 ghost use Rattle.futures.specs.Poll.{IfReady, OnPending};
 ghost use Rattle.futures.specs.Task.{Covers, Keeps};
