@@ -5,7 +5,7 @@ ghost use Rattle.std.specs.Prelude.{◌≡◌, [], OnOk, IfErr, string_bytes};
 ghost use Rattle.std.specs.List.{All};
 ghost use Rattle.piper_pump.specs.Ended.{IsToldOf, IsUnopened};
 ghost use Rattle.piper_pump.specs.Ends.{drain_bytes};
-ghost use Rattle.piper_pump.specs.Written.{HasDrain, HaveAll};
+ghost use Rattle.piper_pump.specs.Written.{HasDrain, HaveAll, way_of};
 ghost use Rattle.pump_files.specs.AllOpen.{IsOpenedUnlessFailed};
 ghost use Rattle.pump_files.specs.Copies.{IsCopy};
 ghost use Rattle.piper_pump.specs.Prepared.{StayCopies, StayUnwritten};
@@ -34,6 +34,7 @@ where
     ensures stay { StayUnwritten F.name F.written F.fails
         (drain_bytes D.contents F.written drain.old)
         (drain_bytes D.contents F.written drain.new) tees.old tees.new result }
+    ensures way { way_of drain.new ≡ way_of drain.old }
     ensures cut { OnOk result (HaveAll (IsCutUnlessFailed F.is_cut) drain.new tees.new) }
 {
     take_all(rt, Step::Open { takes_held }, drain, tees)?;
@@ -57,6 +58,7 @@ where
     ensures stay { StayUnwritten F.name F.written F.fails
         (drain_bytes D.contents F.written drain.old)
         (drain_bytes D.contents F.written drain.new) tees.old tees.new result }
+    ensures way { way_of drain.new ≡ way_of drain.old }
 {
     take_all(rt, Step::Make, drain, tees)?;
     let all_open = all_open(drain, tees);
@@ -94,6 +96,7 @@ where
     ensures stay { StayUnwritten F.name F.written F.fails
         (drain_bytes D.contents F.written drain.old)
         (drain_bytes D.contents F.written drain.new) tees.old tees.new result }
+    ensures way { way_of drain.new ≡ way_of drain.old }
 {
     take_drain(rt, step, drain)?;
     take_tees(rt, step, tees)
@@ -108,6 +111,7 @@ where
     ensures gets { OnOk result (HasDrain (GetsBy step F.is_kept F.is_made F.is_cut) drain.new) }
     ensures bytes { drain_bytes D.contents F.written drain.new
         ≡ drain_bytes D.contents F.written drain.old }
+    ensures way { way_of drain.new ≡ way_of drain.old }
     ensures early { IfErr result IsUnopened }
 {
     match drain {
@@ -140,6 +144,7 @@ where
     ensures copy { IsCopy F.name F.written F.fails [] sink.old
         → IsCopy F.name F.written F.fails [] sink.new }
     ensures name { sink.new.name ≡ sink.old.name }
+    ensures way { sink.new.way ≡ sink.old.way }
     ensures bytes { F.written sink.new.file ≡ F.written sink.old.file }
     ensures gets { OnOk result (GetsBy step F.is_kept F.is_made F.is_cut sink.new) }
     ensures early { IfErr result IsUnopened }

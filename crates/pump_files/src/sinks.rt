@@ -123,6 +123,7 @@ impl<F: NamedFile> Sink<F> {
         ensures copy { IsCopy F.name F.written F.fails [] self.old
             → IsCopy F.name F.written F.fails [] self.new }
         ensures name { self.new.name ≡ self.old.name }
+        ensures way { self.new.way ≡ self.old.way }
         ensures bytes { F.written self.new.file ≡ F.written self.old.file }
         ensures gets { OnOk result (GetsBy step F.is_kept F.is_made F.is_cut self.new) }
         ensures opened { OnOk result (OpensBy step F.answers self.old self.new) }

@@ -20,12 +20,14 @@ loop-tee-preserved g c =
       needs = AllWithin-rest_set (NeedsFor c.args.step g.F.NamedFile.is_kept g.F.NamedFile.is_made) tees i c.take.new.sink before.needs;
       gets = AllWithin-more_set tees i c.take.new.sink inside (GetsBy c.args.step g.F.NamedFile.is_kept g.F.NamedFile.is_made g.F.NamedFile.is_cut) before.gets c.in_ok-take.ensures.gets;
       names = map-set_same _ tees i c.take.new.sink c.tee-item.result (ap string_bytes c.take.ensures.name) ∙ before.names;
+      ways = map-set_same _ tees i c.take.new.sink c.tee-item.result c.take.ensures.way ∙ before.ways;
     }
 
 pub returns-clause-stay : goal.returns-clause-stay
 returns-clause-stay g c = record {
   copies = λ all k d inside. c.loop-tee.invariant.given all k d (omega arith) (search rules);
   names = c.loop-tee.invariant.names;
+  ways = c.loop-tee.invariant.ways;
 }
 
 pub returns-clause-gets : goal.returns-clause-gets

@@ -1,5 +1,5 @@
 -- Those before the index were taken, and the others are as they were.
-use Rattle.std.proofs.Common.{◌≡◌, [], length}
+use Rattle.std.proofs.Common.{◌≡◌, [], length, map}
 use Rattle.std.specs.List.{All, AllWithin}
 use Rattle.pump_files.specs.Copies.{IsCopy, names_of}
 use Rattle.pump_files.specs.Steps.{GetsBy, NeedsFor}
@@ -14,4 +14,5 @@ invariant-loop-tee g l =
       needs : AllWithin (NeedsFor l.step g.F.NamedFile.is_kept g.F.NamedFile.is_made) l.tees l.tee-index (length l.tees);
       gets : AllWithin (GetsBy l.step g.F.NamedFile.is_kept g.F.NamedFile.is_made g.F.NamedFile.is_cut) l.tees 0 l.tee-index;
       names : names_of l.tees ≡ names_of l.initial.tees;
+      ways : map (λ sink. sink.way) l.tees ≡ map (λ sink. sink.way) l.initial.tees;
     }
