@@ -18,6 +18,7 @@ use Rattle.pump_files.specs.declared.found.FileId.TheVariants.{Untold}
 use Rattle.pump_files.specs.declared.found.Found.{Found}
 use Rattle.piper_pump.specs.declared.opening.Places.{Places}
 use Rattle.pump_files.specs.declared.sinks.Sink.{Sink}
+use Rattle.pump_files.specs.declared.sinks.Way.{Way}
 use Rattle.pump_files.specs.declared.streams.Stream.{Stream}
 use Rattle.pump_files.specs.declared.streams.Stream.TheVariants as stream
 
@@ -64,15 +65,15 @@ pub record WritesNamed {D F : Type 0}
 abbrev pub founds_of : {F : Type 0} → List (Sink F) → List Found
 founds_of sinks = map (λ sink. sink.found) sinks
 
--- whether it is written behind what a file holds, and whether each flush waits for its device
-abbrev pub IsWrittenAs : {F : Type 0} → Bool → Bool → Sink F → Type 0
-IsWrittenAs syncs appends sink = (sink.way.syncs ≡ syncs) × (sink.way.appends ≡ appends)
+-- the way in which files are to be written
+abbrev pub way_wanted : Arguments → Way
+way_wanted arguments = record { syncs = arguments.syncs; appends = arguments.appends }
 
--- so are all files that are written
-pub record AreWrittenAs {F : Type 0} (syncs appends : Bool) (output : Option (Sink F))
+-- all files are written in this way
+pub record AreWrittenAs {F : Type 0} (way : Way) (output : Option (Sink F))
     (tees : List (Sink F)) : Type 0 where
-  pub written : IfSome output (IsWrittenAs syncs appends)
-  pub copied : All (IsWrittenAs syncs appends) tees
+  pub written : IfSome output (λ sink. sink.way ≡ way)
+  pub copied : All (λ sink. sink.way ≡ way) tees
 
 -- files that hold bytes are taken: those are overwritten, or what is written follows them
 abbrev pub takes_held : Arguments → Bool

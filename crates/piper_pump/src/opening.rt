@@ -15,7 +15,7 @@ ghost use Rattle.pump_files.specs.Handle.{IsAnswerFor};
 ghost use Rattle.pump_files.specs.declared.streams.Stream.TheVariants as stream;
 ghost use Rattle.piper_pump.specs.Opening.{AreFoundApart, AreWrittenAs, HoldNothing};
 ghost use Rattle.piper_pump.specs.Opening.{IsFoundAt, IsFoundByName, IsFoundOpen, OpensNamed};
-ghost use Rattle.piper_pump.specs.Opening.{ReadsNamed, WritesNamed, founds_of, ids_of, takes_held};
+ghost use Rattle.piper_pump.specs.Opening.{ReadsNamed, WritesNamed, founds_of, ids_of, takes_held, way_wanted};
 ghost use Rattle.pump_files.specs.Pace.{HasRate};
 
 use crate::accepting::takes_held;
@@ -155,8 +155,8 @@ where
         ≡ map (λ name. name.now) arguments.now.tees.items) }
     ensures copies { IfOk result (λ opened.
         All (IsCopy F.name F.written F.fails []) opened.tees.items) }
-    ensures written { IfOk result (λ opened. AreWrittenAs arguments.now.syncs
-        arguments.now.appends opened.output opened.tees.items) }
+    ensures written { IfOk result (λ opened.
+        AreWrittenAs (way_wanted arguments.now) opened.output opened.tees.items) }
 {
     let input = open_input(rt, rt.alloc(), named(arguments.texts.input))?;
     let way = Way {
