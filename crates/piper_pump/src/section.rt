@@ -19,7 +19,9 @@ pub struct Section<S: Source + Drop> {
 
 impl<S: Source + Drop> Section<S> {
     /// All of it.
-    pub fn whole(source: S) -> Section<S> {
+    pub fn whole(source: S) -> Section<S>
+        ensures { result ≡ record { source = source; skip = 0; most = None } }
+    {
         Section {
             source,
             skip: 0,
