@@ -1,9 +1,14 @@
 -- What is read and written once files are opened.
-use Rattle.std.proofs.Common.{◌≡◌, ◌≢◌, refl, sym, subst, ℕ, List, Option, Some, None, codes, false}
+use Rattle.std.proofs.Common.{◌≡◌, ◌≢◌, ◌∙◌, ap, refl, sym, subst, ℕ, List, Option, Some, None, codes, false}
 use Rattle.std.specs.Prelude.{IfSome, Result}
 use Rattle.std.specs.declared.io.Error.{Error}
 use Rattle.piper_pump.specs.Ended.{IsEarly, IsOfOption, IsUnopened}
-use Rattle.piper_pump.specs.Opening.{IsDrainOf, IsFoundInlet, IsFoundOpen, IsInletOf, IsInputFound, OpensNamed, ReadsNamed, WritesNamed}
+use Rattle.piper_pump.specs.Opening.{IsDrainOf, IsFoundInlet, IsFoundOpen, IsInletOf, IsInputFound, OpensNamed, ReadsNamed, WritesNamed, way_wanted}
+use Rattle.clap.specs.Words.{Text}
+use Rattle.pump_words.specs.Arguments.{AskFor, text_in}
+use Rattle.pump_words.specs.declared.arguments.Arguments.{Arguments}
+use Rattle.piper_pump.specs.Planned.{IsWrittenBy, after}
+use Rattle.piper_pump.specs.Written.{HasDrain, HaveNamed}
 use Rattle.piper_pump.specs.declared.ended.Ended.{Ended}
 use Rattle.piper_pump.specs.declared.ended.Ended.TheVariants as ended
 use Rattle.piper_pump.specs.declared.ends.Drain.{Drain}
@@ -40,6 +45,35 @@ writes_named {D} {F} name word (Some s) found old new opens none some is = recor
   dash = λ t p q. none (opens.dash t p q);
   file = λ t p q. subst (λ (d : Drain D F). IsDrainOf name t found d) (sym some) (opens.file t p q, is);
 }
+
+-- what holds of the output that was looked at holds of the one that is written
+pub drain_named : {D F : Type 0} (name : F → Option (List ℕ)) (P : Sink F → Type 0) (word : Option (List ℕ)) (opened : Option (Sink F)) (new : Drain D F)
+    → OpensNamed (λ sink. name sink.file) word opened → IfSome opened (λ s. new ≡ drain.File s) → IfSome opened P
+    → (t : List ℕ) → word ≡ Some t → t ≢ codes "-" → HasDrain P new
+drain_named name P word None new opens some is t p q = absurd (opens.file t p q)
+drain_named {D} {F} name P word (Some s) new opens some is t p q = subst (λ (d : Drain D F). HasDrain P d) (sym some) is
+
+drain_also : {D F : Type 0} (P Q : Sink F → Type 0) → ((s : Sink F) → P s → Q s) → (d : Drain D F) → HasDrain P d → HasDrain Q d
+drain_also P Q also (drain.Standard d) has = tt
+drain_also P Q also (drain.File sink) has = also sink has
+
+written_by : {F : Type 0} (words : List Text) (arguments : Arguments) → AskFor words arguments
+    → (sink : Sink F) → sink.way ≡ way_wanted arguments → IsWrittenBy words sink
+written_by words arguments asked sink way = record {
+  append = λ said. ap (λ w. w.appends) way ∙ asked.append said;
+  no_append = λ said. ap (λ w. w.appends) way ∙ asked.no_append said;
+  sync = λ said. ap (λ w. w.syncs) way ∙ asked.sync said;
+  no_sync = λ said. ap (λ w. w.syncs) way ∙ asked.no_sync said;
+}
+
+-- files that are written in the way that arguments say are written as the words say
+pub named_by : {D F : Type 0} (words : List Text) (arguments : Arguments) → AskFor words arguments → (d : Drain D F) (sinks : List (Sink F))
+    → HaveNamed (λ s. s.way ≡ way_wanted arguments) (text_in arguments.texts.output) d sinks → HaveNamed (IsWrittenBy words) (after (codes "output") words) d sinks
+named_by {D} {F} words arguments asked d sinks are =
+    subst (λ word. HaveNamed (IsWrittenBy words) word d sinks) asked.output (record {
+      named = λ t p q. drain_also (λ (s : Sink F). s.way ≡ way_wanted arguments) (IsWrittenBy words) (written_by words arguments asked) d (are.named t p q);
+      others = λ k e inside. written_by words arguments asked _ (are.others k e inside);
+    })
 
 -- the output that is named held no byte
 pub none_held : {F : Type 0} (name : F → Option (List ℕ)) (word : Option (List ℕ)) (opened : Option (Sink F)) (found : Found) → OpensNamed (λ sink. name sink.file) word opened

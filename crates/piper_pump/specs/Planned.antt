@@ -1,5 +1,5 @@
 -- The plan of a run: the numbers that the words ask for, and the files that they name.
-use Rattle.std.specs.Prelude.{◌≡◌, [], ℕ, true, false, List, Option, Some, Result, IfSome, codes}
+use Rattle.std.specs.Prelude.{◌≡◌, ◌⊎◌, [], ℕ, true, false, List, Option, Some, Result, IfSome, codes}
 use Rattle.std.specs.declared.io.Error.{Error}
 use Rattle.piper_transfer.specs.declared.both_sides.Sizes.{Sizes}
 use Rattle.clap.specs.Words.{Text, fault_of, first_of, one_of}
@@ -8,7 +8,9 @@ use Rattle.piper_pump.specs.Asked.{HaveGot}
 use Rattle.piper_pump.specs.Ends.{Awaits, IsAwaited}
 use Rattle.piper_pump.specs.Opening.{AreFoundApart, HoldNothing, ReadsNamed, WritesNamed}
 use Rattle.pump_files.specs.Pace.{HasRate}
+use Rattle.piper_pump.specs.Written.{HaveNamed}
 use Rattle.pump_files.specs.declared.attributes.Attributes.{Attributes}
+use Rattle.pump_files.specs.declared.sinks.Sink.{Sink}
 use Rattle.pump_words.specs.Plan.{IsLevelOf, IsOfStream, IsRead, IsSkipOf, IsTotalOf, KnowsTotal}
 use Rattle.piper_pump.specs.declared.ends.Inlet.{Inlet}
 use Rattle.piper_pump.specs.declared.ends.Outlet.{Outlet}
@@ -24,6 +26,22 @@ after option words = first_of option (said_by words)
 abbrev pub SparesBytes : List Text → Type 0
 SparesBytes words = (one_of (codes "force") (said_by words) ≡ Some (codes "false"))
     × (one_of (codes "append") (said_by words) ≡ Some (codes "false"))
+
+-- these words say that such files are taken
+abbrev pub TakesBytes : List Text → Type 0
+TakesBytes words = (one_of (codes "force") (said_by words) ≡ Some (codes "true"))
+    ⊎ (one_of (codes "append") (said_by words) ≡ Some (codes "true"))
+
+-- a file is appended to, and each flush waits for its device, exactly if these words say so
+pub record IsWrittenBy {F : Type 0} (words : List Text) (sink : Sink F) : Type 0 where
+  pub append : one_of (codes "append") (said_by words) ≡ Some (codes "true")
+      → sink.way.appends ≡ true
+  pub no_append : one_of (codes "append") (said_by words) ≡ Some (codes "false")
+      → sink.way.appends ≡ false
+  pub sync : one_of (codes "fsync") (said_by words) ≡ Some (codes "true")
+      → sink.way.syncs ≡ true
+  pub no_sync : one_of (codes "fsync") (said_by words) ≡ Some (codes "false")
+      → sink.way.syncs ≡ false
 
 -- the pipe holds so many bytes, and moves so many at a time, as these words ask for
 pub record AreSizedBy (words : List Text) (sizes : Sizes) : Type 0 where
@@ -61,7 +79,7 @@ pub record HasFiles {R S D F : Type 0}
       → HoldNothing (after (codes "output") words) plan.places.output p.copies.tees.items
 
 -- the run goes on from here: nothing has passed, the part of the input, the copies and the rate are
--- those that these words ask for, and no file is open that is written
+-- those that these words ask for, as is the way in which files are written, and none of these is open
 pub record IsPlanned {R S D F : Type 0}
     (name written : F → Option (List ℕ))
     (fails : F → Error → Type 0)
@@ -81,3 +99,6 @@ pub record IsPlanned {R S D F : Type 0}
   pub paced : HasRate plan.rate p.copies.pace
   pub awaited : IsAwaited p.opening
   pub spares : SparesBytes words → Awaits false p.opening
+  pub takes : TakesBytes words → Awaits true p.opening
+  pub ways : HaveNamed (IsWrittenBy words) (after (codes "output") words) p.drain
+      p.copies.tees.items

@@ -16,6 +16,7 @@ ghost use Rattle.pump_files.specs.declared.streams.Stream.TheVariants as stream;
 ghost use Rattle.piper_pump.specs.Opening.{AreFoundApart, AreWrittenAs, HoldNothing};
 ghost use Rattle.piper_pump.specs.Opening.{IsFoundAt, IsFoundByName, IsFoundOpen, OpensNamed};
 ghost use Rattle.piper_pump.specs.Opening.{ReadsNamed, WritesNamed, founds_of, ids_of, takes_held, way_wanted};
+ghost use Rattle.piper_pump.specs.Written.{HaveNamed};
 ghost use Rattle.pump_files.specs.Pace.{HasRate};
 
 use crate::accepting::takes_held;
@@ -86,6 +87,8 @@ where
     ensures apart { IfOk result (λ places. AreFoundApart F.answers
         (text_in arguments.now.texts.input) (text_in arguments.now.texts.output) places
         input.new output.new.copies.tees.items) }
+    ensures ways { OnOk result (HaveNamed (λ sink. sink.way ≡ way_wanted arguments.now)
+        (text_in arguments.now.texts.output) output.new.drain output.new.copies.tees.items) }
     ensures spared { takes_held arguments.now ≡ false → IfOk result (λ places.
         HoldNothing (text_in arguments.now.texts.output) places.output
         output.new.copies.tees.items) }

@@ -14,8 +14,9 @@ ghost use Rattle.piper_pump.specs.Opening.{AreFoundApart, HoldNothing, ReadsName
 ghost use Rattle.piper_pump.specs.Outcome.{RunReturned};
 ghost use Rattle.pump_files.specs.Pace.{HasRate};
 ghost use Rattle.pump_words.specs.Plan.{IsLevelOf, IsOfStream, IsRead, IsSkipOf, IsTotalOf, KnowsTotal};
-ghost use Rattle.piper_pump.specs.Planned.{AreSizedBy, IsPlanned, SparesBytes, after};
+ghost use Rattle.piper_pump.specs.Planned.{AreSizedBy, IsPlanned, IsWrittenBy, SparesBytes, TakesBytes, after};
 ghost use Rattle.piper_pump.specs.Running.{EndsWithTransfer, Runs};
+ghost use Rattle.piper_pump.specs.Written.{HaveNamed};
 
 use crate::accepting::accept;
 use crate::ended::{EndNames, Ended};
@@ -191,6 +192,11 @@ where
     ensures awaited { OnOk result (IsAwaited output.new.opening) }
     ensures spares { SparesBytes (map string_bytes words.now)
         → OnOk result (Awaits false output.new.opening) }
+    ensures takes { TakesBytes (map string_bytes words.now)
+        → OnOk result (Awaits true output.new.opening) }
+    ensures ways { OnOk result (HaveNamed (IsWrittenBy (map string_bytes words.now))
+        (after (codes "output") (map string_bytes words.now)) output.new.drain
+        output.new.copies.tees.items) }
 {
     let arguments = match read_words(rt.alloc(), words) {
         Ok(arguments) => arguments,

@@ -1,8 +1,9 @@
 use Rattle.std.proofs.Common.{◌≡◌, ◌∙◌, false, sym, subst}
 use Rattle.std.specs.List.{All}
 use Rattle.pump_words.specs.Arguments.{text_in}
-use Rattle.piper_pump.specs.Opening.{AreFoundApart}
-use Rattle.piper_pump.proofs.Named.{input_found, none_held, reads_named, writes_named}
+use Rattle.piper_pump.specs.Opening.{AreFoundApart, way_wanted}
+use Rattle.pump_files.specs.declared.sinks.Sink.{Sink}
+use Rattle.piper_pump.proofs.Named.{drain_named, input_found, none_held, reads_named, writes_named}
 use Rattle.piper_pump.proofs.opening.open_files.Goals as goal
 
 pub returns-clause-input : goal.returns-clause-input
@@ -26,6 +27,15 @@ returns-clause-apart g c =
       copied = said.tees_found;
       apart = (c.in_ok-refuse_shared.ensures.apart, c.in_ok-refuse_shared.ensures.told);
     })
+
+pub returns-clause-ways : goal.returns-clause-ways
+returns-clause-ways g c =
+    let Written = λ (s : Sink g.row.F.Denot). s.way ≡ way_wanted c.args.arguments.now in
+    let said = c.in_ok-opened.ensures in
+    record {
+      named = drain_named g.F.NamedFile.name Written (text_in c.args.arguments.now.texts.output) c.in_ok-opened.opened.output _ said.output c.take_output.ensures.some said.written.written;
+      others = subst (λ tees. All Written tees.items) (sym c.ask.ensures.tees) said.written.copied;
+    }
 
 pub returns-clause-spared : goal.returns-clause-spared
 returns-clause-spared g c = λ spares. let unasked = c.takes_held-takes_held.ensures ∙ spares in record {

@@ -64,6 +64,8 @@ returns-clause-runs g c =
         paced = begun.paced;
         awaited = begun.awaited;
         spares = begun.spares;
+        takes = begun.takes;
+        ways = begun.ways;
       };
       ends = record {
         answer = answer;
