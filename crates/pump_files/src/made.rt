@@ -1,5 +1,5 @@
 //! What lets a file be taken away.
-ghost use Rattle.std.specs.Prelude.{◌≡◌};
+ghost use Rattle.std.specs.Prelude.{◌≡◌, false};
 ghost use Rattle.pump_files.specs.Found.{IsFound};
 ghost use Rattle.pump_files.specs.Handle.{IsAnswerFor};
 ghost use Rattle.pump_files.specs.Made.{WasMade, was_made_prop};
@@ -22,7 +22,7 @@ pub fn of_file<F: NamedFile>(_file: &F, _appends: bool) -> Made
     made
 }
 
-/// That a name is still that of a file which this run made.
+/// That a name is still that of a file which this run made, and that holds no byte.
 #[derive(Clone, Copy)]
 pub struct StillNamed<'name> {
     made: Made,
@@ -38,7 +38,7 @@ impl<'name> StillNamed<'name> {
     }
 }
 
-/// Of a file and a name of which the system told the same.
+/// Of a file and a name of which the system told the same, and that the file holds no byte.
 pub fn still_named<'name, F: NamedFile>(
     made: Made,
     _file: &F,
@@ -49,6 +49,7 @@ pub fn still_named<'name, F: NamedFile>(
     requires own { IsFound (F.answers _file.now) _own.now }
     requires named { IsFound (IsAnswerFor name.now) _named.now }
     requires same { _own.now.id ≡ _named.now.id }
+    requires empty { _own.now.holds ≡ false }
     ensures { result.name.now ≡ name.now }
 {
     StillNamed { made, name }

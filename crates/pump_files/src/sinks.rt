@@ -181,7 +181,7 @@ impl<F: NamedFile> Sink<F> {
         Ok(())
     }
 
-    /// Takes the file away, if this run made it and its name is still its own.
+    /// Takes the file away, if this run made it, it holds no byte, and its name is still its own.
     pub fn unmake(&self, rt: &impl Opens<F>) {
         let Some(made) = self.made else {
             return;
@@ -190,9 +190,11 @@ impl<F: NamedFile> Sink<F> {
         let named = Found::of_name(&rt.look(name));
         if let Ok(own) = Found::of_open(&self.file)
             && own.id == named.id
+            && !own.holds
         {
             let still = made::still_named(made, &self.file, &own, name, &named);
-            // It is empty, and there is nothing to be said of one that stays.
+            // One that got bytes meanwhile stays. There is nothing to be said of one that can't be
+            // removed.
             let _ = rt.remove(still);
         }
     }
