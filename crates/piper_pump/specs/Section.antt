@@ -11,7 +11,7 @@ front_of (Some n) bytes = take n bytes
 abbrev pub section_of : ℕ → Option ℕ → List ℕ → List ℕ
 section_of skip most bytes = front_of most (drop skip bytes)
 
--- how many bytes that are of so many, if it is known how many there are; else the bound is told
+-- how many of `size` bytes are in that part; if the size is not known, the bound
 abbrev pub size_of_section : Option ℕ → ℕ → Option ℕ → Option ℕ
 size_of_section None skip most = most
 size_of_section (Some size) skip None = Some (size - skip)

@@ -66,7 +66,7 @@ pub fn accept(alloc: Global, arguments: &Arguments<'_>, streams: Streams) -> Res
     })
 }
 
-/// Whether files are taken that hold bytes: those are overwritten, or what is written follows them.
+/// Whether files that hold bytes are taken, to be overwritten or appended to.
 pub fn takes_held(arguments: &Arguments<'_>) -> bool
     ensures { result ≡ takes_held arguments.now }
 {

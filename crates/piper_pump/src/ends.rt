@@ -117,8 +117,8 @@ where
     D: Destination + Drop,
     F: NamedFile,
 {
-    /// Opens the files that are written, where the input has ended and gave no byte: each is left
-    /// with none.
+    /// Opens the files that are written, if the input has ended and gave no byte. Each is then
+    /// empty, or as it was if it is appended to.
     pub(crate) fn conclude(&mut self) -> Result<(), TransferError>
         ensures bytes { Keeps (drain_bytes D.contents F.written self.old.drain)
             (drain_bytes D.contents F.written self.new.drain) }

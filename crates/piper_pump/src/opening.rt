@@ -58,9 +58,9 @@ pub(crate) struct Opened<F: NamedFile> {
 }
 
 /// Opens the input that is named, looks at the files that are to be written, and takes them in place
-/// of what represents them. Where one is refused, both stay. A file is refused that is the input,
-/// standard error or another output, too; and one that holds bytes, unless those are to be
-/// overwritten, or what is written is to follow them. So are files that can't be told from one another.
+/// of what represents them. If one is refused, both stay. These are refused: a file that is also the
+/// input, standard error or another output; one that holds bytes, unless such files are taken; and
+/// files that can't be told from one another.
 /// Returns what the system reports of what is read, and of what is written.
 pub fn open_files<R, F, S, D>(
     rt: &R,

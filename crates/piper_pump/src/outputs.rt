@@ -1,6 +1,6 @@
 //! The files that are written are opened, once the input has given its first bytes or has ended:
 //! first those that are there, which keep what they hold, then the others are made, and then all are
-//! cut off.
+//! cut off that are not appended to.
 ghost use Rattle.std.specs.Prelude.{◌≡◌, [], OnOk, IfErr, string_bytes};
 ghost use Rattle.std.specs.List.{All};
 ghost use Rattle.piper_pump.specs.Ended.{IsToldOf, IsUnopened};

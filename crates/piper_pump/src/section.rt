@@ -29,7 +29,7 @@ impl<S: Source + Drop> Section<S> {
         }
     }
 
-    /// So many bytes of it are left out, and at most so many are read after those.
+    /// Leaves out the first `skip` bytes, and reads at most `most` after those.
     pub fn limit(&mut self, skip: u64, most: Option<u64>)
         ensures { self.new ≡ record self.old { skip = skip; most = most } }
     {

@@ -33,8 +33,8 @@ where
     }
 }
 
-/// How many bytes of the input are handed on, if that is known: of those that it has after so many,
-/// at most so many. If it is not known how many it has, the bound is the best that can be told.
+/// How many bytes of the input are handed on: all but the first `skip`, and `most` at most. If the
+/// input's size is not known, it is `most`.
 pub fn size_of_part<R, F, S>(
     rt: &R,
     input: &Inlet<S, F>,

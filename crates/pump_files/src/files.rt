@@ -30,11 +30,11 @@ pub trait NamedFile: Drop {
     // it was opened to be read alone
     ghost is_read: { Self → Type 0 } = { λ _. ⊤ };
 
-    // it was there and was opened to be written, which left what it holds; and whether all that is
-    // written follows that
+    // it was there and was opened to be written, which left what it holds. The `Bool` says whether
+    // all that is written follows that
     ghost is_kept: { Bool → Self → Type 0 } = { λ _ _. ⊤ };
 
-    // it was not there, and was made; likewise
+    // it was not there, and was made, with the same `Bool`
     ghost is_made: { Bool → Self → Type 0 } = { λ _ _. ⊤ };
 
     // the system was asked of it, and answered so
@@ -138,15 +138,15 @@ pub trait Opens<F: NamedFile> {
         ensures name { IsJust (F.name result) name.now }
         ensures bytes { IsJust (F.written result) [] };
 
-    /// Opens it, where there is one. It keeps what it holds, and all that is written follows that
-    /// where it is appended to.
+    /// Opens it, if there is one. What it holds stays. If `appends` is `true`, all that is written
+    /// follows that.
     fn open_to_write(&self, name: &str, appends: bool, file: &mut F) -> io::Result<()>
         ensures name { F.name file.new ≡ F.name file.old }
         ensures bytes { F.written file.new ≡ F.written file.old }
         ensures opened { OnOk result (F.is_kept appends file.new) }
         ensures failed { IfErr result HasFailed };
 
-    /// Makes it, where there is none, and opens it, likewise.
+    /// Makes it, if there is none, and opens it in the same way.
     fn make(&self, name: &str, appends: bool, file: &mut F) -> io::Result<()>
         ensures name { F.name file.new ≡ F.name file.old }
         ensures bytes { F.written file.new ≡ F.written file.old }

@@ -43,11 +43,12 @@ pub struct Way {
 /// What is done for each file that is written, for one after another.
 #[derive(Clone, Copy)]
 pub enum Step {
-    /// It is opened if it is there; one that holds bytes is taken, or refused.
+    /// If it is there, it is opened. `takes_held` says whether one that holds bytes is taken or
+    /// refused.
     Open { takes_held: bool },
     /// It is made if it is not there.
     Make,
-    /// What it holds is cut off, once all are open.
+    /// What it holds is cut off once all are open, unless it is appended to.
     Cut { all_open: AllOpen },
 }
 

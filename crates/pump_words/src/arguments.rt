@@ -29,7 +29,7 @@ pub struct Arguments<'a> {
     pub shows_progress: bool,
     pub is_quiet: bool,
     pub shows_sum: bool,
-    /// Whether files that hold bytes are written, too.
+    /// Whether the bytes that files hold are overwritten.
     pub overwrites: bool,
     /// Whether what is written follows the bytes that files hold.
     pub appends: bool,
