@@ -1,12 +1,10 @@
 -- What an output took, by how far its files are open, and what a transfer becomes that opens them at its end.
-use Rattle.std.proofs.Common.{◌≡◌, ℕ, List, [], ◌++◌, Option, Some, None, Result, Ok, Err, inr, refl, subst, sym, ◌∙◌}
-use Rattle.std.specs.Prelude.{IfErr, OnOk}
+use Rattle.std.proofs.Common.{◌≡◌, ℕ, List, [], ◌++◌, Option, Some, None, Result, Ok, Err, refl, subst, sym, ◌∙◌}
+use Rattle.std.specs.Prelude.{OnOk}
 use Rattle.std.specs.Io.KnownBytes.{Appends, IsAtEnd, Keeps}
-use Rattle.std.specs.declared.io.Error.{Error}
 use Rattle.piper_transfer.specs.Taken.{StaysTaken}
-use Rattle.piper_transfer.specs.Transfer.{IsOfDestination, IsOfSide, Transfers}
+use Rattle.piper_transfer.specs.Transfer.{Transfers}
 use Rattle.piper_transfer.specs.declared.error.TransferError.{TransferError}
-use Rattle.piper_transfer.specs.declared.error.TransferError.TheVariants as failed
 use Rattle.piper_pump.specs.Ends.{AreAllFlushed, HaveTaken, IsAnswered, IsAwaited, IsDone, IsRefused}
 use Rattle.piper_pump.specs.declared.ends.Drain.{Drain}
 use Rattle.piper_pump.specs.declared.ends.Opening.{Opening}
@@ -23,12 +21,6 @@ pub done_taken : (o : Opening) (have : Type 0) (passed : List ℕ) → IsDone o 
 done_taken opening.Done have passed done taken = taken
 done_taken (opening.Awaited takes_held) have passed done taken = absurd done
 done_taken (opening.Refused e) have passed done taken = absurd done
-
--- none had been taken where they were opened, or refused
-pub answered_taken : (o : Opening) (have : Type 0) (passed : List ℕ) → IsAnswered o → (IsDone o → have) → passed ≡ [] → HaveTaken o have passed
-answered_taken opening.Done have passed answered taken none = taken tt
-answered_taken (opening.Awaited takes_held) have passed answered taken none = absurd answered
-answered_taken (opening.Refused e) have passed answered taken none = (none, answered)
 
 pub awaited_taken : (o : Opening) (have : Type 0) (passed : List ℕ) → IsAwaited o → HaveTaken o have passed → have × (passed ≡ [])
 awaited_taken opening.Done have passed awaited taken = absurd awaited
@@ -57,13 +49,6 @@ taken_answered opening.Done have passed refused taken = absurd refused
 taken_answered (opening.Awaited takes_held) have passed refused taken = absurd refused
 taken_answered (opening.Refused e) have passed refused taken = taken.1
 
--- what was flushed, and awaits no opening, is open
-pub flushed_done : {D F : Type 0} (flushed : D → Type 0) (file_flushed : F → Type 0) (o : Opening) (d : Drain D F) (sinks : List (Sink F))
-    → AreAllFlushed flushed file_flushed o d sinks → ¬ IsAwaited o → IsDone o
-flushed_done flushed file_flushed opening.Done d sinks all opened = tt
-flushed_done flushed file_flushed (opening.Awaited takes_held) d sinks all opened = absurd (opened tt)
-flushed_done flushed file_flushed (opening.Refused e) d sinks all opened = absurd all
-
 appends_kept : (a b c : Option (List ℕ)) (bs : List ℕ) → Appends a b bs → Keeps b c → Appends a c bs
 appends_kept None b c bs appends keeps = tt
 appends_kept (Some xs) None c bs appends keeps = absurd appends
@@ -88,15 +73,3 @@ concluded C T i j d e f r moved keeps stays = record {
   all = λ _. moved.all tt;
   ended = on_ok r (IsAtEnd j) moved.ended;
 }
-
-of_destination : (read fails : Error → Type 0) (full : Type 0) (e : TransferError) → IsOfDestination fails full e → IsOfSide read fails full e
-of_destination read fails full (failed.Read e) told = absurd told
-of_destination read fails full (failed.Write e) told = told
-of_destination read fails full failed.Full told = told
-of_destination read fails full failed.Memory told = inr told
-of_destination read fails full (failed.Turns e) told = told
-
--- the error of an output is one of the side that it names
-pub told_of_side : (read fails : Error → Type 0) (full : Type 0) (r : Result Unit TransferError) → IfErr r (IsOfDestination fails full) → IfErr r (IsOfSide read fails full)
-told_of_side read fails full (Ok a) told = tt
-told_of_side read fails full (Err e) told = of_destination read fails full e told

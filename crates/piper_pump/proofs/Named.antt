@@ -2,7 +2,7 @@
 use Rattle.std.proofs.Common.{◌≡◌, ◌≢◌, ◌∙◌, ap, refl, sym, subst, ℕ, List, Option, Some, None, codes, false}
 use Rattle.std.specs.Prelude.{IfSome, Result}
 use Rattle.std.specs.declared.io.Error.{Error}
-use Rattle.piper_pump.specs.Ended.{IsEarly, IsOfOption, IsUnopened}
+use Rattle.piper_pump.specs.Ended.{IsEarly, IsUnopened}
 use Rattle.piper_pump.specs.Opening.{IsDrainOf, IsFoundInlet, IsFoundOpen, IsInletOf, IsInputFound, OpensNamed, ReadsNamed, WritesNamed, way_wanted}
 use Rattle.clap.specs.Words.{Text}
 use Rattle.pump_words.specs.Arguments.{AskFor, text_in}
@@ -87,12 +87,6 @@ early_unopened (ended.NoInput file) told = tt
 early_unopened (ended.NoOutput file) told = tt
 early_unopened ended.Memory told = told
 early_unopened other told = absurd told
-
--- and so does what a word ends that is no number
-pub early_option : (option text : List ℕ) (e : Ended) → IsOfOption option text e → IsEarly e
-early_option option text (ended.Value word) told = tt
-early_option option text ended.Memory told = told
-early_option option text other told = absurd told
 
 -- what was found of the input is that of the file that was opened, or of standard input
 pub input_found : {S F : Type 0} (name : F → Option (List ℕ)) (answers : F → Result Attributes Error → Type 0) (word : Option (List ℕ)) (opened : Option F) (found : Found)

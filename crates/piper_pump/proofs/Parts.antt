@@ -1,5 +1,5 @@
 -- What a read of the input does to the part of it that is handed on.
-use Rattle.std.proofs.Common.{◌≡◌, ℕ, ◌+◌, ◌-◌, ◌<◌, ◌≤◌, List, [], ◌++◌, Option, Some, None, ap, arith, drop, length, refl, suc, sym, take, zero, ◌∙◌}
+use Rattle.std.proofs.Common.{◌≡◌, ℕ, ◌+◌, List, [], Option, Some, None, ap, drop, length, refl, suc, sym, take, zero, ◌∙◌}
 use Rattle.std.proofs.Math.Seq.{drop-append-add, drop-nil, take-append-add}
 use Rattle.std.specs.Prelude.{option_map}
 use Rattle.std.specs.Io.KnownBytes.{Consumes, IsAtEnd, Keeps}
@@ -7,22 +7,6 @@ use Rattle.piper_pump.specs.Section.{front_of, section_of}
 
 abbrev pub part : ℕ → Option ℕ → Option (List ℕ) → Option (List ℕ)
 part skip most known = option_map (section_of skip most) known
-
--- a read that failed
-pub part_kept : (skip : ℕ) (most : Option ℕ) (a b : Option (List ℕ)) → Keeps a b → Keeps (part skip most a) (part skip most b)
-part_kept skip most None b keeps = tt
-part_kept skip most (Some xs) None keeps = absurd keeps
-part_kept skip most (Some xs) (Some ys) keeps = ap (section_of skip most) keeps
-
-pub part_kept_trans : (a b c : Option (List ℕ)) → Keeps a b → Keeps b c → Keeps a c
-part_kept_trans None b c p q = tt
-part_kept_trans (Some x) None c p q = absurd p
-part_kept_trans (Some x) (Some y) None p q = absurd q
-part_kept_trans (Some x) (Some y) (Some z) p q = q ∙ p
-
-pub part_same : (a : Option (List ℕ)) → Keeps a a
-part_same None = tt
-part_same (Some xs) = refl
 
 -- bytes that are left out were read
 pub part_passed : (skip rest : ℕ) (most : Option ℕ) (a b : Option (List ℕ)) (bs : List ℕ) → Consumes a b bs → skip ≡ length bs + rest
@@ -43,17 +27,7 @@ part_end skip most None end = tt
 part_end skip most (Some xs) end =
     ap (λ bs. front_of most (drop skip bs)) end ∙ ap (front_of most) (drop-nil skip) ∙ front_nil most
 
--- nothing more is wanted
-pub part_full : (a : Option (List ℕ)) → IsAtEnd (part 0 (Some 0) a)
-part_full None = tt
-part_full (Some xs) = refl
-
 -- bytes that are handed on were read
-pub part_read : (a b : Option (List ℕ)) (bs : List ℕ) → Consumes a b bs → Consumes (part 0 None a) (part 0 None b) bs
-part_read None b bs consumed = tt
-part_read (Some xs) None bs consumed = absurd consumed
-part_read (Some xs) (Some ys) bs consumed = consumed
-
 pub part_read_bounded : (most rest : ℕ) (a b : Option (List ℕ)) (bs : List ℕ) → Consumes a b bs → most ≡ length bs + rest
     → Consumes (part 0 (Some most) a) (part 0 (Some rest) b) bs
 part_read_bounded most rest None b bs consumed sum = tt

@@ -1,5 +1,5 @@
 //! The part of the input that is handed on: what comes after so many bytes, and at most so many.
-ghost use Rattle.std.specs.Prelude.{◌≡◌, ◌≤◌, ◌-◌, ◌<◌, IfErr, IfOk, IfSome, OnOk, Ok, None, false, length, min, option_map, true};
+ghost use Rattle.std.specs.Prelude.{◌≡◌, ◌-◌, ◌<◌, IfErr, IfOk, Ok, None, false, length, min, true};
 ghost use Rattle.std.specs.Io.{ReadsAtMost};
 ghost use Rattle.std.specs.Io.KnownBytes.{IsAtEnd, Keeps, ReadConsumes};
 ghost use Rattle.piper_pump.specs.Section.{section_bytes};

@@ -1,4 +1,4 @@
-use Rattle.std.proofs.Common.{rules, ◌≡◌, ◌+◌, ◌-◌, ◌≤◌, ◌<◌, arith, length, take}
+use Rattle.std.proofs.Common.{rules, ◌≡◌, ◌-◌, ◌≤◌, ◌<◌, arith, length, take}
 use Rattle.piper_pump.proofs.Parts.{part_end, part_passed}
 use Rattle.piper_pump.proofs.section.Section.pass_some.Goals as goal
 

@@ -1,6 +1,6 @@
-use Rattle.std.proofs.Common.{rules, ◌≡◌, ◌+◌, ◌-◌, ◌≤◌, ◌<◌, ◌++◌, Some, arith, drop, length, subst, sym, take}
+use Rattle.std.proofs.Common.{rules, ◌≡◌, ◌-◌, ◌≤◌, ◌<◌, ◌++◌, Some, arith, drop, length, subst, sym, take}
 use Rattle.std.proofs.lemmas.List.{take-append-le}
-use Rattle.std.specs.Io.KnownBytes.{Consumes, IsAtEnd}
+use Rattle.std.specs.Io.KnownBytes.{Consumes}
 use Rattle.piper_pump.proofs.Parts.{part, part_end, part_read_bounded}
 use Rattle.piper_pump.proofs.section.Section.read_bounded.Goals as goal
 
