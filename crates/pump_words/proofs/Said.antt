@@ -1,6 +1,6 @@
 -- What `clap` found is what the words say.
 use Rattle.std.proofs.Common.{◌≡◌, ◌∙◌, [], ◌<◌, ◌≤◌, ap, refl, sym, subst, true, ℕ, List, Option, Some, None, Result, Ok, Err, IfErr}
-use Rattle.std.specs.Prelude.{option_map, unwrap_or}
+use Rattle.std.specs.Prelude.{IfOk, option_map, unwrap_or}
 use Rattle.std.specs.Borrow.{Bor}
 use Rattle.clap.specs.Words.{AddsArg, App, HasMatchesOf, Rule, app_of, fault_of, with_rule, Text, first_of, first_value, found_of, is_simple, is_simple_and_free, one_of, one_text, rows_of}
 use Rattle.clap.specs.declared.builder.arg.Arg.{Arg}
@@ -23,6 +23,12 @@ command_is_free = refl
 pub added : (rule : Rule) (old new : Command) (arg : Arg) (a : App) → AddsRule rule arg → AddsArg old arg new
     → app_of old ≡ a → app_of new ≡ with_rule a rule
 added rule old new arg a adds is old_is = adds old new is ∙ ap (λ (b : App). with_rule b rule) old_is
+
+-- the same, if it is the last one
+pub added_last : {E : Type 0} (rule : Rule) (old : Command) (arg : Arg) (a : App) (r : Result Command E) → AddsRule rule arg → IfOk r (AddsArg old arg)
+    → app_of old ≡ a → IfOk r (λ new. app_of new ≡ with_rule a rule)
+added_last rule old arg a (Ok new) adds is old_is = added rule old new arg a adds is old_is
+added_last rule old arg a (Err e) adds is old_is = tt
 
 pub found_said : (a : App) (words : List Text) (m : ArgMatches) → a ≡ pump_command → HasMatchesOf a words m
     → rows_of (found_of m) ≡ said_by words

@@ -48,6 +48,23 @@ abbrev pub AddsRule : Rule → Arg → Type 0
 AddsRule rule arg =
     (old new : Command) → AddsArg old arg new → app_of new ≡ with_rule (app_of old) rule
 
+-- an app that takes arguments by these rules, beside what it took
+abbrev pub with_rules : App → List Rule → App
+with_rules app [] = app
+with_rules app (rule ∷ rules) = with_rules (with_rule app rule) rules
+
+-- the sizes of the pipe and of the transfer
+abbrev pub size_rules : List Rule
+size_rules =
+    size_rule (codes "capacity") ∷ size_rule (codes "chunk") ∷ size_rule (codes "rate")
+    ∷ size_rule (codes "size") ∷ size_rule (codes "start-at") ∷ []
+
+-- the names of files, and how they are written
+abbrev pub file_rules : List Rule
+file_rules =
+    file_rule (codes "input") 105 ∷ file_rule (codes "output") 111
+    ∷ tee_rule ∷ flag_rule (codes "force") ∷ flag_rule (codes "fsync") ∷ []
+
 -- a command that has a version
 abbrev pub versioned : App → App
 versioned = on_top (λ s. record s { has_version = true })

@@ -2,13 +2,13 @@
 ghost use Rattle.std.specs.Prelude.{◌≡◌, [], IfOk, IfErr, codes, map, option_map, string_bytes, unwrap_or};
 ghost use Rattle.clap.specs.Words.{app_of, first_value, found_of, kind_of, matched_of, raw_values};
 ghost use Rattle.pump_words.specs.Arguments.{AddsRule, file_rule, flag_rule, pump_command, size_rule, tee_rule};
-ghost use Rattle.pump_words.specs.Arguments.{AskFor, AreTaken, IsSize, IsSizeOf, text_or};
+ghost use Rattle.pump_words.specs.Arguments.{AskFor, AreTaken, IsSize, IsSizeOf, file_rules, size_rules, text_or, with_rules};
 
 use crate::amounts::Amounts;
 use crate::size::parse_size;
 use clap::error::ErrorKind;
 use clap::{Arg, ArgAction, ArgMatches, Command, Error};
-use std::alloc::Global;
+use std::alloc::{AllocError, Global};
 
 /// What the exit statuses mean, for the help.
 const STATUSES: &str = "Exit status:
@@ -140,7 +140,31 @@ fn command<'a>(alloc: Global) -> Result<Command<'a>, Error>
             alloc,
             "sha256",
             "Tells the SHA-256 of what passed, on standard error at the end, as sha256sum does",
+        ))?;
+    let command = with_files(alloc, with_sizes(alloc, command)?)?
+        .arg(option(
+            alloc,
+            "skip",
+            "How many bytes of the input it leaves out; it reads them",
         ))?
+        .arg(option(
+            alloc,
+            "stop-after",
+            "How many bytes it reads at most, after those that it leaves out",
+        ))?
+        .arg(flag(
+            alloc,
+            "append",
+            "Writes behind the bytes that files hold, also with --force",
+        ))?;
+    Ok(command)
+}
+
+// The command takes the sizes of the pipe and of the transfer.
+fn with_sizes<'a>(alloc: Global, command: Command<'a>) -> Result<Command<'a>, AllocError>
+    ensures { IfOk result (λ new. app_of new ≡ with_rules (app_of command.entry) size_rules) }
+{
+    command
         .arg(option(alloc, "capacity", "How many bytes it holds; 1M if left out"))?
         .arg(option(
             alloc,
@@ -161,7 +185,14 @@ fn command<'a>(alloc: Global) -> Result<Command<'a>, Error>
             alloc,
             "start-at",
             "How full it is, in percent, before it writes, also once it ran dry",
-        ))?
+        ))
+}
+
+// The command takes the names of files, and how they are written.
+fn with_files<'a>(alloc: Global, command: Command<'a>) -> Result<Command<'a>, AllocError>
+    ensures { IfOk result (λ new. app_of new ≡ with_rules (app_of command.entry) file_rules) }
+{
+    command
         .arg(file_option(alloc, "input", 'i', "Reads this file; - is standard input"))?
         .arg(file_option(
             alloc,
@@ -175,23 +206,7 @@ fn command<'a>(alloc: Global) -> Result<Command<'a>, Error>
             alloc,
             "fsync",
             "Ends once the files that are named are on their devices",
-        ))?
-        .arg(option(
-            alloc,
-            "skip",
-            "How many bytes of the input it leaves out; it reads them",
-        ))?
-        .arg(option(
-            alloc,
-            "stop-after",
-            "How many bytes it reads at most, after those that it leaves out",
-        ))?
-        .arg(flag(
-            alloc,
-            "append",
-            "Writes behind the bytes that files hold, also with --force",
-        ))?;
-    Ok(command)
+        ))
 }
 
 fn flag<'a>(alloc: Global, name: &'a str, help: &'a str) -> Arg<'a>
