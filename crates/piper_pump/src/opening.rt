@@ -62,7 +62,7 @@ pub(crate) struct Opened<F: NamedFile> {
 /// input, standard error or another output; one that holds bytes, unless such files are taken; and
 /// files that can't be told from one another.
 /// Returns what the system reports of what is read, and of what is written.
-pub fn open_files<R, F, S, D>(
+pub(crate) fn open_files<R, F, S, D>(
     rt: &R,
     arguments: &Arguments<'_>,
     rate: Option<usize>,
