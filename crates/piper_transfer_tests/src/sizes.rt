@@ -113,6 +113,8 @@ const NONE: Texts<'static> = Texts {
     start_at: None,
     input: None,
     output: None,
+    skip: None,
+    stop_after: None,
 };
 
 fn refused<H: Abort + AllocGlobal>(rt: &H, texts: Texts<'_>, option: &str, range: &str) {
@@ -140,6 +142,16 @@ fn a_number_that_is_refused_is_told_with_those_that_are_taken(rt: HostRuntime) {
     let range =
         "a size is a number of bytes from 0 to 9223372036854775807, as 4096, 64K, 16m or 2GiB";
     refused(&rt, size, "--size <N>", range);
+    let skip = Texts {
+        skip: Some("-1"),
+        ..NONE
+    };
+    refused(&rt, skip, "--skip <N>", range);
+    let most = Texts {
+        stop_after: Some("1.5M"),
+        ..NONE
+    };
+    refused(&rt, most, "--stop-after <N>", range);
     let level = Texts {
         start_at: Some("101"),
         ..NONE
