@@ -8739,7 +8739,7 @@ start:
   store ptr %r8, ptr %r3, align 8
   %r9 = load ptr, ptr %r2, align 8, !noundef !1
   %r10 = load ptr, ptr %r3, align 8, !noundef !1
-  call void @"piper_ring::ends::reader::ReadEnd::hear"(ptr %r9, ptr %r10)
+  call void @"piper_ring::ends::reader::ReadEnd::observe_stored"(ptr %r9, ptr %r10)
   store ptr %a0, ptr %r4, align 8
   %r11 = load ptr, ptr %r4, align 8, !noundef !1
   call void @"piper_ring::ends::reader::ReadEnd::load_tail"(ptr %r11)
@@ -8764,7 +8764,7 @@ start:
 }
 
 ; Function Attrs: nounwind
-define internal void @"piper_ring::ends::reader::ReadEnd::hear"(ptr noundef %a0, ptr noundef %a1) #0 {
+define internal void @"piper_ring::ends::reader::ReadEnd::observe_stored"(ptr noundef %a0, ptr noundef %a1) #0 {
 start:
   %r0 = alloca ptr, align 8
   %r1 = getelementptr i8, ptr %a0, i64 8
