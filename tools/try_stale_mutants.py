@@ -1,18 +1,20 @@
 #!/usr/bin/env python3
 """Tries mutants whose verdict is stale, for some minutes, and keeps what the prover says of them.
 
-    tools/try_stale_mutants.py [MINUTES]
+    tools/try_stale_mutants.py [MINUTES [JOBS]]
 
-With no number it takes three minutes. It tries those of crates that a check has proved here (out/ keeps the
-proofs), the cheapest first, each in a copy over those proofs, and ends in time: a try that is cut off
-counts as none. The last line is 'stale mutants: N tried, M left'. The status is 1 where one is not refused.
+With no number it takes three minutes, and tries one at a time. It tries those of crates that a check has proved
+here (out/ keeps the proofs), the cheapest first, each in a copy over those proofs, and ends in time: a try that
+is cut off counts as none. The last line is 'stale mutants: N tried, M left'. The status is 1 if one is not refused.
 """
 import re
 import shutil
 import subprocess
 import sys
 import tempfile
+import threading
 import time
+from concurrent.futures import ThreadPoolExecutor
 from pathlib import Path
 
 sys.dont_write_bytecode = True  # nothing of ours beside the tools
@@ -23,6 +25,8 @@ MINUTES = TOP / "docs/speed/proofs.tsv"
 PLACE = re.compile(r"(?:note: )?\S+:\d+:\d+:")
 # What `rt must-fail` says of a proof file that names what the mutant takes away.
 NAMES = re.compile(r"(?:\./)?proofs/.*(?:has no field|is not in scope|has no `|was not admitted)")
+
+ONE_WRITES = threading.Lock()
 
 
 def minutes():
@@ -96,28 +100,37 @@ def tried(edit, crate, seconds):
     return verdicts.refusal(others[0]) if others else verdicts.REFUSED
 
 
+def try_in_turn(order, left, end, count):
+    """Tries what is next in `order`, over and over, in a copy of its own. It counts the verdicts by kind."""
+    with tempfile.TemporaryDirectory(prefix="stale-") as room:
+        copied(Path(room))
+        while order and time.monotonic() < end:
+            crate, name = key = order.pop(0)
+            with_kept(Path(room), crate)
+            what = tried(left[key], Path(room) / "crates" / crate, max(end - time.monotonic(), 0))
+            if what is None:
+                return
+            with ONE_WRITES:
+                verdicts.keep({key: what}, Path(room))
+                print(f"{crate}/{name}: {what}", flush=True)
+                count.append(what.startswith(verdicts.REFUSED))
+
+
 def main(words):
-    if len(words) > 1 or words and not re.fullmatch(r"\d+(\.\d+)?", words[0]):
+    if len(words) > 2 or not all(re.fullmatch(r"\d+(\.\d+)?", it) for it in words):
         print(__doc__, file=sys.stderr)
         return 2
     end = time.monotonic() + 60 * float(words[0] if words else 3)
+    jobs = int(words[1]) if len(words) > 1 else 1
     cost, left = minutes(), verdicts.stale()
     order = sorted((key for key in left if is_proved(key[0])), key=lambda key: (cost.get(key[0], 9), key))
-    count, wrong = 0, 0
-    with tempfile.TemporaryDirectory(prefix="stale-") as room:
-        copied(Path(room))
-        for crate, name in order:
-            with_kept(Path(room), crate)
-            folder = Path(room) / "crates" / crate
-            what = tried(left[crate, name], folder, max(end - time.monotonic(), 0))
-            if what is None:
-                break
-            verdicts.keep({(crate, name): what}, Path(room))
-            print(f"{crate}/{name}: {what}", flush=True)
-            count += 1
-            wrong += not what.startswith(verdicts.REFUSED)
-    print(f"stale mutants: {count} tried, {len(left) - count} left")
-    return 1 if wrong else 0
+    are_refused = []
+    with ThreadPoolExecutor(jobs) as pool:
+        runs = [pool.submit(try_in_turn, order, left, end, are_refused) for _ in range(jobs)]
+    for run in runs:
+        run.result()
+    print(f"stale mutants: {len(are_refused)} tried, {len(left) - len(are_refused)} left")
+    return 0 if all(are_refused) else 1
 
 
 if __name__ == "__main__":

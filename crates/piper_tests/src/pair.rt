@@ -30,6 +30,10 @@ pub(crate) enum Act<'a> {
     Consume(usize),
     PollReader(Polled),
     PollWriter(Polled),
+    /// A poll of the reader by the writer's task.
+    PollReaderElsewhere(Polled),
+    /// A poll of the writer by the reader's task.
+    PollWriterElsewhere(Polled),
     /// `poll_fill_bytes` of these bytes takes so many, or is pending.
     PollFill(&'a [u8], Option<usize>),
     /// `poll_drain_bytes` into so many places, of 16, gives these bytes, or is pending.
@@ -207,6 +211,18 @@ fn writer_of<'a>(rt: &impl Abort, owned: &'a mut Option<OwnedWriter>) -> &'a mut
     }
 }
 
+/// A poll of the reader by this task.
+fn poll_reader(rt: &impl Abort, reader: &mut Option<OwnedReader>, task: &MockTask) -> Polled {
+    let reader = reader_of(rt, reader);
+    told(rt, task.enter(|cx| reader.poll(cx)))
+}
+
+/// A poll of the writer by this task.
+fn poll_writer(rt: &impl Abort, writer: &mut Option<OwnedWriter>, task: &MockTask) -> Polled {
+    let writer = writer_of(rt, writer);
+    told(rt, task.enter(|cx| writer.poll(cx)))
+}
+
 /// Makes these acts with a new pipe.
 pub(crate) fn plays(
     rt: &(impl Abort + RandomSource + AllocGlobal),
@@ -315,8 +331,14 @@ impl Pair {
                 bytes.len(),
             ),
             Act::Consume(amount) => same(rt, &index, consume(reader_of(rt, reader), amount), true),
-            Act::PollReader(want) => same(rt, &index, self.poll_reader(rt), want),
-            Act::PollWriter(want) => same(rt, &index, self.poll_writer(rt), want),
+            Act::PollReader(want) => same(rt, &index, poll_reader(rt, reader, &self.reading), want),
+            Act::PollWriter(want) => same(rt, &index, poll_writer(rt, writer, &self.writing), want),
+            Act::PollReaderElsewhere(want) => {
+                same(rt, &index, poll_reader(rt, reader, &self.writing), want);
+            }
+            Act::PollWriterElsewhere(want) => {
+                same(rt, &index, poll_writer(rt, writer, &self.reading), want);
+            }
             Act::PollFill(bytes, want) => same(rt, &index, self.poll_fill(rt, bytes), want),
             Act::PollDrain(most, want) => self.poll_drain(rt, index, most, want),
             Act::FillFromSlice(bytes, left) => self.fill_from_slice(rt, index, bytes, left),
@@ -330,16 +352,6 @@ impl Pair {
             Act::Unread(want) => self.has_unread(rt, index, want),
             Act::Closed(want) => self.is_closed(rt, index, want),
         }
-    }
-
-    fn poll_reader(&mut self, rt: &impl Abort) -> Polled {
-        let reader = reader_of(rt, &mut self.reader);
-        told(rt, self.reading.enter(|cx| reader.poll(cx)))
-    }
-
-    fn poll_writer(&mut self, rt: &impl Abort) -> Polled {
-        let writer = writer_of(rt, &mut self.writer);
-        told(rt, self.writing.enter(|cx| writer.poll(cx)))
     }
 
     fn poll_fill(&mut self, rt: &impl Abort, bytes: &[u8]) -> Option<usize> {

@@ -100,3 +100,28 @@ fn a_writer_that_closes_wakes_its_own_task(rt: HostRuntime) {
     let acts = &[Act::CloseElsewhere, Act::WriterIsWoken(true)];
     is_woken_by(&rt, WRITER_WAITS, acts, WRITER_ENDS);
 }
+
+/// If another task polls, its waker takes the place of the one that lies there. The task that is
+/// displaced is woken at once, and the other when there is something to do.
+#[test]
+fn the_task_that_polled_last_is_woken(rt: HostRuntime) {
+    let reader = &[
+        Act::PollReader(Polled::Pending),
+        Act::PollReaderElsewhere(Polled::Pending),
+        Act::ReaderIsWoken(true),
+        Act::WriterIsWoken(false),
+        Act::Fill(b"a", 1),
+        Act::WriterIsWoken(true),
+    ];
+    let writer = &[
+        Act::Fill(b"a", 1),
+        Act::PollWriter(Polled::Pending),
+        Act::PollWriterElsewhere(Polled::Pending),
+        Act::WriterIsWoken(true),
+        Act::ReaderIsWoken(false),
+        Act::Drain(4, b"a"),
+        Act::ReaderIsWoken(true),
+    ];
+    plays(&rt, 1, reader);
+    plays(&rt, 1, writer);
+}
