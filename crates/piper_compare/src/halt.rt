@@ -10,7 +10,7 @@ use std::alloc::AllocError;
 /// Why a script is not played on.
 #[derive(Clone, Copy)]
 pub enum Halt {
-    /// For a reason for which the machine stops, too.
+    /// For a reason for which the machine stops as well.
     Script(Stop),
     /// A line asks for what only the machine can play.
     OnlyMachine,

@@ -84,7 +84,7 @@ impl<H: RandomSource + AllocGlobal + Drop> Hands<H> {
         self.play_any(command, reply)
     }
 
-    /// Runs the command, also such a lend, and writes what it prints.
+    /// Runs the command, even such a lend, and writes what it prints.
     pub fn play_any(&mut self, command: Command, reply: &mut Reply) -> Result<(), Halt> {
         if self.is_only_machine(&command) {
             return Err(Halt::OnlyMachine);

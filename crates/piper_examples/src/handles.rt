@@ -1,4 +1,4 @@
-//! What both handles of a pipe do. An owner, as `owned_pipe` gives it, has all of it, too. Each
+//! What both handles of a pipe do. An owner, as `owned_pipe` gives it, has the same calls. Each
 //! example leaves the pipe empty.
 use crate::compare::{confirm, ready, same, same_bytes};
 use futures::task::Context;

@@ -98,7 +98,8 @@ module _ {R : Type 0} (taken : R → List ℕ) (saw told : R → Bool) (woken : 
   abbrev pub ReadSome : R → List ℕ → Result (R × Vec ℕ Global × ℕ) (Failed (R × Vec ℕ Global))
       → Type 0
   ReadSome r places (Ok done) =
-      Reads {E = PipeError} (Ready (Ok done.2)) places done.1.items (taken r) (taken done.0) (saw done.0)
+      Reads {E = PipeError} (Ready (Ok done.2)) places done.1.items
+          (taken r) (taken done.0) (saw done.0)
       × ReaderStays told woken r done.0
   ReadSome r places (Err failed) =
       (taken failed.left.0 ≡ taken r) × (failed.left.1.items ≡ places)

@@ -60,7 +60,8 @@ module _ {W : Type 0} (sent : W → List ℕ) (saw : W → Bool) (woken : W → 
   -- from one state of the writer to another the bytes were sent that are between these two counts
   abbrev pub WritesOn : List ℕ → W → ℕ → W → ℕ → Type 0
   WritesOn bytes w0 n0 w1 n1 =
-      (n1 ≤ length bytes) × Sends (drop n0 bytes) (drop n1 bytes) (sent w0) (sent w1) (saw w0) (saw w1)
+      (n1 ≤ length bytes)
+      × Sends (drop n0 bytes) (drop n1 bytes) (sent w0) (sent w1) (saw w0) (saw w1)
       × WriterStays saw woken w0 w1
 
   -- all were written, or the pipe was seen closed; or the writer failed

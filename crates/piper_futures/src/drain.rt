@@ -60,7 +60,8 @@ impl<R: AsyncBufRead + Drop, D: Write + Drop> Future for Draining<R, D> {
         ensures value { IfReady result
             (GivesDrained R.taken R.known R.saw R.told R.woken R.fails D.contents self.old) }
         ensures again { OnPending result (IsSome (drain_ends self.new)) }
-        ensures same { OnPending result ((x : _) → GivesDrained R.taken R.known R.saw R.told R.woken R.fails D.contents self.new x
+        ensures same { OnPending result ((x : _) →
+            GivesDrained R.taken R.known R.saw R.told R.woken R.fails D.contents self.new x
             → GivesDrained R.taken R.known R.saw R.told R.woken R.fails D.contents self.old x) }
         ensures registered { OnPending result (Covers cx.new (Needs R.needs (drain_ends self.new))) }
         ensures waits { OnPending result (WaitsOrTook R.taken R.known R.told R.waits

@@ -170,11 +170,12 @@ impl<W: AsyncFill + Drop, S: Read + Drop> Future for Filling<W, S> {
         ensures value { IfReady result
             (GivesFilled W.sent W.saw W.woken W.fails S.remaining self.old) }
         ensures again { OnPending result (IsSome (fill_ends self.new)) }
-        ensures same { OnPending result ((x : _) → GivesFilled W.sent W.saw W.woken W.fails S.remaining self.new x
+        ensures same { OnPending result ((x : _) →
+            GivesFilled W.sent W.saw W.woken W.fails S.remaining self.new x
             → GivesFilled W.sent W.saw W.woken W.fails S.remaining self.old x) }
         ensures registered { OnPending result (Covers cx.new (Needs W.needs (fill_ends self.new))) }
-        ensures waits { OnPending result (IsSomeAnd (fill_ends self.old) (λ a. IsSomeAnd (fill_ends self.new)
-            (λ b. FillWaits W.sent W.saw W.waits a.0 b.0 cx.new))) }
+        ensures waits { OnPending result (IsSomeAnd (fill_ends self.old) (λ a.
+            IsSomeAnd (fill_ends self.new) (λ b. FillWaits W.sent W.saw W.waits a.0 b.0 cx.new))) }
         ensures kept { Keeps cx.old cx.new }
     {
         let Some((writer, source)) = &mut self.state else {

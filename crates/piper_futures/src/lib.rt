@@ -1,6 +1,6 @@
 //! Futures over any reader that lends, and over any writer, named as in `futures` and `tokio`.
 //!
-//! Each owns its ends and gives them back, also if it fails: pass `&mut` to keep one.
+//! Each owns its ends and gives them back, even if it fails: pass `&mut` to keep one.
 //! [`write_all_and_close`] alone drops its writer. If a future is dropped before it is ready, it
 //! drops its ends and the bytes that it gathered.
 #![tactic(auto)]

@@ -57,7 +57,8 @@ impl<R: AsyncBufRead + Drop> Future for ReadToEnd<R> {
         ensures value { IfReady result
             (GivesAll R.taken R.known R.saw R.told R.woken R.fails self.old) }
         ensures again { OnPending result (IsSome (all_ends self.new)) }
-        ensures same { OnPending result ((x : _) → GivesAll R.taken R.known R.saw R.told R.woken R.fails self.new x
+        ensures same { OnPending result ((x : _) →
+            GivesAll R.taken R.known R.saw R.told R.woken R.fails self.new x
             → GivesAll R.taken R.known R.saw R.told R.woken R.fails self.old x) }
         ensures registered { OnPending result (Covers cx.new (Needs R.needs (all_ends self.new))) }
         ensures waits { OnPending result (WaitsOrTook R.taken R.known R.told R.waits

@@ -47,7 +47,8 @@ impl<R: AsyncRead + Drop> Future for ReadOnce<R> {
         ensures value { IfReady result
             (GivesOnce R.taken R.saw R.told R.woken R.fails self.old) }
         ensures again { OnPending result (IsSome (once_ends self.new)) }
-        ensures same { OnPending result ((x : _) → GivesOnce R.taken R.saw R.told R.woken R.fails self.new x
+        ensures same { OnPending result ((x : _) →
+            GivesOnce R.taken R.saw R.told R.woken R.fails self.new x
             → GivesOnce R.taken R.saw R.told R.woken R.fails self.old x) }
         ensures registered { OnPending result (Covers cx.new (Needs R.needs (once_ends self.new))) }
         ensures waits { OnPending result (Waits R.waits (once_ends self.new) cx.new) }

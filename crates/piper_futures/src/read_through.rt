@@ -62,7 +62,8 @@ impl<R: AsyncBufRead + Drop> Future for ReadUntil<R> {
         ensures value { IfReady result
             (GivesThrough R.taken R.known R.saw R.told R.woken R.fails self.old) }
         ensures again { OnPending result (IsSome (until_ends self.new)) }
-        ensures same { OnPending result ((x : _) → GivesThrough R.taken R.known R.saw R.told R.woken R.fails self.new x
+        ensures same { OnPending result ((x : _) →
+            GivesThrough R.taken R.known R.saw R.told R.woken R.fails self.new x
             → GivesThrough R.taken R.known R.saw R.told R.woken R.fails self.old x) }
         ensures registered { OnPending result (Covers cx.new (Needs R.needs (until_ends self.new))) }
         ensures waits { OnPending result (WaitsOrTook R.taken R.known R.told R.waits

@@ -54,7 +54,8 @@ impl<R: AsyncBufRead + Drop> Future for ReadExact<R> {
         ensures value { IfReady result
             (GivesExact R.taken R.known R.saw R.told R.woken R.fails self.old) }
         ensures again { OnPending result (WantsMore self.new) }
-        ensures same { OnPending result ((x : _) → GivesExact R.taken R.known R.saw R.told R.woken R.fails self.new x
+        ensures same { OnPending result ((x : _) →
+            GivesExact R.taken R.known R.saw R.told R.woken R.fails self.new x
             → GivesExact R.taken R.known R.saw R.told R.woken R.fails self.old x) }
         ensures registered { OnPending result (Covers cx.new (Needs R.needs (exact_ends self.new))) }
         ensures waits { OnPending result (Waits R.waits (exact_ends self.new) cx.new

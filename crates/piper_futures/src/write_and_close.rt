@@ -23,7 +23,7 @@ pub struct WriteAllAndClose<'a, W> {
 
 /// Writes all bytes, in order, and closes the writer's pipe.
 ///
-/// Once it is ready it has dropped the writer, also if a write or the close failed: the other side
+/// Once it is ready it has dropped the writer, even if a write or the close failed: the other side
 /// of an owned writer then gets its end, while a `join` still holds what this future gave. If the
 /// writer is a `&mut` and the future fails, its pipe may still be open.
 ///

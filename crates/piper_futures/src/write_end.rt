@@ -62,7 +62,8 @@ impl<W: AsyncWrite + Drop> Future for Flushing<W> {
         ensures value { IfReady result
             (GivesFlushed W.sent W.saw W.woken W.fails W.flushed self.old) }
         ensures again { OnPending result (IsSome (flush_end self.new)) }
-        ensures same { OnPending result ((x : _) → GivesFlushed W.sent W.saw W.woken W.fails W.flushed self.new x
+        ensures same { OnPending result ((x : _) →
+            GivesFlushed W.sent W.saw W.woken W.fails W.flushed self.new x
             → GivesFlushed W.sent W.saw W.woken W.fails W.flushed self.old x) }
         ensures registered { OnPending result (Covers cx.new (λ s. IsSomeAnd (flush_end self.new)
             (λ writer. W.needs writer s))) }
@@ -98,7 +99,8 @@ impl<W: AsyncWrite + Drop> Future for Closing<W> {
         ensures value { IfReady result
             (GivesClosed W.sent W.saw W.woken W.fails W.flushed self.old) }
         ensures again { OnPending result (IsSome (close_end self.new)) }
-        ensures same { OnPending result ((x : _) → GivesClosed W.sent W.saw W.woken W.fails W.flushed self.new x
+        ensures same { OnPending result ((x : _) →
+            GivesClosed W.sent W.saw W.woken W.fails W.flushed self.new x
             → GivesClosed W.sent W.saw W.woken W.fails W.flushed self.old x) }
         ensures registered { OnPending result (Covers cx.new (λ s. IsSomeAnd (close_end self.new)
             (λ writer. W.needs writer s))) }

@@ -54,7 +54,8 @@ impl<W: AsyncWrite + Drop> Future for WriteAll<'_, W> {
             (GivesWritten W.sent W.saw W.woken W.fails self.old) }
         ensures again { OnPending result (WritesWithin self.new) }
         ensures left { OnPending result (HasLeft self.new) }
-        ensures same { OnPending result ((x : _) → GivesWritten W.sent W.saw W.woken W.fails self.new x
+        ensures same { OnPending result ((x : _) →
+            GivesWritten W.sent W.saw W.woken W.fails self.new x
             → GivesWritten W.sent W.saw W.woken W.fails self.old x) }
         ensures registered { OnPending result (Covers cx.new (λ s. IsSomeAnd (write_end self.new)
             (λ writer. W.needs writer s))) }

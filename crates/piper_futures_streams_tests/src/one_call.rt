@@ -1,5 +1,5 @@
 //! How many calls it takes to move what lies in one piece. No clause tells how often a reader or a
-//! writer is called, so that a body which moves a byte a call would be proved, too.
+//! writer is called, so that a body which moves a byte a call would be proved.
 use crate::compare::same;
 use crate::running::ends;
 use futures::task::{Context, Poll};

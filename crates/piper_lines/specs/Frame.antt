@@ -5,7 +5,8 @@ use Rattle.piper_lines.specs.declared.header.FrameHeader.{FrameHeader}
 
 -- the whole header of a frame, which reports n
 abbrev pub EncodesLength : FrameHeader → List ℕ → ℕ → Type 0
-EncodesLength format header n = (length header ≡ header_size format) × (encoded_length format header ≡ n)
+EncodesLength format header n =
+    (length header ≡ header_size format) × (encoded_length format header ≡ n)
 
 -- nothing of a frame is kept, and none of a skipped one has still to pass
 abbrev pub IsBetweenFrames : List ℕ → List ℕ → ℕ → Type 0

@@ -1,6 +1,6 @@
-//! Tests of what carries streams over the pipe: lines and frames, and the duplex stream with its echo;
-//! and of the replayer, which reads and writes streams, too. They are a crate of their own, so that
-//! these crates are proved once.
+//! Tests of what carries streams over the pipe: lines and frames, the duplex stream with its echo,
+//! and the replayer, which reads and writes streams. They are a crate of their own, so that these
+//! crates are proved once.
 #![tactic(auto)]
 
 #[cfg(test)]

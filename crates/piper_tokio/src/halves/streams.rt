@@ -132,7 +132,7 @@ impl tokio::io::AsyncBufRead for CompatReader {
     /// Takes the first `amount` bytes of what `buffer` shows.
     ///
     /// Requires: `amount` is at most the length of what `buffer` shows.
-    /// Wakes: the writer, if it waits, also if `amount` is 0.
+    /// Wakes: the writer, if it waits, even if `amount` is 0.
     fn consume(&mut self, amount: usize)
         requires { amount ≤ length (shown_by self.old) }
         ensures bytes { Took (handle_of self.old) (take amount (shown_by self.old))
