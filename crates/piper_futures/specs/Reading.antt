@@ -99,7 +99,7 @@ module _ {R : Type 0} (taken : R → List ℕ) (saw told : R → Bool) (woken : 
       → Type 0
   ReadSome r places (Ok done) =
       Reads {E = PipeError} (Ready (Ok done.2)) places done.1.items
-          (taken r) (taken done.0) (saw done.0)
+      (taken r) (taken done.0) (saw done.0)
       × ReaderStays told woken r done.0
   ReadSome r places (Err failed) =
       (taken failed.left.0 ≡ taken r) × (failed.left.1.items ≡ places)

@@ -98,14 +98,13 @@ pub fn poll_drain_into<R: AsyncBufRead, D: Write>(
     ensures drains { DrainsOn (R.taken reader.old) (R.taken reader.new)
         (D.contents dest.old) (D.contents dest.new) }
     ensures ended { result ≡ Poll.Ready (Ok (record {})) →
-        AtEnd (R.known reader.new) (R.saw reader.new) }
-    ensures ends { result ≡ Poll.Ready (Ok (record {})) → R.ended reader.new }
+        AtEnd (R.known reader.new) (R.saw reader.new) × R.ended reader.new }
     ensures error { IfReadyErr result (λ e. R.fails reader.new cx.new e
         ⊎ (IsOfWrite e × (0 < length (R.known reader.new)))) }
     ensures stays { ReaderStays R.told R.woken reader.old reader.new }
-    ensures pends { OnPending result (Pends R.known R.told R.waits reader.new
+    ensures pending { OnPending result (Covers cx.new (R.needs reader.new)
+        × Pends R.known R.told R.waits reader.new
         (WentOn (length (R.taken reader.old)) (length (R.taken reader.new))) cx.new) }
-    ensures covered { OnPending result (Covers cx.new (R.needs reader.new)) }
     ensures kept { Keeps cx.old cx.new }
 {
     for _ in 0..MOST_PIECES {

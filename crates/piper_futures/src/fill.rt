@@ -41,9 +41,9 @@ pub trait AsyncFill: AsyncWrite {
     ) -> Poll<Result<Copied, PipeError>>
         ensures fills { FillsOn (S.remaining source.old) (S.remaining source.new)
             (Self.sent self.old) (Self.sent self.new) (Self.saw self.old) (Self.saw self.new) }
-        ensures ended { result ≡ Poll.Ready (Ok Copied.ToTheEnd) →
-            IsAtEnd (S.remaining source.new) }
-        ensures closed { result ≡ Poll.Ready (Ok Copied.UntilClosed) → Self.saw self.new ≡ true }
+        ensures ended { (result ≡ Poll.Ready (Ok Copied.ToTheEnd) →
+            IsAtEnd (S.remaining source.new))
+            × (result ≡ Poll.Ready (Ok Copied.UntilClosed) → Self.saw self.new ≡ true) }
         ensures error { IfReadyErr result (λ e. Self.fails self.new cx.new e ⊎ IsIo e) }
         ensures pending { OnPending result (Covers cx.new (Self.needs self.new)
             × FillWaits Self.sent Self.saw Self.waits self.old self.new cx.new) }
@@ -59,9 +59,9 @@ impl AsyncFill for Writer {
     ) -> Poll<Result<Copied, PipeError>>
         ensures fills { FillsOn (S.remaining source.old) (S.remaining source.new)
             (sent self.old) (sent self.new) (saw self.old) (saw self.new) }
-        ensures ended { result ≡ Poll.Ready (Ok Copied.ToTheEnd) →
-            IsAtEnd (S.remaining source.new) }
-        ensures closed { result ≡ Poll.Ready (Ok Copied.UntilClosed) → saw self.new ≡ true }
+        ensures ended { (result ≡ Poll.Ready (Ok Copied.ToTheEnd) →
+            IsAtEnd (S.remaining source.new))
+            × (result ≡ Poll.Ready (Ok Copied.UntilClosed) → saw self.new ≡ true) }
         ensures error { IfReadyErr result (λ e. WantsWaker cx.new e ⊎ IsIo e) }
         ensures pending { OnPending result (Covers cx.new (λ s. s ≡ write_source self.new)
             × FillWaits sent saw WriterIsWaiting self.old self.new cx.new) }
@@ -107,9 +107,9 @@ impl AsyncFill for OwnedWriter {
     ) -> Poll<Result<Copied, PipeError>>
         ensures fills { FillsOn (S.remaining source.old) (S.remaining source.new)
             (sent self.old) (sent self.new) (saw self.old) (saw self.new) }
-        ensures ended { result ≡ Poll.Ready (Ok Copied.ToTheEnd) →
-            IsAtEnd (S.remaining source.new) }
-        ensures closed { result ≡ Poll.Ready (Ok Copied.UntilClosed) → saw self.new ≡ true }
+        ensures ended { (result ≡ Poll.Ready (Ok Copied.ToTheEnd) →
+            IsAtEnd (S.remaining source.new))
+            × (result ≡ Poll.Ready (Ok Copied.UntilClosed) → saw self.new ≡ true) }
         ensures error { IfReadyErr result (λ e. WantsWaker cx.new e ⊎ IsIo e) }
         ensures pending { OnPending result (Covers cx.new (λ s. s ≡ write_source self.new)
             × FillWaits sent saw WriterIsWaiting self.old self.new cx.new) }

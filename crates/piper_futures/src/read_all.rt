@@ -99,9 +99,9 @@ pub fn poll_read_to_end<R: AsyncBufRead>(
     ensures error { IfReadyErr result (λ e. IsReported e (R.fails reader.new cx.new)
         (LacksSpace (vec_capacity bytes.old) bytes.new.items (R.known reader.new))) }
     ensures stays { ReaderStays R.told R.woken reader.old reader.new }
-    ensures pends { OnPending result (Pends R.known R.told R.waits reader.new
+    ensures pending { OnPending result (Covers cx.new (R.needs reader.new)
+        × Pends R.known R.told R.waits reader.new
         (WentOn (length (R.taken reader.old)) (length (R.taken reader.new))) cx.new) }
-    ensures covered { OnPending result (Covers cx.new (R.needs reader.new)) }
     ensures kept { Keeps cx.old cx.new }
 {
     for _ in 0..MOST_PIECES {

@@ -160,9 +160,9 @@ impl<R: AsyncBufRead> Frames<R> {
             (WentOn (length (R.taken (reader_of self.old))) (length (R.taken (reader_of self.new))))
             cx.new × LacksBytes (format_of self.old) (skips_of self.old)
             (header_of self.new) (body_of self.new)) }
-        ensures kept { Keeps cx.old cx.new }
         ensures rest { (format_of self.new ≡ format_of self.old)
-            × ReaderStays R.told R.woken (reader_of self.old) (reader_of self.new) }
+            × ReaderStays R.told R.woken (reader_of self.old) (reader_of self.new)
+            × Keeps cx.old cx.new }
     {
         frame.clear();
         match pass_over(&mut self.reader, cx, &mut self.to_skip) {

@@ -31,8 +31,8 @@ pub fn fill_up<R: AsyncBufRead>(
     requires { length gathered.old.items ≤ size }
     ensures grown { Grows (R.taken reader.old) (R.taken reader.new)
         gathered.old.items gathered.new.items }
-    ensures within { length gathered.new.items ≤ size }
-    ensures full { result ≡ Poll.Ready (Ok true) → length gathered.new.items ≡ size }
+    ensures within { (length gathered.new.items ≤ size)
+        × (result ≡ Poll.Ready (Ok true) → length gathered.new.items ≡ size) }
     ensures ended { result ≡ Poll.Ready (Ok false) → (length gathered.new.items < size)
         × AtEnd (R.known reader.new) (R.saw reader.new) × R.ended reader.new }
     ensures after { R.ended reader.old → R.ended reader.new

@@ -130,9 +130,9 @@ impl<R: AsyncBufRead> Lines<R> {
             (LacksRoom limit (room_of self.old) (kept_of self.new) (R.known (reader_of self.new)))) }
         ensures pending { OnPending result (Covers cx.new (R.needs (reader_of self.new))
             × WaitsForBytes R.known R.told R.waits (reader_of self.new) cx.new) }
-        ensures kept { Keeps cx.old cx.new }
         ensures rest { (end_of self.new ≡ end_of self.old)
-            × ReaderStays R.told R.woken (reader_of self.old) (reader_of self.new) }
+            × ReaderStays R.told R.woken (reader_of self.old) (reader_of self.new)
+            × Keeps cx.old cx.new }
     {
         line.clear();
         mem::swap(line, &mut self.kept);

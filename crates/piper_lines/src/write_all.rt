@@ -37,10 +37,10 @@ pub fn poll_write_all<W: AsyncWrite>(
     written: &mut usize,
 ) -> Poll<Result<Written, PipeError>>
     requires { written.old ≤ length bytes.now }
-    ensures within { written.new ≤ length bytes.now }
+    ensures within { (written.new ≤ length bytes.now)
+        × (result ≡ Poll.Ready (Ok Written.Whole) → written.new ≡ length bytes.now) }
     ensures sends { Sends (drop written.old bytes.now) (drop written.new bytes.now)
         (W.sent writer.old) (W.sent writer.new) (W.saw writer.old) (W.saw writer.new) }
-    ensures whole { result ≡ Poll.Ready (Ok Written.Whole) → written.new ≡ length bytes.now }
     ensures closed { result ≡ Poll.Ready (Ok Written.Closed) →
         (W.saw writer.new ≡ true) × (written.new < length bytes.now) }
     ensures stays { WriterStays W.saw W.woken writer.old writer.new }

@@ -98,8 +98,8 @@ impl LineEcho {
             (length (R.taken (reader_of lines.old)) < length (R.taken (reader_of lines.new)))
             cx.new) }
         ensures stays { WriterStays W.saw W.woken writer.old writer.new
-            × ReaderStays R.told R.woken (reader_of lines.old) (reader_of lines.new) }
-        ensures kept { Keeps cx.old cx.new }
+            × ReaderStays R.told R.woken (reader_of lines.old) (reader_of lines.new)
+            × Keeps cx.old cx.new }
     {
         for _ in 0..MOST_LINES {
             match poll_write_all(writer, cx, self.line.as_slice(), &mut self.written) {

@@ -46,8 +46,6 @@ pub fn poll_frames<R: AsyncBufRead>(
     ensures error { IfReadyErr result (λ e. IsReported e (R.fails (reader_of frames.new) cx.new)
         (LacksFrameRoom (format_of frames.old) limit 0 0 (header_of frames.new) (body_of frames.new)
         (R.known (reader_of frames.new)) ⊎ (vec_capacity out.old ≤ vec_len out.new))) }
-    ensures format { format_of frames.new ≡ format_of frames.old }
-    ensures stays { ReaderStays R.told R.woken (reader_of frames.old) (reader_of frames.new) }
     ensures pending { OnPending result (Covers cx.new (R.needs (reader_of frames.new))
         × Pends R.known R.told R.waits (reader_of frames.new)
         (WentOn (length out.old.items) (length out.new.items)
@@ -55,6 +53,8 @@ pub fn poll_frames<R: AsyncBufRead>(
         (length (R.taken (reader_of frames.new))))
         cx.new) }
     ensures kept { Keeps cx.old cx.new }
+    ensures rest { (format_of frames.new ≡ format_of frames.old)
+        × ReaderStays R.told R.woken (reader_of frames.old) (reader_of frames.new) }
 {
     for _ in 0..MOST_PIECES {
         if out.reserve(1).is_err() {

@@ -8,7 +8,7 @@ use Rattle.piper_lines.proofs.write_all.poll_write_both.Goals as goal
 pub returns-in-Ready-Ok-Whole-clause-sends : goal.returns-in-Ready-Ok-Whole-clause-sends
 returns-in-Ready-Ok-Whole-clause-sends g c =
     let is_whole : c.poll_write_all.result ≡ Ready (Ok Whole) = cc in
-    let whole = c.poll_write_all.ensures.whole is_whole in
+    let whole = c.poll_write_all.ensures.within.1 is_whole in
     let none : drop c.poll_write_all.new.written c.args.front.now ≡ [] = drop_all _ c.args.front.now (omega arith) in
     sends_both _ _ _ _ _ _ _ _ _ _ c.poll_write_all.ensures.sends none c.poll_write_all-in-Ready-Ok-Whole.ensures.sends
     c.poll_write_all.ensures.stays.0 c.poll_write_all-in-Ready-Ok-Whole.ensures.stays.0

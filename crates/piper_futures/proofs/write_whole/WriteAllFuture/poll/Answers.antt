@@ -6,7 +6,7 @@ use Rattle.piper_futures.proofs.write_whole.WriteAllFuture.poll.Goals as goal
 pub returns-in-Pending-clause-same : goal.returns-in-Pending-clause-same
 returns-in-Pending-clause-same g c = λ output gave.
     let on : WritesOn g.W.AsyncWrite.sent g.W.AsyncWrite.saw g.W.AsyncWrite.woken c.args.self.now.bytes.now c.in-Some.writer c.args.self.now.written c.poll_write_all.new.writer c.poll_write_all.new.written =
-    (c.poll_write_all.ensures.within, c.poll_write_all.ensures.sends, c.poll_write_all.ensures.stays) in
+    (c.poll_write_all.ensures.within.0, c.poll_write_all.ensures.sends, c.poll_write_all.ensures.stays) in
     let before = wrote_then g.W.AsyncWrite.sent g.W.AsyncWrite.saw g.W.AsyncWrite.woken g.W.AsyncWrite.fails _ _ _ _ _ on output gave in
     search rules
 

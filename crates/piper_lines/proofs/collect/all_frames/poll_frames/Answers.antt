@@ -71,7 +71,7 @@ loop-preserved g c =
       format = c.poll_frame.ensures.rest.0 ∙ c.loop.invariant.format;
       more = omega (arith, c.loop.invariant.more, ap length pushed, length-append c.loop.out.items (body ∷ []));
       stays = (c.poll_frame.ensures.rest.1.0 ∙ c.loop.invariant.stays.0, λ woken. c.poll_frame.ensures.rest.1.1 (c.loop.invariant.stays.1 woken));
-      kept = λ fact held. c.poll_frame.ensures.kept fact (c.loop.invariant.kept fact held);
+      kept = λ fact held. c.poll_frame.ensures.rest.2 fact (c.loop.invariant.kept fact held);
     }
 
 pub returns-in-Ready-Ok-TooLong-clause-ended : goal.returns-in-Ready-Ok-TooLong-clause-ended

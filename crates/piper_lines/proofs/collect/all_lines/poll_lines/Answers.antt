@@ -56,5 +56,5 @@ loop-preserved g c =
       end = c.poll_line.ensures.rest.0 ∙ c.loop.invariant.end;
       more = omega (arith, c.loop.invariant.more, ap length pushed, length-append c.loop.out.items (line ∷ []));
       stays = (c.poll_line.ensures.rest.1.0 ∙ c.loop.invariant.stays.0, λ woken. c.poll_line.ensures.rest.1.1 (c.loop.invariant.stays.1 woken));
-      kept = λ fact held. c.poll_line.ensures.kept fact (c.loop.invariant.kept fact held);
+      kept = λ fact held. c.poll_line.ensures.rest.2 fact (c.loop.invariant.kept fact held);
     }
