@@ -7,10 +7,10 @@
    aarch64, `.aqrl` or a store between its fences on riscv64), and each load one that it orders with these
    (any on x86-64, `ldar` or `ldaxr` on aarch64, one between its fences on riscv64).
 
-A word is known by its offset in the ring's block (crates/piper_ring/src/ring/memory.rt), where no other
-block is so long: one that came to be would be refused, too. Of the two words before those, the head's
-store is looked for in the calls that take bytes, and the count of sides only as an atomic change that is
-there. What a pipe's opening writes nobody else sees yet. Of each text a changed copy has to be refused.
+A word is known by its offset in the ring's block (crates/piper_ring/src/ring/memory.rt), since no other
+block is so long: one that came to be would also be refused. Two words lie before those: the head's store
+is looked for in the calls that take bytes, and the count of sides only as an atomic change that is there.
+What a pipe's opening writes nobody else sees yet. A changed copy of each text has to be refused.
 The last line is 'texts: N passed, M failed'.
 """
 import re

@@ -29,7 +29,7 @@ def without_features(text):
 
 
 def with_sections(text):
-    """Each export in a section of its own, of which a linker takes one, where a program has several copies."""
+    """Each export in a section of its own, of which a linker takes one if a program has several copies."""
     def begin(found):
         name = found[1]
         return (f'\t.section\t.text${name},"xr",discard,{name}\n' if name else "\t.text\n") + found[0]
