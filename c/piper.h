@@ -8,7 +8,7 @@
  * What a caller owes, in every call:
  * - A handle that a call takes is open: `piper_open` filled it, and it was not dropped since.
  *   `at` belongs to the pipe. A handle may be moved, and then its old place is not used again.
- * - A handle is used by one thread at a time, also by a call that takes it as const: that call only
+ * - A handle is used by one thread at a time, even by a call that takes it as const: that call only
  *   leaves the side as it was. The two handles of a pipe may be used by two threads at the same time.
  *   A handle may go to another thread, by anything that has what the one thread did happen before
  *   what the other does: a lock, a start or join of a thread, a release and an acquire.
@@ -19,12 +19,12 @@
  *   writer's to write, until another call of that side is made.
  * - No call is made from a signal handler, nor in the forked child of a process with threads.
  *
- * How long what the words name must live: for each time that they were left they come back, to this
- * side in a result's `before` or `mine`, or to the other side as `wake`; until then, and until that
- * wake is done. So if the last poll was pending, and neither a later result nor the drop gave its
- * words back, the other side's thread has them, and will still use what they name, though this side
- * was dropped. Keep it until that thread was joined, or count its holders, as piper_wait.h does. Any
- * wake may be a stale one: look again.
+ * What the words name has to live until the words come back. Each time that they were left, they come
+ * back once: to this side in a result's `before` or `mine`, or to the other side as `wake`, and then it
+ * has to live until that wake is done. If the last poll was pending, and neither a later result nor the
+ * drop gave its words back, the other side's thread has them. It will still use what they name, even
+ * after this side was dropped. Keep it until that thread was joined, or count its holders, as
+ * piper_wait.h does. Any wake may be a stale one: look again.
  *
  * Memory comes from `malloc` and goes back by `free`.
  */
