@@ -195,10 +195,14 @@ fn main() {
     writing.join().unwrap();
 }'
     local flags='-Zsanitizer=thread -Cunsafe-allow-abi-mismatch=sanitizer'
-    (cd "$room/threads" && export RUSTC_BOOTSTRAP=1
+    reports() {
         ! RUSTFLAGS=$flags offline run --target "$host" --target-dir "$room/threads/untold" 2> "$room/untold" &&
-            grep -q 'ThreadSanitizer: data race' "$room/untold" &&
-            RUSTFLAGS="$flags --cfg piper_tsan" offline run --target "$host" --target-dir "$room/threads/told")
+            grep -q 'ThreadSanitizer: data race' "$room/untold"
+    }
+    # It keeps few accesses, and on a busy machine one run in eight showed it none that race.
+    (cd "$room/threads" && export RUSTC_BOOTSTRAP=1
+        reports || reports || reports || reports || reports || { cat "$room/untold"; exit 1; }
+        RUSTFLAGS="$flags --cfg piper_tsan" offline run --target "$host" --target-dir "$room/threads/told")
 }
 
 # A build that wants only what is proved gets one error if it would get the stand-in, and else none.
