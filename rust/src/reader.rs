@@ -190,8 +190,15 @@ impl Reader {
     /// blocks the thread if `dest` does.
     ///
     /// `Ready(Ok(0))` says that the pipe is closed and all of its bytes are consumed, or that `dest`
-    /// takes none. An error of `dest` is returned as it came; what was written before it stays
-    /// consumed. Yields as [`poll_drain_bytes`](Reader::poll_drain_bytes) does.
+    /// takes none. It yields as [`poll_drain_bytes`](Reader::poll_drain_bytes) does.
+    ///
+    /// # Errors
+    ///
+    /// An error of `dest` is returned as it came; what was written before it stays consumed.
+    ///
+    /// # Panics
+    ///
+    /// If `dest` claims that it took more bytes than it was shown.
     ///
     /// ```
     /// # use futures_lite::future::{block_on, poll_fn};

@@ -187,10 +187,17 @@ impl Writer {
     /// Waits for room, and reads from `src` straight into the pipe's memory. It blocks the thread
     /// if `src` does.
     ///
-    /// `Ready(Ok(0))` says that the pipe is closed or `src` gives nothing. An error of `src` is
-    /// returned as it came; what was read before it stays published. If the reader is dropped
-    /// during a read, the bytes of that read are counted and lost. Yields as
+    /// `Ready(Ok(0))` says that the pipe is closed or `src` gives nothing. If the reader is dropped
+    /// during a read, the bytes of that read are counted and lost. It yields as
     /// [`poll_fill_bytes`](Writer::poll_fill_bytes) does.
+    ///
+    /// # Errors
+    ///
+    /// An error of `src` is returned as it came; what was read before it stays published.
+    ///
+    /// # Panics
+    ///
+    /// If `src` claims that it gave more bytes than it had room for.
     ///
     /// ```
     /// # use futures_lite::future::{block_on, poll_fn};
