@@ -105,7 +105,7 @@ def raw_texts(clang, modules):
     for target in LINUX:
         texts[target], notes[target] = linux(clang, target, modules[target])
     texts[riscv64.TARGET] = LEFT_OUT.sub("", compiled(clang, modules[LINUX[0]], riscv64.changed))
-    texts[WINDOWS] = LEFT_OUT.sub("", windows.without_features(compiled(clang, modules[LINUX[0]], windows.changed)))
+    texts[WINDOWS] = LEFT_OUT.sub("", windows.for_each_assembler(compiled(clang, modules[LINUX[0]], windows.changed)))
     return texts, notes
 
 

@@ -95,6 +95,17 @@ modules() {
     tools/compile_modules clang-22
 }
 
+# Rust 1.85, the lowest, has the assembler of LLVM 19.
+lowest() {
+    has clang-19 || { echo 'the assembler of LLVM 19: not tried'; return 2; }
+    local text target
+    for text in rust/lib/*.s; do
+        target=$(basename "$text" .s)
+        clang-19 "--target=${target/%windows/windows-gnu}" -c -o "$room/object" "$text" || return 1
+    done
+    echo 'the assembler of LLVM 19: takes each text'
+}
+
 platforms=${PIPER_PLATFORMS:-/var/tmp/piper-platforms}
 
 # The tests of Rust for another target, if its std was built before: else that would take minutes.
@@ -125,7 +136,7 @@ targets() {
     rust/targets.sh "$platforms"
 }
 
-names=(rust one_program clients c aarch64 riscv64 modules windows musl rust_aarch64 rust_riscv64 targets)
+names=(rust one_program clients c aarch64 riscv64 modules lowest windows musl rust_aarch64 rust_riscv64 targets)
 line=
 for name in "${names[@]}"; do
     try "$name" "$name"
