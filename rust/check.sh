@@ -77,8 +77,10 @@ packed_under_its_own_name() {
     named/gather.sh "$room/gathered/rust" && cp ../LICENSE-* "$room/gathered" && (cd "$room/gathered/rust" && packed piper-proved)
 }
 
-# A program takes the package by its own name, with no patch; that package has the same sources, features and dependencies.
+# A program takes the package by its own name, with no patch; that package has the same sources, version, features and dependencies.
 has_a_name_of_its_own() {
+    local alike='^(version|edition|rust-version|description|license|keywords|categories|publish|targets) = '
+    diff <(grep -E "$alike" Cargo.toml) <(grep -E "$alike" named/Cargo.toml) || return
     diff <(sed -n '/^\[features\]/,/^\[dev-dependencies\]/p' Cargo.toml | sed '/^\[dev-/d') \
         <(sed -n '/^\[features\]/,$p' named/Cargo.toml; echo) || return
     mkdir -p "$room/own/src"
