@@ -5,7 +5,7 @@
 #     rust/targets.sh FOLDER
 #
 # It downloads packages into FOLDER (web.sh), and checks std for each target, which takes a minute of processor time each. It needs
-# cargo, the sources of other packages as for check.sh, and to link ld64.lld (Debian's lld-19). The last line is
+# cargo, the sources of other packages as for check.sh, and to link ld64.lld (Debian's lld-22 or lld-19). The last line is
 # 'targets: N passed, M failed'. The status is 2 if something is missing.
 set -uo pipefail
 here=$(cd "$(dirname "$0")" && pwd)
@@ -13,7 +13,7 @@ here=$(cd "$(dirname "$0")" && pwd)
 command -v cargo > /dev/null || { echo 'targets.sh: cargo is missing' >&2; exit 2; }
 "$here/web.sh" "$1" || exit 2
 root=$(cd "$1" && pwd)
-linker=$(command -v ld64.lld-19 || command -v ld64.lld)
+linker=$(command -v ld64.lld-22 ld64.lld-19 ld64.lld | head -n 1)
 room=$(mktemp -d)
 trap 'rm -rf "$room"' EXIT
 export RUSTC=$root/rustc RUSTC_BOOTSTRAP=1 CARGO_HOME=$root/home
