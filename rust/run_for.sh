@@ -71,7 +71,7 @@ rm -rf "$own/package"
 mkdir "$own/package"
 cp -r "$here"/{Cargo.toml,src,lib,tests,README.md} "$own/package"
 rm "$own"/package/tests/{programs,examples}.rs
-awk '/^\[/ { gone = /dev-dependencies|example/ } !gone' "$here/Cargo.toml" > "$own/package/Cargo.toml"
+awk '/^\[/ { gone = /dev-dependencies/ } !gone' "$here/Cargo.toml" > "$own/package/Cargo.toml"
 printf '[dev-dependencies]\nfutures-lite = ">=1.12, <3"\n' >> "$own/package/Cargo.toml"
 
 name=${target//-/_}
