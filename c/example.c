@@ -68,7 +68,7 @@ static size_t wait_to_read(piper_reader *reader, bell *mine, const uint8_t **byt
 }
 
 /* Waits until there is room to write to, and returns how many bytes are lent at `*room`: 0, and
- * there is no loan, where the pipe is closed. */
+ * there is no loan, if the pipe is closed. */
 static size_t wait_to_write(piper_writer *writer, bell *mine, uint8_t **room) {
     for (;;) {
         piper_seen seen = piper_writer_offer(writer, SIZE_MAX, room);

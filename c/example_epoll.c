@@ -2,8 +2,8 @@
  *
  *     ./example_epoll FILE
  *
- * The loop's words are an eventfd: whoever gets them writes to it, and so the loop waits for bytes of
- * the pipe as for any other descriptor. The thread waits by piper_wait.h. */
+ * The loop's words are an eventfd: whoever gets them writes to it. Then the loop waits for bytes of
+ * the pipe as it does for any other descriptor. The thread waits by piper_wait.h. */
 #include <stdio.h>
 #include <string.h>
 #include <sys/epoll.h>
@@ -71,7 +71,7 @@ static size_t count_lines(piper_reader *reader, int bell) {
     size_t lines = 0;
     uint64_t rings;
     epoll_ctl(loop, EPOLL_CTL_ADD, bell, &event);
-    /* A real loop would wait for other descriptors here, too. */
+    /* A real loop would also wait for other descriptors here. */
     while (take_bytes(reader, bell, &lines))
         if (epoll_wait(loop, &event, 1, -1) < 0 || read(bell, &rings, sizeof rings) < 0)
             break;
@@ -95,7 +95,7 @@ int main(int argc, char **argv) {
     }
     printf("%zu\n", count_lines(&reader, bell));
     piper_wake(piper_reader_drop(&reader).wake);
-    /* The thread may hold the eventfd to the end, so it is closed behind the join. */
+    /* The thread may hold the eventfd to the end. Therefore it is closed behind the join. */
     pthread_join(thread, NULL);
     piper_waiter_free(s.waiter);
     close(bell);

@@ -8,7 +8,7 @@
  * What a caller owes, in every call:
  * - A handle that a call takes is open: `piper_open` filled it, and it was not dropped since.
  *   `at` belongs to the pipe. A handle may be moved, and then its old place is not used again.
- * - A handle is used by one thread at a time, also by a call that takes it as const: that call only
+ * - A handle is used by one thread at a time, even by a call that takes it as const: that call only
  *   leaves the side as it was. The two handles of a pipe may be used by two threads at the same time.
  *   A handle may go to another thread, by anything that has what the one thread did happen before
  *   what the other does: a lock, a start or join of a thread, a release and an acquire.
@@ -19,12 +19,12 @@
  *   writer's to write, until another call of that side is made.
  * - No call is made from a signal handler, nor in the forked child of a process with threads.
  *
- * How long what the words name must live: for each time that they were left they come back, to this
- * side in a result's `before` or `mine`, or to the other side as `wake`; until then, and until that
- * wake is done. So if the last poll was pending, and neither a later result nor the drop gave its
- * words back, the other side's thread has them, and will still use what they name, though this side
- * was dropped. Keep it until that thread was joined, or count its holders, as piper_wait.h does. Any
- * wake may be a stale one: look again.
+ * What the words name has to live until the words come back. Each time that they were left, they come
+ * back once: to this side in a result's `before` or `mine`, or to the other side as `wake`, and then it
+ * has to live until that wake is done. If the last poll was pending, and neither a later result nor the
+ * drop gave its words back, the other side's thread has them. It will still use what they name, even
+ * after this side was dropped. Keep it until that thread was joined, or count its holders, as
+ * piper_wait.h does. Any wake may be a stale one: look again.
  *
  * Memory comes from `malloc` and goes back by `free`.
  */
@@ -47,7 +47,7 @@ typedef struct {
     uintptr_t vtable;
 } piper_words;
 
-/* The side that reads. It is one pointer, null where the handle isn't open. */
+/* The side that reads. It is one pointer, null if the handle isn't open. */
 typedef struct {
     void *at;
 } piper_reader;
@@ -85,18 +85,18 @@ typedef struct {
     /* One of the five above. */
     uint32_t outcome;
     /* Words that an earlier poll of this handle left and that nobody took: they are this side's
-     * again. None where there were none. */
+     * again. They are none if there were none. */
     piper_words before;
-    /* The words of this call where they were not left, or were taken out again by the same call;
-     * none where they are still in the pipe or the other side took them. */
+    /* The words of this call if they were not left, or were taken out again by the same call;
+     * none if they are still in the pipe or the other side took them. */
     piper_words mine;
 } piper_polled;
 
 /* The result of a look, and where its bytes or its room are. */
 typedef struct {
-    /* PIPER_READY, PIPER_END, or PIPER_PENDING where there is neither now. */
+    /* PIPER_READY, PIPER_END, or PIPER_PENDING if there is neither now. */
     uint32_t outcome;
-    /* How many bytes lie in one piece, or are lent; 0 where the outcome isn't PIPER_READY. */
+    /* How many bytes lie in one piece, or are lent; 0 if the outcome isn't PIPER_READY. */
     size_t len;
 } piper_seen;
 
@@ -130,8 +130,8 @@ typedef struct {
 /* The version of the package, which is that of the `piper` whose calls the Rust crate has. */
 #define PIPER_VERSION "0.2.5"
 
-/* The version of these declarations. A pipe is opened under a name that has it, so that a program
- * which was compiled with others does not link. */
+/* The version of these declarations. A pipe is opened under a name that has it: a program
+ * that was compiled with others does not link. */
 #define PIPER_ABI 2
 #define PIPER_NAME_OF(abi) piper_open_abi_##abi
 #define PIPER_NAME(abi) PIPER_NAME_OF(abi)
@@ -158,7 +158,7 @@ uint32_t piper_open(size_t capacity, piper_reader *reader, piper_writer *writer)
 
 /* Checks for a byte, or for the end. If there is neither, leaves `mine`, checks once more, and
  * then is pending: whoever publishes bytes or closes the pipe from then on gets `mine`. It checks
- * for more bytes only where it knows of none. Every PIPER_PENDING replaces the words of the one
+ * for more bytes only if it knows of none. Every PIPER_PENDING replaces the words of the one
  * before. If the outcome is PIPER_END, words may still be in the pipe: the drop returns them. */
 piper_polled piper_reader_poll(piper_reader *reader, piper_words mine);
 
@@ -169,16 +169,16 @@ piper_seen piper_reader_look(piper_reader *reader, const uint8_t **at);
 
 /* The known bytes that lie in one piece, the next one first: puts their address into `*at` and
  * returns how many they are, at least one after a poll that was ready. The address is not null,
- * even where they are none. The bytes stay there, unchanged, until this reader's next `consume`,
+ * even if they are none. The bytes stay there, unchanged, until this reader's next `consume`,
  * `read` or `drop`; they are not to be written. */
 size_t piper_reader_peek(piper_reader *reader, const uint8_t **at);
 
 /* Takes the first `n` bytes of what `peek` gives, and gives their places back to the writer.
- * Returns who has to be woken now, if anyone, even where `n` is 0. If `n` is more than `peek` gives,
+ * Returns who has to be woken now, if anyone, even if `n` is 0. If `n` is more than `peek` gives,
  * it does nothing, and returns a refusal (`piper_is_refused`). */
 piper_words piper_reader_consume(piper_reader *reader, size_t n);
 
-/* Copies bytes to `to`, at most `len`, and takes them. It never waits: `count` is 0 only where
+/* Copies bytes to `to`, at most `len`, and takes them. It never waits: `count` is 0 only if
  * `len` is 0 or no byte was there. It may be less than `len` though more bytes are there: call
  * again until it is 0. */
 piper_moved piper_reader_read(piper_reader *reader, uint8_t *to, size_t len);
@@ -205,16 +205,16 @@ piper_left piper_reader_drop(piper_reader *reader);
 piper_polled piper_writer_poll(piper_writer *writer, piper_words mine);
 
 /* Checks for room, or for the end, and leaves no words: the outcome is PIPER_READY, PIPER_END, or
- * PIPER_PENDING where there is neither now. */
+ * PIPER_PENDING if there is neither now. */
 uint32_t piper_writer_look(piper_writer *writer);
 
 /* Lends room to be written to, at most `max` bytes in one piece: puts its address into `*at` and
- * returns how many bytes it is. It is at least one after a poll that was ready, where `max` isn't
+ * returns how many bytes it is. It is at least one after a poll that was ready, if `max` isn't
  * 0 and this side has not closed the pipe; it may be less than `max` though more room is there.
- * What is in the bytes is not said. The address is not null, even where no byte is lent.
+ * What is in the bytes is not said. The address is not null, even if no byte is lent.
  *
  * The room is the caller's to read and write until `publish`, `next` or `reclaim` takes it back.
- * One of them has to be called, even where no byte was lent, and no other call of this writer is
+ * One of them has to be called, even if no byte was lent, and no other call of this writer is
  * made before it. */
 size_t piper_writer_lend(piper_writer *writer, size_t max, uint8_t **at);
 
@@ -224,12 +224,12 @@ piper_seen piper_writer_offer(piper_writer *writer, size_t max, uint8_t **at);
 
 /* Ends the loan of the room at `at`, the address that the last lend, offer or next gave out:
  * publishes its first `n` bytes, as the caller wrote them, and takes all of it back. Returns who has
- * to be woken now, if anyone, even where `n` is 0. If `n` is more than was lent, it takes the room
+ * to be woken now, if anyone, even if `n` is 0. If `n` is more than was lent, it takes the room
  * back as `reclaim` does, and returns a refusal (`piper_is_refused`). */
 piper_words piper_writer_publish(piper_writer *writer, uint8_t *at, size_t n);
 
 /* Publishes as `publish` does, checks whether the pipe is closed, and lends as `lend` does, even
- * where it is: the address goes into `*next`. */
+ * if it is: the address goes into `*next`. */
 piper_next piper_writer_next(piper_writer *writer, uint8_t *at, size_t n, size_t max,
                              uint8_t **next);
 
@@ -237,7 +237,7 @@ piper_next piper_writer_next(piper_writer *writer, uint8_t *at, size_t n, size_t
 void piper_writer_reclaim(piper_writer *writer, uint8_t *at);
 
 /* Copies bytes from `from`, at most `len`, into the pipe, and publishes them. It never waits:
- * `count` is 0 only where `len` is 0, the pipe is closed or there was no room. It may be less than
+ * `count` is 0 only if `len` is 0, the pipe is closed or there was no room. It may be less than
  * `len` though more room is there: call again until it is 0. */
 piper_moved piper_writer_write(piper_writer *writer, const uint8_t *from, size_t len);
 
@@ -252,7 +252,7 @@ size_t piper_writer_capacity(const piper_writer *writer);
 bool piper_writer_is_closed(piper_writer *writer);
 
 /* Closes the pipe for good: the reader can still read what is unread. Nothing is lent or can be
- * published then. Both words that come back are to be woken, those of this side too. */
+ * published then. Whoever closes wakes by both words that come back, also by those of this side. */
 piper_left piper_writer_close(piper_writer *writer);
 
 /* Closes the pipe, and drops this side; `writer->at` is null then. The memory is freed with the

@@ -8,7 +8,7 @@
  *     piper_waiter_free(w);
  *
  * A waiter belongs to one side. Its memory is counted: words of it that the other side holds keep it,
- * so that a wake which comes late finds it. Where both sides of a pipe use this file, each may call
+ * and a wake that comes late finds it. If both sides of a pipe use this file, each may call
  * piper_wake with the words that any call of piper.h returns.
  */
 #ifndef PIPER_WAIT_H
@@ -28,7 +28,7 @@ typedef struct {
     size_t holders;
 } piper_waiter;
 
-/* A new waiter, or null where memory was refused. */
+/* A new waiter, or null if memory was refused. */
 static inline piper_waiter *piper_waiter_new(void) {
     piper_waiter *made = (piper_waiter *)malloc(sizeof *made);
     if (made != NULL) {
@@ -76,7 +76,7 @@ static inline void piper_wake(piper_words words) {
     }
 }
 
-/* Takes in what a poll came to, and sleeps where it is pending. A wake may be one of an earlier poll:
+/* Takes in what a poll came to, and sleeps if it is pending. A wake may be one of an earlier poll:
  * whoever called looks again. */
 static inline void piper_settle(piper_waiter *mine, piper_polled polled) {
     piper_words_free(polled.before);
@@ -90,8 +90,8 @@ static inline void piper_settle(piper_waiter *mine, piper_polled polled) {
     }
 }
 
-/* Reads at least one byte and at most `len`, and waits for it. Returns how many: 0 where `len` is 0, or
- * where the pipe is closed and all was read. */
+/* Reads at least one byte and at most `len`, and waits for it. Returns how many: 0 if `len` is 0, or
+ * if the pipe is closed and all was read. */
 static inline size_t piper_reader_read_wait(piper_reader *reader, piper_waiter *mine, uint8_t *to, size_t len) {
     for (;;) {
         const uint8_t *at;
@@ -103,7 +103,7 @@ static inline size_t piper_reader_read_wait(piper_reader *reader, piper_waiter *
     }
 }
 
-/* Writes all `len` bytes, and waits for room. Returns how many were written: fewer where the pipe was
+/* Writes all `len` bytes, and waits for room. Returns how many were written: fewer if the pipe was
  * closed before. */
 static inline size_t piper_writer_write_wait(piper_writer *writer, piper_waiter *mine, const uint8_t *from, size_t len) {
     size_t written = 0;

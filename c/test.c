@@ -150,7 +150,7 @@ static void goes_on(void) {
     seen = piper_writer_offer(&writer, 1, &room);
     CHECK(seen.outcome == PIPER_PENDING && seen.len == 0 && room == NULL);
     CHECK(piper_reader_read(&reader, to, 8).count == 6 && memcmp(to, "abcefg", 6) == 0);
-    /* A publish of no bytes checks for words, too. */
+    /* A publish of no bytes also checks for words. */
     CHECK(piper_reader_poll(&reader, READER).outcome == PIPER_PENDING);
     CHECK(piper_writer_offer(&writer, 1, &room).len == 1);
     after = piper_writer_next(&writer, room, 0, 2, &room);
@@ -187,7 +187,7 @@ static void wakes_the_reader(void) {
     polled = piper_reader_poll(&reader, READER);
     CHECK(polled.outcome == PIPER_PENDING && is_none(polled.before));
     CHECK(are(piper_writer_write(&writer, (const uint8_t *)"c", 1).wake, READER));
-    /* By a publish of no bytes, but not where room is only given back. */
+    /* By a publish of no bytes, but not if room is only given back. */
     CHECK(piper_reader_read(&reader, to, 4).count == 1);
     CHECK(piper_reader_poll(&reader, READER).outcome == PIPER_PENDING);
     CHECK(piper_writer_lend(&writer, 1, &room) == 1);

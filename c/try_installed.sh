@@ -1,6 +1,6 @@
 #!/bin/sh
 # Installs the library into a new folder, and tries it there as its users do: by pkg-config, linked
-# shared and static, and from Python. It ends with another status than 0 where something fails.
+# shared and static, and from Python. It ends with another status than 0 if something fails.
 #
 #     try_installed.sh MAKE CC
 set -eu

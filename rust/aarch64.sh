@@ -5,7 +5,7 @@
 #
 # It downloads the packages (250 MB) and unpacks them in FOLDER, and installs none of them; what is there already is taken. It adds
 # the architecture arm64 to those that apt-get knows. It needs cargo, qemu-aarch64, aarch64-linux-gnu-gcc, and the sources of
-# other packages as for check.sh. The last line is 'aarch64-unknown-linux-gnu: N passed, M failed'. The status is 2 where something
+# other packages as for check.sh. The last line is 'aarch64-unknown-linux-gnu: N passed, M failed'. The status is 2 if something
 # is missing.
 set -euo pipefail
 cd "$(dirname "$0")"
@@ -41,7 +41,7 @@ exec $root/usr/bin/rustc "\$@"
 RUSTC
 chmod +x "$root/rustc"
 export RUSTC=$root/rustc CARGO_TARGET_AARCH64_UNKNOWN_LINUX_GNU_LINKER=aarch64-linux-gnu-gcc
-# On one processor, since qemu 7.2 lets a load overtake an earlier store where both are sequentially consistent.
+# On one processor, since qemu 7.2 lets a load overtake an earlier store though both are sequentially consistent.
 one=$(taskset -pc $$ | sed 's/.*: //; s/[-,].*//')
 export CARGO_TARGET_AARCH64_UNKNOWN_LINUX_GNU_RUNNER="taskset -c $one qemu-aarch64 -L /usr/aarch64-linux-gnu"
 export PIPER_TEST_CALLS=${PIPER_TEST_CALLS:-50000} PIPER_TEST_SHARE=${PIPER_TEST_SHARE:-20}

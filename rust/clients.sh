@@ -6,8 +6,8 @@
 # Each FOLDER has a package named piper; `rust` is this one, and 0.2.5 is tried by who has its sources. The crates are `blocking`,
 # `async-fs`, `async-process` and `smol`, as Debian has their sources (CARGO_SOURCES names the folder, as for check.sh). Debian's
 # `blocking` still has the pipe of which `piper` was made inside: it is cut out here, and `piper` is imported in its place. All
-# others get that `blocking`. The status is 0 where over each package the same tests pass as over the last one, 1 where not, and
-# 2 where something is missing and nothing was tried.
+# others get that `blocking`. The status is 0 if over each package the same tests pass as over the last one, 1 if not, and
+# 2 if something is missing and nothing was tried.
 set -uo pipefail
 sources=${CARGO_SOURCES:-/usr/share/cargo/registry}
 clients=(blocking async-fs async-process smol)

@@ -35,7 +35,7 @@ holds() { # NAME COMMAND..
 copy() { # FOLDER VERSION
     mkdir "$1"
     cp -r "$here"/{Cargo.toml,README.md,src,lib} "$1"
-    sed -i "s/^version = .*/version = \"$2\"/; /^\[\[example\]\]/,\$d" "$1/Cargo.toml"
+    sed -i "s/^version = .*/version = \"$2\"/" "$1/Cargo.toml"
 }
 
 manifest() { # NAME LINE.. of its manifest

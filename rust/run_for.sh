@@ -6,7 +6,7 @@
 # TARGET is x86_64-pc-windows-gnu, under wine64; x86_64-unknown-linux-musl; or riscv64gc-unknown-linux-gnu, under qemu. It
 # downloads packages into FOLDER (web.sh) and builds std there, which takes four minutes once. It needs cargo, the sources of other
 # packages as for check.sh, and what the target's lines below name. Debian has the crates for these tests alone: tests/programs.rs and
-# the examples are left out. The last line is 'TARGET: N passed, M failed'. The status is 2 where something is missing.
+# the examples are left out. The last line is 'TARGET: N passed, M failed'. The status is 2 if something is missing.
 set -euo pipefail
 here=$(cd "$(dirname "$0")" && pwd)
 [ $# -eq 2 ] || { sed -n 's/^# \?//; 2,9p' "$0" >&2; exit 2; }
@@ -18,7 +18,7 @@ needs() { # TOOL OR FILE..
         [ -e "$it" ] || command -v "$it" > /dev/null || { echo "run_for.sh: $it is missing" >&2; exit 2; }
     done
 }
-# On one processor, since qemu 7.2 lets a load overtake an earlier store where both are sequentially consistent.
+# On one processor, since qemu 7.2 lets a load overtake an earlier store though both are sequentially consistent.
 one=$(taskset -pc $$ | sed 's/.*: //; s/[-,].*//')
 runner=
 unwind=/usr/lib/llvm-14/lib/libunwind.a # of Debian's libunwind-14-dev
@@ -71,7 +71,7 @@ rm -rf "$own/package"
 mkdir "$own/package"
 cp -r "$here"/{Cargo.toml,src,lib,tests,README.md} "$own/package"
 rm "$own"/package/tests/{programs,examples}.rs
-awk '/^\[/ { gone = /dev-dependencies|example/ } !gone' "$here/Cargo.toml" > "$own/package/Cargo.toml"
+awk '/^\[/ { gone = /dev-dependencies/ } !gone' "$here/Cargo.toml" > "$own/package/Cargo.toml"
 printf '[dev-dependencies]\nfutures-lite = ">=1.12, <3"\n' >> "$own/package/Cargo.toml"
 
 name=${target//-/_}

@@ -5,7 +5,7 @@
 #
 # Each FOLDER has a package named piper; `rust` is this one, and 0.2.5 is measured by who has its sources. It prints for each way
 # and size of a piece the median nanoseconds a piece of each package, with the ratio to the first; two packages take a minute. Pinned to
-# one core (`taskset -c 3`), where neither thread waits for the other core, ratios differ least from run to run.
+# one core (`taskset -c 3`), on which neither thread waits for the other core, ratios differ least from run to run.
 # With -l each package is built in nine layouts of its code, which take turns round by round, and pieces lie otherwise in each round:
 # where code and bytes come to lie makes one run up to a third slower than another of the same instructions.
 # With -i it counts instructions of a piece by valgrind, on one thread, and of a piece there and back, in both threads.

@@ -5,15 +5,15 @@
 #     rust/targets.sh FOLDER
 #
 # It downloads packages into FOLDER (web.sh), and checks std for each target, which takes a minute of processor time each. It needs
-# cargo, the sources of other packages as for check.sh, and to link ld64.lld (Debian's lld-19). The last line is
-# 'targets: N passed, M failed'. The status is 2 where something is missing.
+# cargo, the sources of other packages as for check.sh, and to link ld64.lld (Debian's lld-22 or lld-19). The last line is
+# 'targets: N passed, M failed'. The status is 2 if something is missing.
 set -uo pipefail
 here=$(cd "$(dirname "$0")" && pwd)
 [ $# -eq 1 ] || { sed -n 's/^# \?//; 2,10p' "$0" >&2; exit 2; }
 command -v cargo > /dev/null || { echo 'targets.sh: cargo is missing' >&2; exit 2; }
 "$here/web.sh" "$1" || exit 2
 root=$(cd "$1" && pwd)
-linker=$(command -v ld64.lld-19 || command -v ld64.lld)
+linker=$(command -v ld64.lld-22 ld64.lld-19 ld64.lld | head -n 1)
 room=$(mktemp -d)
 trap 'rm -rf "$room"' EXIT
 export RUSTC=$root/rustc RUSTC_BOOTSTRAP=1 CARGO_HOME=$root/home
@@ -37,7 +37,7 @@ holds() { # NAME COMMAND..
 cp -rL "$root"/crates/fastrand-[0-9]* "$room/fastrand"
 sed -i 's/^use instant::Instant;/use std::time::Instant;/' "$room/fastrand/src/lib.rs"
 
-# A library that other languages call, whose build fails where it doesn't get what is wanted.
+# A library that other languages call, whose build fails if it doesn't get what is wanted.
 program() { # IS_PROVED
     mkdir -p "$room/program/src"
     printf '%s\n' '[package]' 'name = "program"' 'version = "0.1.0"' 'edition = "2021"' '[lib]' 'crate-type = ["staticlib"]' \

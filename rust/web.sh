@@ -5,7 +5,7 @@
 #
 # It downloads the packages (150 MB) and unpacks them in FOLDER, and installs none of them; what is there already is taken. After
 # it FOLDER/rustc runs that compiler, and FOLDER/home is a CARGO_HOME that finds std's packages beside those of Debian
-# (CARGO_SOURCES, as for check.sh). The status is 2 where something is missing.
+# (CARGO_SOURCES, as for check.sh). The status is 2 if something is missing.
 set -euo pipefail
 sources=${CARGO_SOURCES:-/usr/share/cargo/registry}
 [ $# -eq 1 ] || { sed -n 's/^# \?//; 2,8p' "$0" >&2; exit 2; }

@@ -1,16 +1,17 @@
 #!/usr/bin/env python3
-"""Reads the texts of rust/lib, and says two things of them that no proof covers.
+"""Reads the texts of rust/lib, and says three things of them that no proof covers.
 
 1. The text for macOS has the instructions and the constants of that for Linux, one by one.
 2. What two threads share is accessed in one order for all: each store to a word of a ring is one that
    the processor orders with all others (`xchg` or `lock` on x86-64, `stlr` or a pair with `stlxr` on
    aarch64, `.aqrl` or a store between its fences on riscv64), and each load one that it orders with these
    (any on x86-64, `ldar` or `ldaxr` on aarch64, one between its fences on riscv64).
+3. Each directive is one that the assembler of LLVM 19 takes: that is the one in Rust 1.85, the lowest.
 
-A word is known by its offset in the ring's block (crates/piper_ring/src/ring/memory.rt), where no other
-block is so long: one that came to be would be refused, too. Of the two words before those, the head's
-store is looked for in the calls that take bytes, and the count of sides only as an atomic change that is
-there. What a pipe's opening writes nobody else sees yet. Of each text a changed copy has to be refused.
+A word is known by its offset in the ring's block (crates/piper_ring/src/ring/memory.rt), since no other
+block is so long: one that came to be would also be refused. Two words lie before those: the head's store
+is looked for in the calls that take bytes, and the count of sides only as an atomic change that is there.
+What a pipe's opening writes nobody else sees yet. A changed copy of each text has to be refused.
 The last line is 'texts: N passed, M failed'.
 """
 import re
@@ -26,6 +27,12 @@ MEMORY = TOP / "crates/piper_ring/src/ring/memory.rt"
 PAIRS = (("x86_64-unknown-linux-gnu", "x86_64-apple-darwin"), ("aarch64-unknown-linux-gnu", "aarch64-apple-darwin"))
 LABEL = re.compile(r'^"?_?([^"\s]*piper_\w[^":]*|[.Ll]+piper_\w+)"?:')
 TAKE_BYTES = ("reader_consume", "reader_read")
+TAKEN = {
+    *"asciz def else endef endif globl hidden ifdef ifndef long p2align private_extern scl section set size text type".split(),
+    *"weak weak_definition word".split(),
+    *(f"cfi_{it}" for it in "def_cfa_offset endproc offset remember_state restore restore_state startproc".split()),
+    *(f"seh_{it}" for it in "endproc endprologue proc pushreg stackalloc".split()),
+}
 
 
 class Refused(Exception):
@@ -199,6 +206,18 @@ def check_order(name, text):
     return "what threads share is accessed in order"
 
 
+def of_lowest(text):
+    others = {*re.findall(r"^\t\.(\w+)", text, re.M)} - TAKEN
+    if others:
+        raise Refused(f"LLVM 19 may not know {', '.join(sorted(others))}")
+
+
+def check_directives(text):
+    of_lowest(text)
+    refused(of_lowest, f"{text}\t.seh_startepilogue\n")
+    return "each directive is one of LLVM 19"
+
+
 def check_same(linux, macos):
     same_instructions(linux, macos)
     refused(same_instructions, linux, re.sub(r"^\tadd(q?)\t", r"\tsub\1\t", macos, count=1, flags=re.M))
@@ -209,6 +228,7 @@ def main():
     texts = {it.stem: it.read_text() for it in sorted(LIB.glob("*.s"))}
     tries = [(name, check_order, (name, text)) for name, text in texts.items()]
     tries += [(macos, check_same, (texts[linux], texts[macos])) for linux, macos in PAIRS]
+    tries += [(name, check_directives, (text,)) for name, text in texts.items()]
     failed = 0
     for name, check, given in tries:
         try:

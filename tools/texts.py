@@ -32,7 +32,7 @@ LABEL = re.compile(r'^("[^"\n]*"|[A-Za-z_][\w.]*):', re.M)
 # By this flag LLVM notes that a program may have a shadow stack: each function returns to where it was called.
 SHADOW_STACK = '!llvm.module.flags = !{!9999}\n!9999 = !{i32 8, !"cf-protection-return", i32 1}\n'
 NOTE = re.compile(r'^\t\.section\t\.note\.gnu\.property,.*\n(?:\t\.(?:p2align|long|asciz)\t.*\n)+', re.M)
-# The heap's two functions get names of ours, so that no other library of the toolchain meets them.
+# The heap's two functions get names of ours: else they would meet another library of the toolchain.
 HEAP = {"rattle_alloc": "heap_alloc", "rattle_dealloc": "heap_dealloc"}
 
 
@@ -100,12 +100,12 @@ def compiled(clang, module, changed):
 
 
 def raw_texts(clang, modules):
-    """The text of each target that clang writes, with the symbols that the module has; and the notes of some."""
+    """The text of each target that clang writes, with the symbols that the module has, and the notes of some."""
     texts, notes = {}, {}
     for target in LINUX:
         texts[target], notes[target] = linux(clang, target, modules[target])
     texts[riscv64.TARGET] = LEFT_OUT.sub("", compiled(clang, modules[LINUX[0]], riscv64.changed))
-    texts[WINDOWS] = LEFT_OUT.sub("", windows.without_features(compiled(clang, modules[LINUX[0]], windows.changed)))
+    texts[WINDOWS] = LEFT_OUT.sub("", windows.for_each_assembler(compiled(clang, modules[LINUX[0]], windows.changed)))
     return texts, notes
 
 

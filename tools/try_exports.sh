@@ -1,9 +1,9 @@
 #!/usr/bin/env bash
 # Tries the packages for cargo and for C, on a PATH that has no `rt`: `rust/check.sh`, several copies in one program, the tests of
-# crates that stand on such a pipe by `rust/clients.sh`, `make -C c check`, and the same for aarch64 and riscv64 under qemu; that clang-22
-# makes the same texts of the modules, where it is there; and the tests of Rust for other targets (`rust/run_for.sh`, `rust/aarch64.sh`,
-# `rust/targets.sh`), each where it was run once with the folder that PIPER_PLATFORMS names. The last line counts them. What can't be
-# tried, since a tool or sources of Debian's are missing and can't be installed, it says.
+# crates that stand on such a pipe by `rust/clients.sh`, `make -C c check`, and the same for aarch64 and riscv64 under qemu. If clang-22
+# is there, it tries that it makes the same texts of the modules. It runs the tests of Rust for other targets (`rust/run_for.sh`,
+# `rust/aarch64.sh`, `rust/targets.sh`) that were run once with the folder that PIPER_PLATFORMS names. The last line counts them. It says
+# what was not tried, since a tool or sources of Debian's are missing and can't be installed.
 set -u
 cd "$(dirname "$0")/.."
 room=$(mktemp -d)
@@ -22,7 +22,7 @@ check() { # NAME COMMAND..
     return "$status"
 }
 
-# The same, where to be left out is no failure. A second try may install what is missing.
+# The same, but what is left out is no failure. A second try may install what is missing.
 try() { # NAME COMMAND..
     local status=0
     check "$@" || status=$?
@@ -95,9 +95,20 @@ modules() {
     tools/compile_modules clang-22
 }
 
+# Rust 1.85, the lowest, has the assembler of LLVM 19.
+lowest() {
+    has clang-19 || { echo 'the assembler of LLVM 19: not tried'; return 2; }
+    local text target
+    for text in rust/lib/*.s; do
+        target=$(basename "$text" .s)
+        clang-19 "--target=${target/%windows/windows-gnu}" -c -o "$room/object" "$text" || return 1
+    done
+    echo 'the assembler of LLVM 19: takes each text'
+}
+
 platforms=${PIPER_PLATFORMS:-/var/tmp/piper-platforms}
 
-# The tests of Rust for another target, where its std was built before: else that would take minutes.
+# The tests of Rust for another target, if its std was built before: else that would take minutes.
 rust_for() { # TARGET
     [ -d "$platforms/target/$1" ] || { echo "rust for $1: not tried"; return 2; }
     rust/run_for.sh "$platforms" "$1"
@@ -125,7 +136,7 @@ targets() {
     rust/targets.sh "$platforms"
 }
 
-names=(rust one_program clients c aarch64 riscv64 modules windows musl rust_aarch64 rust_riscv64 targets)
+names=(rust one_program clients c aarch64 riscv64 modules lowest windows musl rust_aarch64 rust_riscv64 targets)
 line=
 for name in "${names[@]}"; do
     try "$name" "$name"

@@ -7,6 +7,8 @@ CONVENTION = "x86_64_sysvcc "
 LINUX, TRIPLE = "x86_64-unknown-linux-gnu", "x86_64-pc-windows-gnu"
 FEATURES = re.compile(r"^\t\.def\t@feat\.00;\n(?:\t.*\n)*?\t\.endef\n\t\.globl\t@feat\.00\n@feat\.00 = \d+\n", re.M)
 BEGINS = re.compile(r"^(?:\t\.globl\t(\w+)|\t\.p2align\t4).*# -- Begin function .*$", re.M)
+# The assembler of LLVM 19, which is in Rust 1.85, doesn't know these. They change nothing in tables of the first version.
+EPILOGUES = re.compile(r"^\t\.seh_(?:start|end)epilogue\b.*\n", re.M)
 # The assembler in rustc takes no section with a name of Rust's in it, and Windows has no such code.
 NOT_THERE = ("-fPIC", "-ffunction-sections")
 
@@ -24,12 +26,12 @@ def changed(text, words):
     return text, [it.replace(LINUX, TRIPLE) for it in words if it not in NOT_THERE]
 
 
-def without_features(text):
-    return FEATURES.sub("", text)
+def for_each_assembler(text):
+    return EPILOGUES.sub("", FEATURES.sub("", text))
 
 
 def with_sections(text):
-    """Each export in a section of its own, of which a linker takes one, where a program has several copies."""
+    """Each export in a section of its own, of which a linker takes one if a program has several copies."""
     def begin(found):
         name = found[1]
         return (f'\t.section\t.text${name},"xr",discard,{name}\n' if name else "\t.text\n") + found[0]

@@ -2,9 +2,8 @@
 //!
 //!     cargo run --example child_output -- COMMAND ARGUMENT..
 //!
-//! A read of a child's output blocks, so a thread makes it: straight into the memory of a pipe, from
-//! which a task takes the lines. What the child wrote before its end is printed, also where it was
-//! killed.
+//! A read of a child's output blocks. Therefore a thread makes it, straight into the memory of a pipe, from
+//! which a task takes the lines. What the child wrote before its end is printed, even if it was killed.
 
 use std::io::{self, Read, Write};
 use std::os::unix::process::ExitStatusExt;

@@ -37,7 +37,7 @@ fn main() -> io::Result<()> {
         })
     });
     let (count, longest) = block_on(measure(reader))?;
-    // An error of the file closes the pipe, too, so the reader alone can't tell it from the end.
+    // An error of the file also closes the pipe: the reader alone can't tell it from the end.
     reading.join().expect("a read doesn't panic")?;
     println!("{count} lines, the longest of {longest} bytes");
     Ok(())

@@ -1,5 +1,5 @@
-//! Moves bytes through a pipe, and prints how long that took. It names nothing but the surface of
-//! `piper` 0.2, so that it also builds over 0.2.5 itself: `speed.sh` does that.
+//! Moves bytes through a pipe, and prints how long that took. It names only the surface of
+//! `piper` 0.2, since `speed.sh` also builds it over 0.2.5 itself.
 //!
 //!     speed WAY CAPACITY PIECE TOTAL [SHIFT]
 //!
@@ -33,7 +33,7 @@ struct Sleeper {
     rest: Rest,
 }
 
-/// What a thread does where a poll is pending.
+/// What a thread does while a poll is pending.
 #[derive(Clone, Copy)]
 enum Rest {
     /// It polls again: the poll only yielded, since there is no other thread.
@@ -258,7 +258,7 @@ fn to_and_fro<W: Way>(way: W, asked: Request) -> u64 {
     checksum
 }
 
-/// The checksum, or `None` where there is no such way.
+/// The checksum, or `None` if there is no such way.
 fn run(way: &str, asked: Request) -> Option<u64> {
     Some(match way {
         "inplace" => on_one_thread(InPlace, asked),

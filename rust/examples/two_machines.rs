@@ -1,8 +1,8 @@
 //! A pipe whose sides are on two machines: pipe, TCP, pipe. Here both halves run over the loopback.
 //!
-//! A full pipe at one machine fills the connection, and so the pipe at the other: the writer waits.
-//! The end travels as the end of the stream. Where the reader is dropped or the connection breaks,
-//! the near half ends with the error, and drops its side of the pipe, so that the other side hears it.
+//! A full pipe at one machine fills the connection, which fills the pipe at the other: the writer waits.
+//! The end travels as the end of the stream. If the reader is dropped or the connection breaks, the near
+//! half ends with the error, and drops its side of the pipe. The other side hears that.
 
 use std::io;
 use std::net::Ipv4Addr;

@@ -7,7 +7,7 @@ use std::io::{self, Read, Write};
 /// At most so many bytes are moved before the other side is woken.
 pub(crate) const MOST_A_ROUND: usize = 128 * 1024;
 
-/// Where a copy into the pipe gets its bytes.
+/// A source of bytes for a copy into the pipe.
 pub(crate) trait Source {
     /// Why it could not give any.
     type Error;
@@ -19,7 +19,7 @@ pub(crate) trait Source {
     fn give(&mut self, room: &mut [u8]) -> Result<usize, Self::Error>;
 }
 
-/// Where a copy out of the pipe puts its bytes.
+/// A destination of bytes for a copy out of the pipe.
 pub(crate) trait Destination {
     /// Why it could not take any.
     type Error;
@@ -29,6 +29,11 @@ pub(crate) trait Destination {
 
     /// Takes bytes from the front of those shown, and returns how many.
     fn take(&mut self, shown: &[u8]) -> Result<usize, Self::Error>;
+}
+
+/// The count of a copy that can't fail.
+pub(crate) fn without_fail(count: Result<usize, Infallible>) -> usize {
+    count.unwrap_or_else(|never| match never {})
 }
 
 /// A slice as a source: the bytes that are left of it.

@@ -1,4 +1,4 @@
-//! When a copy that could go on yields, so that other tasks of its thread come to their turn.
+//! Draws when a copy yields though it could go on. By that other tasks of its thread come to their turn.
 
 use core::task::{Context, Poll};
 
@@ -6,7 +6,7 @@ use core::task::{Context, Poll};
 const ONE_IN: usize = 100;
 
 /// A stream of random draws. It is kept as a number, since not each `fastrand` has a generator that
-/// can be shared.
+/// can be shared. A generator of 1.x is drawn from by `&self`, and one of 2.x by `&mut self`.
 pub(crate) struct Draws(u64);
 
 impl Draws {

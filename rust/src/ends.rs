@@ -43,7 +43,7 @@ pub(crate) fn open(capacity: usize) -> (ReadEnd, WriteEnd) {
 /// A call of the library gave it.
 #[inline]
 unsafe fn address(at: *mut u8) -> NonNull<u8> {
-    // SAFETY: the library gives addresses in the memory of a pipe, also where no bytes are there.
+    // SAFETY: the library gives addresses in the memory of a pipe, even if no bytes are there.
     unsafe { NonNull::new_unchecked(at) }
 }
 

@@ -1,5 +1,5 @@
-//! Memory for the library, from the program's global allocator. The library gives back the address
-//! of a block alone, so what was asked for lies in front of it.
+//! Memory for the library, from the program's global allocator. The library gives back only the address
+//! of a block. Therefore what was asked for lies in front of it.
 //!
 //! All unsafe lines of this module rest on what is proved of the library: it gives back no block twice,
 //! each at the address that it got, and uses none after that.
@@ -10,8 +10,8 @@ use core::mem::{align_of, size_of};
 use core::ptr::NonNull;
 use core::sync::atomic::{AtomicUsize, Ordering};
 
-/// What an assembler is told before a function that the linker is to see under a name of the text's own,
-/// where other objects may have the same.
+/// What an assembler is told before a function that the linker is to see under a name of the text's own.
+/// Other objects may have the same.
 #[cfg(target_os = "linux")]
 #[rustfmt::skip]
 macro_rules! begin {
@@ -77,7 +77,7 @@ macro_rules! end {
 }
 
 // The library asks for memory under these names. They stand in a text of their own, since a function
-// under `no_mangle` would be exported by each shared library that a program makes with this crate. Where
+// under `no_mangle` would be exported by each shared library that a program makes with this crate. If
 // objects were joined before they are assembled, the text may be here twice.
 core::arch::global_asm!(
     concat!(".ifndef ", own!(), "heap_is_here\n.set ", own!(), "heap_is_here, 1"),
@@ -104,7 +104,7 @@ struct Claimed {
 const LINE: usize = 64;
 
 /// The block of a pipe, with its bytes, begins where large blocks of other owners do: copies are fastest
-/// where both ends lie alike (pieces of 64 KiB took 8% longer from a line's beginning).
+/// if both ends lie alike (pieces of 64 KiB took 8% longer from a line's beginning).
 const AS_OTHERS: usize = 16;
 
 /// What is larger than this is the block of a pipe.
@@ -134,7 +134,7 @@ fn claim_block(size: usize, align: usize) -> Option<NonNull<u8>> {
     let begin = NonNull::new(unsafe { alloc(whole) })?;
     let behind_head = begin.as_ptr() as usize + size_of::<Head>();
     let offset = size_of::<Head>() + (behind_head.wrapping_neg() & (align - 1));
-    // SAFETY: it is at most `align - 1` bytes behind the head, and so many are there beside the block. An
+    // SAFETY: it is at most `align - 1` bytes behind the head, and that many are there beside the block. An
     // alignment is a power of two.
     let block = unsafe { begin.add(offset) };
     // SAFETY: a head fits between the beginning and the block, whose alignment is a multiple of the head's.

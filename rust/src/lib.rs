@@ -1,7 +1,8 @@
 //! A bounded pipe of bytes between one reader and one writer, for threads and for tasks.
 //!
-//! This crate takes the place of `piper` 0.2.5: it has the same calls under the same names. It is proved
-//! for the targets of [`IS_PROVED`]; elsewhere a stand-in is built. It has no build script.
+//! This crate takes the place of `piper` 0.2.5: it has the same calls under the same names. For
+//! [most targets](#features-and-targets) it has a library that is proved, and for others [a
+//! stand-in](#the-stand-in). It has no build script.
 //!
 //! - **Proved** is the source of the library that carries the bytes, for all orders in which two
 //!   threads take their steps: bytes come in order, none is lost, doubled or read unset, no
@@ -43,19 +44,19 @@
 //!   be read; then every read gives 0, for good.
 //! - The reader is dropped: the writer is woken, and every write gives 0.
 //!
-//! # Where this is not 0.2.5
+//! # How this is not 0.2.5
 //!
-//! - [`Writer::produced`] panics where `n` is more than what is left of the slice last lent, and
-//!   [`Reader::consume`] where `amt` is more than [`Reader::peek_buf`] shows, as they are documented
-//!   to. 0.2.5 lets more pass where it can.
+//! - [`Writer::produced`] panics if `n` is more than what is left of the slice last lent, and
+//!   [`Reader::consume`] if `amt` is more than [`Reader::peek_buf`] shows, as they are documented
+//!   to. 0.2.5 lets more pass if it can.
 //! - `poll_close` is final also for the writer: nothing is lent any more, and what was lent is taken
 //!   back. Every copy into the pipe ends with nothing lent.
 //! - If the reader is dropped during a read of `Writer::poll_fill`, what was read is counted, as in
 //!   0.2.5, and it is published: [`Writer::len`] has it.
-//! - [`Reader::try_drain`] and [`Writer::try_fill`] leave the waker of an earlier poll where it is, so
+//! - [`Reader::try_drain`] and [`Writer::try_fill`] leave the waker of an earlier poll where it is. By
 //!   that a task that waits is not forgotten.
 //! - The waker of a handle is dropped with it, and not called by the other handle later.
-//! - A copy from a slice lends no more room than the slice is long, so that less is set to 0.
+//! - A copy from a slice lends no more room than the slice is long. By that less room is set to 0.
 //! - A task whose waker is just being called may be polled once more than with 0.2.5.
 //! - A copy panics if a `Read` or a `Write` claims more bytes than it was handed.
 //! - Calls through a shared reference that ask the pipe (`len`, `is_empty`, `is_full`, `is_closed`, and
@@ -73,11 +74,11 @@
 //! # Under sanitizers
 //!
 //! The sanitizer of addresses and valgrind take the text as it is. The sanitizer of threads doesn't see the
-//! text's accesses, and would report a race where bytes cross a pipe: with `--cfg piper_tsan` beside
+//! text's accesses, and would report a race as bytes cross a pipe: with `--cfg piper_tsan` beside
 //! `-Zsanitizer=thread` this crate tells it of each call.
 
 #![cfg_attr(not(feature = "std"), no_std)]
-#![deny(unsafe_code)]
+#![deny(unsafe_code, unsafe_op_in_unsafe_fn)]
 #![warn(missing_docs)]
 
 extern crate alloc;

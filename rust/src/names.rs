@@ -4,6 +4,6 @@
 
 macro_rules! own {
     () => {
-        "piper_94dd0eabf8ce_"
+        "piper_b7898e60ed10_"
     };
 }

@@ -2,7 +2,7 @@
 
 #[cfg(feature = "std")]
 use crate::copies::IntoWrite;
-use crate::copies::{Destination, IntoSlice, MOST_A_ROUND};
+use crate::copies::{without_fail, Destination, IntoSlice, MOST_A_ROUND};
 use crate::draws::{yield_now, Draws};
 use crate::ends::ReadEnd;
 use core::fmt;
@@ -187,11 +187,18 @@ impl Reader {
     }
 
     /// Waits for a byte, and writes what is there to `dest`, straight from the pipe's memory. It
-    /// blocks the thread where `dest` does.
+    /// blocks the thread if `dest` does.
     ///
     /// `Ready(Ok(0))` says that the pipe is closed and all of its bytes are consumed, or that `dest`
-    /// takes none. An error of `dest` is returned as it came; what was written before it stays
-    /// consumed. Yields as [`poll_drain_bytes`](Reader::poll_drain_bytes) does.
+    /// takes none. It yields as [`poll_drain_bytes`](Reader::poll_drain_bytes) does.
+    ///
+    /// # Errors
+    ///
+    /// An error of `dest` is returned as it came; what was written before it stays consumed.
+    ///
+    /// # Panics
+    ///
+    /// If `dest` claims that it took more bytes than it was shown.
     ///
     /// ```
     /// # use futures_lite::future::{block_on, poll_fn};
@@ -216,10 +223,10 @@ impl Reader {
         }
     }
 
-    /// Looks for bytes where none are known, and moves what is known until `dest` is full.
+    /// Looks for bytes if none are known, and moves what is known until `dest` is full.
     fn read(&mut self, dest: &mut [u8]) -> usize {
         let most = dest.len().min(MOST_A_ROUND);
-        // Only the first piece is looked for: a copy ends where no more is known.
+        // Only the first piece is looked for: a copy ends once no more is known.
         match self.end.read(&mut dest[..most]) {
             0 => 0,
             count => count + without_fail(self.drain(IntoSlice(&mut dest[count..]))),
@@ -247,11 +254,6 @@ impl Reader {
         }
         Ok(count)
     }
-}
-
-/// The count of a copy that can't fail.
-fn without_fail(count: Result<usize, core::convert::Infallible>) -> usize {
-    count.unwrap_or_else(|never| match never {})
 }
 
 impl fmt::Debug for Reader {

@@ -1,8 +1,8 @@
-//! What stands for the library where no text of it can be built: the same calls over a queue that
+//! What stands for the library if no text of it can be built: the same calls over a queue that
 //! both sides use in turn. It is not proved.
 //!
-//! It lends as much at a time as the library does, and wakes the same wakers, so that the tests of this
-//! crate can't tell the two apart.
+//! It lends as much at a time as the library does, and wakes the same wakers. The tests of this crate
+//! can't tell the two apart.
 
 use crate::turns::Turns;
 use alloc::{collections::VecDeque, sync::Arc, vec, vec::Vec};
@@ -81,7 +81,7 @@ impl Side {
         self.known()
     }
 
-    /// Looks, and sees what is there where nothing is known.
+    /// Looks, and sees what is there if nothing is known.
     fn look(&mut self) -> Poll<bool> {
         let Side { places, known, .. } = self;
         let (next, is_writer) = (self.next, self.is_writer);
@@ -105,7 +105,7 @@ impl Side {
         }
     }
 
-    /// Looks, leaves the waker where nothing is found, and looks once more.
+    /// Looks, leaves the waker if nothing is found, and looks once more.
     pub(crate) fn poll(&mut self, waker: &Waker) -> Poll<bool> {
         if let Poll::Ready(found) = self.look() {
             return Poll::Ready(found);

@@ -51,8 +51,8 @@ pub(crate) struct RawWriter {
 /// What an open came to: both handles are open.
 pub(crate) const OPENED: u32 = 0;
 
-// Of the outcomes of a look or a poll 0 says that there is nothing to do yet. The words of a poll
-// are in the pipe then; a look leaves none.
+// The outcome 0 of a look or a poll says that there is nothing to do yet. The words of a poll are in
+// the pipe then; a look leaves none.
 
 /// There is a byte to read, or room to write.
 pub(crate) const READY: u32 = 1;
@@ -69,7 +69,7 @@ pub(crate) struct Polled {
     pub(crate) mine: Words,
 }
 
-/// What a look found, and how many bytes lie in one piece where it found some.
+/// What a look found, and how many bytes lie in one piece if it found some.
 #[repr(C)]
 pub(crate) struct Seen {
     pub(crate) outcome: u32,

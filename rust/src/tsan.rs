@@ -1,6 +1,6 @@
 //! Tells the sanitizer of threads which call comes after which, since it doesn't see into the library: what
 //! one side did before a call has been done for the other side's calls after that. So it checks that a
-//! program keeps bytes and room apart, and reports no race where one only crosses a pipe.
+//! program keeps bytes and room apart, and reports no race as bytes only cross a pipe.
 
 use core::ffi::{c_char, c_int, c_void};
 

@@ -45,7 +45,7 @@ mod held {
     // As of a lock: a turn that panics ends, and what it was asked leaves the value whole.
     impl<T> core::panic::RefUnwindSafe for Turns<T> {}
 
-    /// Ends a turn, also where what is asked panics.
+    /// Ends a turn, even if what is asked panics.
     struct Turn<'a>(&'a AtomicBool);
 
     impl Drop for Turn<'_> {

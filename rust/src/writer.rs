@@ -2,7 +2,7 @@
 
 #[cfg(feature = "std")]
 use crate::copies::FromRead;
-use crate::copies::{FromSlice, Source, MOST_A_ROUND};
+use crate::copies::{without_fail, FromSlice, Source, MOST_A_ROUND};
 use crate::draws::{yield_now, Draws};
 use crate::ends::WriteEnd;
 use core::fmt;
@@ -88,7 +88,7 @@ impl Writer {
 
     /// Waits for room, or for the end.
     ///
-    /// `Ready(true)` says that [`write_buf`](Writer::write_buf) lends at least one byte, where it is
+    /// `Ready(true)` says that [`write_buf`](Writer::write_buf) lends at least one byte, if it is
     /// asked for one; `Ready(false)` that the pipe is closed. Until then the call is pending, and
     /// the task is woken when bytes are consumed or the pipe is closed.
     ///
@@ -123,8 +123,8 @@ impl Writer {
     }
 
     /// Publishes the first `n` bytes of what is left of the slice that
-    /// [`write_buf`](Writer::write_buf) lent last, as they were written, and wakes the reader, also
-    /// where `n` is 0.
+    /// [`write_buf`](Writer::write_buf) lent last, as they were written, and wakes the reader, even
+    /// if `n` is 0.
     ///
     /// # Panics
     ///
@@ -185,12 +185,19 @@ impl Writer {
     }
 
     /// Waits for room, and reads from `src` straight into the pipe's memory. It blocks the thread
-    /// where `src` does.
+    /// if `src` does.
     ///
-    /// `Ready(Ok(0))` says that the pipe is closed or `src` gives nothing. An error of `src` is
-    /// returned as it came; what was read before it stays published. Where the reader is dropped
-    /// during a read, the bytes of that read are counted and lost. Yields as
+    /// `Ready(Ok(0))` says that the pipe is closed or `src` gives nothing. If the reader is dropped
+    /// during a read, the bytes of that read are counted and lost. It yields as
     /// [`poll_fill_bytes`](Writer::poll_fill_bytes) does.
+    ///
+    /// # Errors
+    ///
+    /// An error of `src` is returned as it came; what was read before it stays published.
+    ///
+    /// # Panics
+    ///
+    /// If `src` claims that it gave more bytes than it had room for.
     ///
     /// ```
     /// # use futures_lite::future::{block_on, poll_fn};
@@ -217,9 +224,9 @@ impl Writer {
         }
     }
 
-    /// Looks for room where none is known, and fills what is known until `bytes` are used up.
+    /// Looks for room if none is known, and fills what is known until `bytes` are used up.
     fn write(&mut self, bytes: &[u8]) -> usize {
-        // Only the first piece is looked for: a copy ends where no more is known.
+        // Only the first piece is looked for: a copy ends once no more is known.
         let count = self.end.write(&bytes[..bytes.len().min(MOST_A_ROUND)]);
         if count == 0 || count == bytes.len() {
             return count;
@@ -247,11 +254,6 @@ impl Writer {
             }
         }
     }
-}
-
-/// The count of a copy that can't fail.
-fn without_fail(count: Result<usize, core::convert::Infallible>) -> usize {
-    count.unwrap_or_else(|never| match never {})
 }
 
 impl fmt::Debug for Writer {

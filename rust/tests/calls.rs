@@ -29,7 +29,7 @@ fn a_pipe_of_no_or_too_many_bytes_is_refused() {
 fn queries_count_what_is_unread() {
     let (mut reader, mut writer) = pipe(4);
     for unread in [0, 1, 3, 4, 2, 4, 0] {
-        // A copy moves what its side knows of, so it may take two of them.
+        // A copy moves what its side knows of: it may take two of them.
         while writer.len() < unread {
             let room = unread - writer.len();
             writer.try_fill(&vec![7; room]);

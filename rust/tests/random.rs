@@ -126,7 +126,7 @@ impl Play {
             1 => Pin::new(writer).poll_write(cx, &bytes).map(Result::unwrap),
             _ => writer.poll_fill(cx, &mut source).map(Result::unwrap),
         };
-        // A pending copy leaves its waker, so only one that will be ready gets that of its own.
+        // A pending copy leaves its waker. Only one that will be ready gets a waker of its own.
         self.model.lent = 0;
         let found = self.model.poll_write();
         let polled = match found.is_ready() {
@@ -137,7 +137,7 @@ impl Play {
             None => {}
             Some(Poll::Pending) => assert_eq!(found, Poll::Pending),
             Some(Poll::Ready(count)) if found == Poll::Ready(true) => {
-                // A source of std does not say how long it is, so more may be lent to it.
+                // A source of std does not say how long it is: more may be lent to it.
                 let wants = match form {
                     2 => self.fill_from_source(&bytes),
                     _ => self.model.fill(&bytes),

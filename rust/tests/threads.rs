@@ -11,7 +11,7 @@ use std::sync::Mutex;
 use std::task::Poll;
 use std::thread;
 
-/// Writes some of these bytes, waits where it has to, and returns how many: none at the end.
+/// Writes some of these bytes, waits if it has to, and returns how many: none at the end.
 type Write = fn(&mut Writer, &Sleeper, &[u8]) -> usize;
 
 const WRITES: [Write; 5] = [
@@ -38,7 +38,7 @@ const WRITES: [Write; 5] = [
     },
 ];
 
-/// Reads bytes into the place, waits where it has to, and returns how many: none at the end.
+/// Reads bytes into the place, waits if it has to, and returns how many: none at the end.
 type Read = fn(&mut Reader, &Sleeper, &mut [u8]) -> usize;
 
 const READS: [Read; 6] = [

@@ -26,7 +26,7 @@ unsafe impl Sync for Piece {}
 /// The side that reads.
 pub(crate) struct ReadEnd {
     raw: Turns<RawReader>,
-    /// `None` where the pipe has to be asked.
+    /// `None` if the pipe has to be asked.
     known: Option<Piece>,
     /// How many places lie from the next byte to the end of the buffer.
     to_the_end: usize,
@@ -68,14 +68,14 @@ impl ReadEnd {
         }
     }
 
-    /// Whether there is a byte (`true`) or the end (`false`). Where there is neither, the waker is left,
-    /// and called once there may be. The pipe is asked only where no byte is known.
+    /// Whether there is a byte (`true`) or the end (`false`). If there is neither, the waker is left,
+    /// and called once there may be. The pipe is asked only if no byte is known.
     #[inline]
     pub(crate) fn poll(&mut self, waker: &Waker) -> Poll<bool> {
         if self.known.is_some_and(|known| known.len > 0) {
             return Poll::Ready(true);
         }
-        // A waker is cloned only where a look says that it will be left. One that was left before
+        // A waker is cloned only if a look says that it will be left. One that was left before
         // lies in the pipe only as long as nothing happened, or until the other side, which made
         // it happen, takes it.
         let mut at = ptr::null();
@@ -164,7 +164,7 @@ impl ReadEnd {
         }
     }
 
-    /// Looks for bytes where none are known, copies some to `place` in one piece, and wakes the
+    /// Looks for bytes if none are known, copies some to `place` in one piece, and wakes the
     /// writer. It returns how many.
     #[inline]
     pub(crate) fn read(&mut self, place: &mut [u8]) -> usize {

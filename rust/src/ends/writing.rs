@@ -7,7 +7,7 @@ use core::ptr::{self, NonNull};
 use core::slice;
 use core::task::{Poll, Waker};
 
-// SAFETY: as for the side that reads; and room that is lent goes with its handle.
+// SAFETY: as for the side that reads. Room that is lent goes with its handle.
 unsafe impl Send for Lender {}
 
 /// The handle that writes, and the room that it has lent.
@@ -15,7 +15,7 @@ pub(crate) struct Lender {
     raw: RawWriter,
     /// From a lend until the room is taken back, by its publish or before another call.
     loan: Option<Loan>,
-    /// How many bytes are left of the slice last lent by `lend`. At most the length of the loan, where
+    /// How many bytes are left of the slice last lent by `lend`. It is at most the length of the loan, if
     /// there is one.
     left: usize,
 }
@@ -79,7 +79,7 @@ impl Lender {
         let Loan { at, len } = self.loan.take().expect("room is lent");
         assert!(n <= len, "a source gave more bytes than there was room for");
         let mut next_at = ptr::null_mut();
-        // SAFETY: as in `publish`, with `n` at most the length of the loan; and `next_at` is a value of ours.
+        // SAFETY: as in `publish`, with `n` at most the length of the loan. `next_at` is a value of ours.
         let next = unsafe { sys::writer_next(&mut self.raw, at.as_ptr(), n, max, &mut next_at) };
         // SAFETY: `next` gave this address.
         let at = unsafe { address(next_at) };
@@ -96,7 +96,7 @@ impl Lender {
         self.left = left;
     }
 
-    /// Lends room in one piece, at most `max` bytes, where none is lent.
+    /// Lends room in one piece, at most `max` bytes, if none is lent.
     #[inline]
     fn ask(&mut self, max: usize) -> Loan {
         let mut at = ptr::null_mut();
@@ -131,7 +131,7 @@ impl WriteEnd {
         }
     }
 
-    /// Whether there is room (`true`) or the pipe is closed (`false`). Where there is neither, the waker
+    /// Whether there is room (`true`) or the pipe is closed (`false`). If there is neither, the waker
     /// is left, and called once there may be.
     #[inline]
     pub(crate) fn poll(&mut self, waker: &Waker) -> Poll<bool> {
@@ -143,7 +143,7 @@ impl WriteEnd {
         }
     }
 
-    /// As `poll`; and where there is room, it lends at most `max` bytes of it to a copy.
+    /// Polls. If there is room, it lends at most `max` bytes of it to a copy.
     #[cfg(feature = "std")]
     #[inline]
     pub(crate) fn offer(&mut self, waker: &Waker, max: usize) -> Poll<bool> {
@@ -170,7 +170,7 @@ impl WriteEnd {
         unsafe { sys::writer_poll(self.free(), mine) }.settle()
     }
 
-    /// As `leave`; and where there is room now, it lends some to a copy.
+    /// Does as `leave`. If there is room now, it lends some to a copy.
     #[cfg(feature = "std")]
     #[cold]
     fn leave_to_lend(&mut self, waker: &Waker, max: usize) -> Poll<bool> {
@@ -236,8 +236,8 @@ impl WriteEnd {
         self.raw.get_mut().publish(n);
     }
 
-    /// Looks for room where none is known, copies bytes there in one piece, and wakes the reader. It
-    /// returns how many: none where the pipe is closed.
+    /// Looks for room if none is known, copies bytes there in one piece, and wakes the reader. It
+    /// returns how many: none if the pipe is closed.
     #[inline]
     pub(crate) fn write(&mut self, bytes: &[u8]) -> usize {
         // SAFETY: the handle is open and ours alone, no slice of lent room is left, and the bytes are

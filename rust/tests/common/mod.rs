@@ -47,7 +47,7 @@ impl Counter {
     }
 }
 
-/// A thread that sleeps where a poll is pending, until its waker is called.
+/// A thread that sleeps while a poll is pending, until its waker is called.
 pub struct Sleeper(Arc<Asleep>);
 
 struct Asleep(Thread);
@@ -81,7 +81,7 @@ impl Sleeper {
     }
 }
 
-/// Runs `test` on a thread of its own. It fails where that takes minutes, as it would for ever if a
+/// Runs `test` on a thread of its own. It fails if that takes minutes, as it would for ever if a
 /// wake were lost.
 pub fn within_minutes(test: impl FnOnce() + Send + 'static) {
     let (done, ended) = channel();
@@ -103,7 +103,7 @@ pub fn number(name: &str, usual: usize) -> usize {
     }
 }
 
-/// Fails where `call` does not panic.
+/// Fails if `call` does not panic.
 pub fn panics<A>(call: impl FnOnce() -> A) {
     let ended = catch_unwind(AssertUnwindSafe(call));
     assert!(ended.is_err(), "it did not panic");
