@@ -25,7 +25,7 @@ pub use denote.Laws.{Is, shows}
 pub use denote.Memory.{part_at, lone, shared_of, mem, hidden_shr, cell_at}
 pub use denote.Opens.{unhide, hide}
 pub use denote.Param.{layout}
-pub use denote.Param.Send.{IsSend, Common, sendable, IsSync}
+pub use denote.Param.Send.{IsSend, Common, part_keyless, sendable, IsSync}
 pub use denote.Param.Shared.{copy_shared}
 pub use denote.Plain.{uint_vals, uint_Tells}
 pub use denote.RattleType.{RattleType, owns}
@@ -50,6 +50,7 @@ pub use Rattle.core.specs.Sync.RawAtomic.{asks, always}
 pub use Rattle.logbook.proofs.Fields.{lends_twice}
 pub use Rattle.piper_protocol.specs.ReaderIndices.{ReaderIndices}
 pub use Rattle.piper_protocol.specs.WriterIndices.{WriterIndices, room_in, left_in}
+pub use Rattle.piper_ring.proofs.Fields.{pointer_val, pointer_told, PointerData, pointer_made, ghost_coded, ghost_shared, lent_val, lent_told, lent_made, LentData, seven_val, seven_of, eight_val, eight_of}
 pub use Rattle.piper_ring.specs.Block.{heap_token, words_type}
 pub use Rattle.piper_ring.specs.Places.{byte, unset, place, run_lent, places_lent}
 pub use Rattle.piper_ring.specs.ReadView.{ReadView, read_view_of, in_one_piece}
@@ -67,5 +68,5 @@ pub use Rattle.rtrb.proofs.Walks.{proved, leaves}
 pub use Rattle.rtrb.specs.Fifo.{position_of, slot_of}
 pub use Rattle.rtrb.specs.Shared.{run, span}
 pub use Rattle.std_alloc.proofs.RcSteps.{word-Good}
-pub use Rattle.piper_cells.proofs.CellFields.{right_val, RightData, right_made, right_told}
+pub use Rattle.piper_cells.proofs.CellFields.{right_val as ghost_val, RightData as GhostData, right_made as ghost_made, right_told as ghost_told}
 pub use Rattle.piper_cells.specs.TokenCell.{right}

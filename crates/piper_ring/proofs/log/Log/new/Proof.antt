@@ -1,7 +1,6 @@
 -- `new` makes a log with nothing in it. Assumes `Logic`.
-use Rattle.piper_ring.proofs.Kit.{◌≡◌, [], ◌∷◌, refl, Val, SProp, emp, ‵, raw, ◌⊛◌, ◌$◌, ◌∵◌, !, qed, by, keep, split, fjoin, use0, no_more, and_then, returns, enter, alloc_all, pass_all, free_all, look_at, get, sets, agg, fact, fact_i, tables, owns, types_at, nothing, Stays, walk_of, proved, leaves}
+use Rattle.piper_ring.proofs.Kit.{◌≡◌, [], ◌∷◌, refl, Val, SProp, emp, ‵, raw, ◌⊛◌, ◌$◌, ◌∵◌, !, qed, by, keep, split, fjoin, use0, no_more, and_then, returns, enter, alloc_all, pass_all, free_all, look_at, get, sets, agg, fact, fact_i, tables, owns, types_at, nothing, Stays, walk_of, proved, leaves, ghost_val, GhostData, ghost_made}
 use denote.Triple.Entry.{alive}
-use Rattle.piper_ring.proofs.Fields.{ghost_val, LogData, log_made}
 use Rattle.piper_ring.specs.contracts.log.Log as Log
 use Rattle.piper_ring.specs.contracts.log.Log.new.{ended, clauses}
 use Rattle.piper_ring.specs.contracts.log.Log.new.Key.{name as #self}
@@ -15,7 +14,7 @@ new_spec 𝓤 𝓛 𝓜 𝓡 wired =
     proved 𝓛 En hs c 𝓜 𝓡 tt #self fn (code.unfolded 𝓤 H 𝓜 𝓡 wired) (λ κs. tt) (λ κs. tt) (λ κs qs bounds a gh are.
     let y : (walk_of 𝓛 En hs c).Ghost = ((κs, qs, bounds, a, tt), gh) in let Post : Val → SProp 𝓤 = (walk_of 𝓛 En hs c).post y in
     qed 𝓛 ((raw (alive 𝓛 En.signature κs qs) ⊛ ‵ (owns (types_at En.signature.params κs) a y.0.4)) ∷ raw ((c κs a).requires gh) ∷ []) ∵
-    split ! $ keep ! (0 ∷ []) $ nothing ! $ use0 𝓛 (‵ (LogData.own_val (record {}, tt) (ghost_val ∷ []))) (log_made 𝓛) $ fjoin ! $
+    split ! $ keep ! (0 ∷ []) $ nothing ! $ use0 𝓛 (‵ (GhostData.own_val (record {}, tt) (ghost_val ∷ []))) (ghost_made 𝓛) $ fjoin ! $
     enter ! 𝓣.C 𝓣.Λ fn [] Post $ alloc_all ! (λ l. pass_all ! refl tt $
     sets ! (agg ! (no_more !)) refl (tt, tt) $ sets ! (agg ! (and_then ! (get ! refl) (no_more !))) refl (tt, (tt, tt)) $
     let Told : Type 0 = empty.lines ≡ [] in use0 𝓛 (raw (fact 𝓤 Told)) (fact_i 𝓤 Told (emp 𝓤) refl) $ nothing ! $

@@ -1,8 +1,5 @@
 -- `observe` joins what two marks say. Assumes `Logic`.
-use Rattle.piper_ring.proofs.Kit.{◌≡◌, ℕ, List, [], ◌∷◌, length, max, refl, named, Val, vptr, SProp, emp, ftrue, flft, fhide, ‵, raw, ◌⊛◌, some, given, ◌$◌, ◌∵◌, !, qed, by, move, keep, drop, split, split3, join, fsplit, fsplit3, fjoin, fjoin3, pick, learn, use0, use1, use2, rewrite, feq_i, of_opd, returns, enter, alloc_all, pass_all, free_all, look_at, sets, env, mut_vals, mut_Tells, opens, closes, stay_ref, Goes-ref, vunit, unit_lit, fact, fact_i, tables, yes, RattleType, owns, types_at, plain, RefOf, shr_vals, shr_Tells, hidden_shr, unhide, nothing, lent_out, Stays, stay_dropped, walk_of, Goes-dropped, proved, leaves, Names, announced, flag, Stream, Reaches}
-use denote.Builtin.{RawPtr}
-use Rattle.core.specs.contracts.marker.PhantomData as marker
-use Rattle.piper_ring.proofs.Fields.{SentData}
+use Rattle.piper_ring.proofs.Kit.{◌≡◌, ℕ, List, [], ◌∷◌, length, max, refl, named, Val, vptr, SProp, emp, ftrue, flft, fhide, ‵, raw, ◌⊛◌, some, given, ◌$◌, ◌∵◌, !, qed, by, move, keep, drop, split, split3, join, fsplit, fsplit3, fjoin, fjoin3, pick, learn, use0, use1, use2, rewrite, feq_i, of_opd, returns, enter, alloc_all, pass_all, free_all, look_at, sets, env, mut_vals, mut_Tells, opens, closes, stay_ref, Goes-ref, vunit, unit_lit, fact, fact_i, tables, yes, RattleType, owns, types_at, plain, RefOf, shr_vals, shr_Tells, hidden_shr, unhide, nothing, lent_out, Stays, stay_dropped, walk_of, Goes-dropped, proved, leaves, Names, announced, flag, Stream, Reaches, GhostData, ghost_coded}
 use Rattle.piper_ring.proofs.Reaching.{Joined}
 use Rattle.piper_ring.proofs.Evidence.{both}
 use Rattle.piper_ring.specs.contracts.ring.marks.WriteMark as Mark
@@ -22,7 +19,7 @@ observe_spec 𝓤 𝓛 𝓜 𝓡 wired =
     let y : (walk_of 𝓛 En hs c).Ghost = ((κs, qs, bounds, a, (vptr b o ∷ [], (vptr b' o' ∷ [], tt))), gh) in let Post : Val → SProp 𝓤 = (walk_of 𝓛 En hs c).post y in
     qed 𝓛 (((‵ (flft κs.0 qs.0) ⊛ ‵ (flft κs.1.0 qs.1.0) ⊛ ‵ ftrue) ⊛ ‵ (owns (types_at En.signature.params κs) a y.0.4)) ∷ given (g.names ≡ z) (‵ ftrue) ∷ []) ∵
     keep ! (1 ∷ 0 ∷ []) $ learn ! (λ asked. drop ! $ split ! $ split3 ! $ move ! (3 ∷ []) $ fsplit3 ! $ fsplit3 ! $ move ! (3 ∷ []) $ fsplit ! $ drop ! $
-    use1 𝓛 (‵ (hidden_shr SentData κs.1.0 (record {}, tt) b' o') ⊛ ‵ (fhide (announced g.names g.bytes g.shut))) (lent_out 𝓛 Mark.struct (Mark.the_codes (marker.the_row RawPtr).coded) Mark.the_heap Mark.the_lent κs.1.0 g b' o') $
+    use1 𝓛 (‵ (hidden_shr GhostData κs.1.0 (record {}, tt) b' o') ⊛ ‵ (fhide (announced g.names g.bytes g.shut))) (lent_out 𝓛 Mark.struct (Mark.the_codes ghost_coded) Mark.the_heap Mark.the_lent κs.1.0 g b' o') $
     split ! $ drop ! $ unhide ! $ rewrite ! 0 (λ (n : Names). ‵ (announced n g.bytes g.shut)) asked refl $ keep ! (2 ∷ 3 ∷ 5 ∷ 0 ∷ 6 ∷ []) $
     enter ! 𝓣.C 𝓣.Λ fn (vptr b o ∷ vptr b' o' ∷ []) Post $ alloc_all ! (λ l. pass_all ! refl ((tt, tt), ((tt, tt), tt)) $ let Ev = env fn.locals l in
     opens ! tt Row b o (λ vs. move ! (1 ∷ []) $ fsplit ! $ move ! (1 ∷ 6 ∷ []) $

@@ -1,5 +1,5 @@
 -- `slice_mut` lends the bytes, and their owner follows what is written. Assumes `Logic`.
-use Rattle.piper_ring.proofs.Kit.{◌≡◌, ℕ, ◌+◌, ◌*◌, ◌^◌, ◌<◌, ◌≤◌, List, [], ◌∷◌, length, sym, refl, ◌∙◌, arith, w64, named, Val, vint, vptr, Ura, SProp, ent, sep, id⊢, Fml, GName, ftrue, fsep, flft, fat, full_share, Logic, sem, ‵, raw, ◌⊛◌, some, given, later, await, pick, split3, at_ret, ◌$◌, ◌∵◌, !, qed, move, keep, split, join, fsplit, fsplit3, fjoin, fpick, fpack, learn, use1, rewrite, frame, suffices, done, drop as forget, stop, fld, of_opd, and_then, no_more, bin, first, blocks, exec, returns, enter, alloc_all, pass_all, free_all, look_at, get, get_in, sets, sets_last, is, take_at, give_at, env, agg, sub, whole, tables, yes, RattleType, owns, types_at, plain, Ptr, block_ptr, block_of, count_of, at_block, u8, usize, uint_vals, uint_Tells, mut_vals, mut_Tells, mem, cell_at, nothing, opens, Struct, shape, layout, Stays, stay_dropped, walk_of, Goes-dropped, tail, word-Good, proved, slot_of as offset_of, run, byte}
+use Rattle.piper_ring.proofs.Kit.{◌≡◌, ℕ, ◌+◌, ◌*◌, ◌^◌, ◌<◌, ◌≤◌, List, [], ◌∷◌, length, sym, refl, ◌∙◌, arith, w64, named, Val, vint, vptr, Ura, SProp, ent, sep, id⊢, Fml, GName, ftrue, fsep, flft, fat, full_share, Logic, sem, ‵, raw, ◌⊛◌, some, given, later, await, pick, split3, at_ret, ◌$◌, ◌∵◌, !, qed, move, keep, split, join, fsplit, fsplit3, fjoin, fpick, fpack, learn, use1, rewrite, frame, suffices, done, drop as forget, stop, fld, of_opd, and_then, no_more, bin, first, blocks, exec, returns, enter, alloc_all, pass_all, free_all, look_at, get, get_in, sets, sets_last, is, take_at, give_at, env, agg, sub, whole, tables, yes, RattleType, owns, types_at, plain, Ptr, block_ptr, block_of, count_of, at_block, u8, usize, uint_vals, uint_Tells, mut_vals, mut_Tells, mem, cell_at, nothing, opens, Struct, shape, layout, Stays, stay_dropped, walk_of, Goes-dropped, tail, word-Good, proved, slot_of as offset_of, run, byte, GhostData}
 use Rattle.std.proofs.Common.{drop}
 use types.SemTy.{cells}
 use types.Kit.{group}
@@ -27,16 +27,13 @@ use Rattle.piper_ring.proofs.ring.places.Places.slice_mut.Code as code
 abbrev Row : RattleType
 Row = Places.the_row
 
-abbrev Data : RattleType
-Data = Struct (shape Places.the_type)
-
 module _ {M : Type 1} {𝓤 : Ura M} (𝓛 : Logic 𝓤) (d : Row.Denot) (vs : List Val) (rb ro from : ℕ) where
   abbrev at : Ptr
   at = d.at
 
   -- all but the bytes
   abbrev Rest : Fml
-  Rest = fsep (Data.own_val (record {}, tt) vs) (cell_at full_share Row.mir vs rb ro)
+  Rest = fsep (GhostData.own_val (record {}, tt) vs) (cell_at full_share Row.mir vs rb ro)
 
   back : Placed at d.capacity → from ≡ offset_of d.capacity d.first → from + length d.bytes ≤ d.capacity → (ws : List ℕ) → length ws ≡ length d.bytes
       → ent 𝓤 (sep 𝓤 (sem 𝓛 (cells (mem u8) ws (block_of at) (from + count_of at))) (sem 𝓛 Rest)) (sem 𝓛 ((mem Row).own_at (with_bytes d d.bytes ws) rb ro))

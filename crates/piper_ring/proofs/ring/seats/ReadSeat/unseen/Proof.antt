@@ -1,6 +1,5 @@
 -- `unseen` makes evidence of nothing. Assumes `Logic`.
-use Rattle.piper_ring.proofs.Kit.{false, ◌≡◌, ℕ, [], ◌∷◌, refl, named, Val, vptr, SProp, emp, Share, ftrue, flft, ‵, raw, ◌⊛◌, ◌$◌, ◌∵◌, !, qed, by, move, keep, split, join, fjoin, use0, no_more, and_then, returns, enter, alloc_all, pass_all, free_all, look_at, get, sets, env, agg, fact, fact_i, tables, yes, owns, types_at, plain, RefOf, shr_vals, shr_Tells, nothing, Stays, stay_dropped, walk_of, Goes-dropped, proved, leaves, Names}
-use Rattle.piper_ring.proofs.Fields.{ghost_val, SawData, saw_made}
+use Rattle.piper_ring.proofs.Kit.{false, ◌≡◌, ℕ, [], ◌∷◌, refl, named, Val, vptr, SProp, emp, Share, ftrue, flft, ‵, raw, ◌⊛◌, ◌$◌, ◌∵◌, !, qed, by, move, keep, split, join, fjoin, use0, no_more, and_then, returns, enter, alloc_all, pass_all, free_all, look_at, get, sets, env, agg, fact, fact_i, tables, yes, owns, types_at, plain, RefOf, shr_vals, shr_Tells, nothing, Stays, stay_dropped, walk_of, Goes-dropped, proved, leaves, Names, ghost_val, GhostData, ghost_made}
 use Rattle.piper_ring.specs.contracts.ring.seats.ReadSeat as Mark
 use Rattle.piper_ring.specs.contracts.ring.seats.ReadSeat.unseen.{ended, clauses}
 use Rattle.piper_ring.specs.contracts.ring.seats.ReadSeat.unseen.Key.{name as #self}
@@ -20,6 +19,6 @@ unseen_spec 𝓤 𝓛 𝓜 𝓡 wired =
     split ! $ split ! $ keep ! (0 ∷ []) $
     enter ! 𝓣.C 𝓣.Λ fn (vptr b o ∷ []) Post $ alloc_all ! (λ l. pass_all ! refl ((tt, tt), tt) $ let Ev = env fn.locals l in
     sets ! (agg ! (no_more !)) refl (tt, tt) $ sets ! (agg ! (and_then ! (get ! refl) (no_more !))) refl (tt, (tt, tt)) $
-    nothing ! $ use0 𝓛 (‵ (SawData.own_val (record {}, tt) (ghost_val ∷ []))) (saw_made 𝓛) $ fjoin ! $ move ! (1 ∷ []) $ nothing ! $ move ! (1 ∷ 0 ∷ []) $ join ! $
+    nothing ! $ use0 𝓛 (‵ (GhostData.own_val (record {}, tt) (ghost_val ∷ []))) (ghost_made 𝓛) $ fjoin ! $ move ! (1 ∷ []) $ nothing ! $ move ! (1 ∷ 0 ∷ []) $ join ! $
     let Told : Type 0 = (z ≡ z) × (false ≡ false) in use0 𝓛 (raw (fact 𝓤 Told)) (fact_i 𝓤 Told (emp 𝓤) (refl, refl)) $ nothing ! $ nothing ! $ fjoin ! $
     returns ! (look_at ! 0 refl) $ free_all ! refl $ keep ! (2 ∷ 0 ∷ 3 ∷ 1 ∷ []) $ by ! (leaves 𝓛 En hs c y ghost_val (record { mark = record {}; names = z; seen = false }) (tt, tt) (tt, tt))))

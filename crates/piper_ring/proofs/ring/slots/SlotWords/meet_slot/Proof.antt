@@ -1,6 +1,5 @@
 -- `meet_slot` is no step of the program. Assumes `Logic`.
-use Rattle.piper_ring.proofs.Kit.{◌≡◌, ℕ, List, [], ◌∷◌, sym, refl, named, Val, vptr, vunit, SProp, emp, Share, Fml, ftrue, flft, ‵, raw, ◌⊛◌, given, ◌$◌, ◌∵◌, !, qed, by, move, keep, drop, split, split3, join, fsplit, fsplit3, fjoin, fjoin3, fpick, fpack, learn, use0, use2, rewrite, feq_i, unit_lit, of_opd, returns, enter, alloc_all, pass_all, free_all, look_at, sets, env, shr_bor-open, obor_close, fact, fact_i, tables, no, RattleType, owns, types_at, plain, named_lft, Ptr, mut_vals, mut_Tells, nothing, opens, closes, Stays, stay_dropped, stay_ref, walk_of, Goes-dropped, Goes-ref, guard_good, proved, leaves, later, await, Bool, Names, Placed, Stored, Waits, Wakes, IsRemembered, of_waits, of_wakes, waits_in, wakes_in, knows}
-use Rattle.piper_ring.proofs.Fields.{lent_val, lent_told}
+use Rattle.piper_ring.proofs.Kit.{◌≡◌, ℕ, List, [], ◌∷◌, sym, refl, named, Val, vptr, vunit, SProp, emp, Share, Fml, ftrue, flft, ‵, raw, ◌⊛◌, given, ◌$◌, ◌∵◌, !, qed, by, move, keep, drop, split, split3, join, fsplit, fsplit3, fjoin, fjoin3, fpick, fpack, learn, use0, use2, rewrite, feq_i, unit_lit, of_opd, returns, enter, alloc_all, pass_all, free_all, look_at, sets, env, shr_bor-open, obor_close, fact, fact_i, tables, no, RattleType, owns, types_at, plain, named_lft, Ptr, mut_vals, mut_Tells, nothing, opens, closes, Stays, stay_dropped, stay_ref, walk_of, Goes-dropped, Goes-ref, guard_good, proved, leaves, later, await, Bool, Names, Placed, Stored, Waits, Wakes, IsRemembered, of_waits, of_wakes, waits_in, wakes_in, knows, lent_val, lent_told}
 use Rattle.piper_ring.proofs.Rights.{known_halves}
 use Rattle.piper_ring.proofs.Slots.{meet}
 use Rattle.piper_ring.specs.contracts.ring.slots.WaiterState as One
