@@ -5,8 +5,7 @@ use Rattle.piper_ring.proofs.Kit.{◌≡◌, ℕ, ◌+◌, ◌-◌, ◌≤◌, B
 use Rattle.std.proofs.Common.{drop}
 use Rattle.std.proofs.Math.Seq.{drop-length}
 use Rattle.piper_ring.proofs.Refresh.{pending_is}
-use Rattle.piper_ring.proofs.Closing.{ends_show}
-use Rattle.piper_ring.proofs.Steps.{flag_small, not_gone, Rest, OneStays, WriterSees, writer_opens, reader_agrees, closes, raise}
+use Rattle.piper_ring.proofs.Steps.{ends_show, flag_small, not_gone, Rest, OneStays, WriterSees, writer_opens, reader_agrees, closes, raise}
 
 module _ {M : Type 1} {𝓤 : Ura M} (𝓛 : Logic 𝓤) (w p : Ptr) (z : Names) (head seen : ℕ) (sent : List ℕ) (limit : ℕ) (shut there : Bool) (have : List ℕ) (heard : Stream) (other_saw : Bool) where
   open 𝓛 use {H}

@@ -15,17 +15,15 @@ use Rattle.piper_ring.specs.contracts.ring.memory.Parts as Parts
 use Rattle.piper_ring.specs.contracts.ring.places.Blank as Blank
 use Rattle.piper_ring.specs.contracts.ring.seats.ReadSeat as ReadSeat
 use Rattle.piper_ring.specs.contracts.ring.seats.WriteSeat as WriteSeat
-use Rattle.piper_ring.specs.contracts.ring.seats.«open».{ended, clauses}
-use Rattle.piper_ring.specs.contracts.ring.seats.«open».Key.{name as #self}
-use Rattle.piper_ring.proofs.ring.seats.«open».Statement.{statement}
-use Rattle.piper_ring.proofs.ring.seats.«open».Code as code
+use Rattle.piper_ring.specs.contracts.ring.seats.«open» as called
+use Rattle.piper_ring.proofs.ring.seats.«open» as own
 
-pub open_spec : {M : Type 1} → statement M
+pub open_spec : {M : Type 1} → own.Statement.statement M
 open_spec 𝓤 𝓛 𝓜 𝓡 wired =
-    let H = 𝓛.H in let 𝓣 = tables 𝓤 H 𝓜 𝓡 𝓡.env in let En = ended in let fn = code.function in let c = clauses 𝓛 𝓜.mem 𝓡.returns in
+    let H = 𝓛.H in let 𝓣 = tables 𝓤 H 𝓜 𝓡 𝓡.env in let En = called.ended in let fn = own.Code.function in let c = called.clauses 𝓛 𝓜.mem 𝓡.returns in
     let memory = plain (λ _. Parts.the_row) in let number = plain (λ _. Lender.the_row) in let TRow : RattleType = Token.the_row in let mine = RefOf (0 ∷ []) tt (plain (λ _. TRow)) (λ _. tt) in let theirs = RefOf (1 ∷ []) tt (plain (λ _. TRow)) (λ _. tt) in
     let hs : Stays En.signature.params En.kept = (stay_dropped memory yes, (stay_dropped number yes, (stay_dropped mine yes, (stay_dropped theirs yes, tt)))) in
-    proved 𝓛 En hs c 𝓜 𝓡 (Goes-dropped 𝓛 2 memory yes (λ κs x f. refl), (Goes-dropped 𝓛 2 number yes (λ κs x f. refl), (Goes-dropped 𝓛 2 mine yes (λ κs x f. refl), (Goes-dropped 𝓛 2 theirs yes (λ κs x f. refl), tt)))) #self fn (code.unfolded 𝓤 H 𝓜 𝓡 wired)
+    proved 𝓛 En hs c 𝓜 𝓡 (Goes-dropped 𝓛 2 memory yes (λ κs x f. refl), (Goes-dropped 𝓛 2 number yes (λ κs x f. refl), (Goes-dropped 𝓛 2 mine yes (λ κs x f. refl), (Goes-dropped 𝓛 2 theirs yes (λ κs x f. refl), tt)))) called.Key.name fn (own.Code.unfolded 𝓤 H 𝓜 𝓡 wired)
     (λ κs. ((λ m. pointer_val m.start ∷ []), ((λ m. pointer_val m.start ∷ []), (shr_vals, (shr_vals, tt))))) (λ κs. ((λ m vs is. pointer_told m.start vs is.0), ((λ m vs is. pointer_told m.start vs is.0), (shr_Tells (named 0) κs.0 TRow, (shr_Tells (named 1) κs.1.0 TRow, tt))))) (λ κs qs bounds a gh are.
     let w₀ : Ptr = a.0.start in let cap : ℕ = a.0.capacity in let d : Lender.the_row.Denot = a.1.0 in let life : ℕ = d.life in let v₁ : Val = vptr a.1.1.0.ref_ptr.0 a.1.1.0.ref_ptr.1 in let v₂ : Val = vptr a.1.1.1.0.ref_ptr.0 a.1.1.1.0.ref_ptr.1 in let name₁ : ℕ = a.1.1.0.now.name in let name₂ : ℕ = a.1.1.1.0.now.name in
     let y : (walk_of 𝓛 En hs c).Ghost = ((κs, qs, bounds, a, (pointer_val w₀ ∷ [], (pointer_val d.start ∷ [], (v₁ ∷ [], (v₂ ∷ [], tt))))), gh) in let Post : Val → SProp 𝓤 = (walk_of 𝓛 En hs c).post y in

@@ -6,16 +6,13 @@ use Rattle.piper_ring.specs.Block.{size_of_block, space_of, space_room}
 use Rattle.piper_ring.specs.Parts.{block_at, token_of}
 use Rattle.piper_ring.specs.contracts.ring.memory.Frame as Frame
 use Rattle.piper_ring.specs.contracts.ring.memory.Memory as Memory
-use Rattle.piper_ring.specs.contracts.ring.memory.Frame.join.{ended, clauses}
-use Rattle.piper_ring.specs.contracts.ring.memory.Frame.join.Key.{name as #self}
-use Rattle.piper_ring.proofs.ring.memory.Frame.join.Statement.{statement}
-use Rattle.piper_ring.proofs.ring.memory.Frame.join.Code as code
+use Rattle.piper_ring.proofs.ring.memory.Frame.join as own
 
-pub join_spec : {M : Type 1} → statement M
+pub join_spec : {M : Type 1} → own.Statement.statement M
 join_spec 𝓤 𝓛 𝓜 𝓡 wired =
-    let H = 𝓛.H in let 𝓣 = tables 𝓤 H 𝓜 𝓡 𝓡.env in let En = ended in let fn = code.function in let c = clauses 𝓛 𝓜.mem 𝓡.returns in
+    let H = 𝓛.H in let 𝓣 = tables 𝓤 H 𝓜 𝓡 𝓡.env in let En = Frame.join.ended in let fn = own.Code.function in let c = Frame.join.clauses 𝓛 𝓜.mem 𝓡.returns in
     let self = plain (λ _. Frame.the_row) in let gap = plain (λ _. Space.the_row) in let Row : RattleType = Memory.the_row in let hs : Stays En.signature.params En.kept = (stay_dropped self yes, (stay_dropped gap yes, tt)) in
-    proved 𝓛 En hs c 𝓜 𝓡 (Goes-dropped 𝓛 0 self yes (λ κs x f. refl), (Goes-dropped 𝓛 0 gap yes (λ κs x f. refl), tt)) #self fn (code.unfolded 𝓤 H 𝓜 𝓡 wired)
+    proved 𝓛 En hs c 𝓜 𝓡 (Goes-dropped 𝓛 0 self yes (λ κs x f. refl), (Goes-dropped 𝓛 0 gap yes (λ κs x f. refl), tt)) Frame.join.Key.name fn (own.Code.unfolded 𝓤 H 𝓜 𝓡 wired)
     (λ κs. ((λ x. pointer_val x.start ∷ []), ((λ x. pointer_val x.start ∷ []), tt))) (λ κs. ((λ x vs is. pointer_told x.start vs is.0), ((λ x vs is. pointer_told x.start vs is.0), tt))) (λ κs qs bounds a gh are.
     let w : Ptr = a.0.start in let cap : ℕ = a.0.capacity in let g : Space.the_row.Denot = a.1.0 in let size : ℕ = size_of_block cap in let w' : Ptr = block_ptr (block_of w) (count_of w) in
     let y : (walk_of 𝓛 En hs c).Ghost = ((κs, qs, bounds, a, (pointer_val w ∷ [], (pointer_val g.start ∷ [], tt))), gh) in let Post : Val → SProp 𝓤 = (walk_of 𝓛 En hs c).post y in

@@ -9,16 +9,13 @@ use Rattle.piper_ring.proofs.Block.{BlockRoom, BytesRoom, WordsRoom, block_cut, 
 use Rattle.piper_ring.proofs.Opening.{words_out, Rejoin}
 use Rattle.piper_ring.specs.contracts.ring.memory.Parts as Parts
 use Rattle.piper_ring.specs.contracts.ring.memory.Memory as Memory
-use Rattle.piper_ring.specs.contracts.ring.memory.Memory.part.{ended, clauses}
-use Rattle.piper_ring.specs.contracts.ring.memory.Memory.part.Key.{name as #self}
-use Rattle.piper_ring.proofs.ring.memory.Memory.part.Statement.{statement}
-use Rattle.piper_ring.proofs.ring.memory.Memory.part.Code as code
+use Rattle.piper_ring.proofs.ring.memory.Memory.part as own
 
-pub part_spec : {M : Type 1} → statement M
+pub part_spec : {M : Type 1} → own.Statement.statement M
 part_spec 𝓤 𝓛 𝓜 𝓡 wired =
-    let H = 𝓛.H in let 𝓣 = tables 𝓤 H 𝓜 𝓡 𝓡.env in let En = ended in let fn = code.function in let c = clauses 𝓛 𝓜.mem 𝓡.returns in
+    let H = 𝓛.H in let 𝓣 = tables 𝓤 H 𝓜 𝓡 𝓡.env in let En = Memory.part.ended in let fn = own.Code.function in let c = Memory.part.clauses 𝓛 𝓜.mem 𝓡.returns in
     let self = plain (λ _. Memory.the_row) in let number = plain (λ _. usize) in let hs : Stays En.signature.params En.kept = (stay_dropped self yes, (stay_dropped number yes, tt)) in
-    proved 𝓛 En hs c 𝓜 𝓡 (Goes-dropped 𝓛 0 self yes (λ κs x f. refl), (Goes-dropped 𝓛 0 number yes (λ κs x f. refl), tt)) #self fn (code.unfolded 𝓤 H 𝓜 𝓡 wired)
+    proved 𝓛 En hs c 𝓜 𝓡 (Goes-dropped 𝓛 0 self yes (λ κs x f. refl), (Goes-dropped 𝓛 0 number yes (λ κs x f. refl), tt)) Memory.part.Key.name fn (own.Code.unfolded 𝓤 H 𝓜 𝓡 wired)
     (λ κs. ((λ m. pointer_val m.start ∷ []), (uint_vals w64, tt))) (λ κs. ((λ m vs is. pointer_told m.start vs is.0), (uint_Tells w64, tt))) (λ κs qs bounds a gh are.
     let w₀ : Ptr = a.0.start in let cap : ℕ = a.1.0 in let size : ℕ = size_of_block cap in let τ : Ty = purpose size in
     let y : (walk_of 𝓛 En hs c).Ghost = ((κs, qs, bounds, a, (pointer_val w₀ ∷ [], (vint w64 cap ∷ [], tt))), gh) in let Post : Val → SProp 𝓤 = (walk_of 𝓛 En hs c).post y in

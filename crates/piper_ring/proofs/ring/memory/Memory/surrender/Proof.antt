@@ -9,17 +9,14 @@ use Rattle.std_heap.proofs.GlobalAllocator.deallocate.Met as deallocates
 use Rattle.piper_ring.specs.Block.{IsClaim, purpose, unused}
 use Rattle.piper_ring.proofs.Heap.{Frees, freeing, may_free, was_freed}
 use Rattle.piper_ring.specs.contracts.ring.memory.Memory as Memory
-use Rattle.piper_ring.specs.contracts.ring.memory.Memory.surrender.{ended, clauses}
-use Rattle.piper_ring.specs.contracts.ring.memory.Memory.surrender.Key.{name as #self}
-use Rattle.piper_ring.proofs.ring.memory.Memory.surrender.Statement.{statement}
-use Rattle.piper_ring.proofs.ring.memory.Memory.surrender.Code as code
+use Rattle.piper_ring.proofs.ring.memory.Memory.surrender as own
 
-pub surrender_spec : {M : Type 1} → statement M
+pub surrender_spec : {M : Type 1} → own.Statement.statement M
 surrender_spec 𝓤 𝓛 𝓜 𝓡 wired =
-    let H = 𝓛.H in let 𝓣 = tables 𝓤 H 𝓜 𝓡 𝓡.env in let En = ended in let fn = code.function in let c = clauses 𝓛 𝓜.mem 𝓡.returns in
+    let H = 𝓛.H in let 𝓣 = tables 𝓤 H 𝓜 𝓡 𝓡.env in let En = Memory.surrender.ended in let fn = own.Code.function in let c = Memory.surrender.clauses 𝓛 𝓜.mem 𝓡.returns in
     let memory = plain (λ _. Memory.the_row) in let heap = RefOf (0 ∷ []) tt (plain (λ _. Heap.the_row)) (λ _. tt) in let number = plain (λ _. usize) in
     let hs : Stays En.signature.params En.kept = (stay_dropped memory yes, (stay_dropped heap yes, (stay_dropped number yes, tt))) in
-    proved 𝓛 En hs c 𝓜 𝓡 (Goes-dropped 𝓛 1 memory yes (λ κs x f. refl), (Goes-dropped 𝓛 1 heap yes (λ κs x f. refl), (Goes-dropped 𝓛 1 number yes (λ κs x f. refl), tt))) #self fn (code.unfolded 𝓤 H 𝓜 𝓡 wired)
+    proved 𝓛 En hs c 𝓜 𝓡 (Goes-dropped 𝓛 1 memory yes (λ κs x f. refl), (Goes-dropped 𝓛 1 heap yes (λ κs x f. refl), (Goes-dropped 𝓛 1 number yes (λ κs x f. refl), tt))) Memory.surrender.Key.name fn (own.Code.unfolded 𝓤 H 𝓜 𝓡 wired)
     (λ κs. ((λ m. pointer_val m.start ∷ []), (shr_vals, (uint_vals w64, tt)))) (λ κs. ((λ m vs is. pointer_told m.start vs is.0), (shr_Tells (named 0) κs.0 Heap.the_row, (uint_Tells w64, tt)))) (λ κs qs bounds a gh are.
     let p : Ptr = a.0.start in let h = a.1.0 in let hp : ℕ × ℕ = h.ref_ptr in let n : ℕ = a.1.1.0 in let w : ℕ = 8 in let κ = κs.0 in let q : Share = qs.0 in let τ : Ty = purpose n in
     let y : (walk_of 𝓛 En hs c).Ghost = ((κs, qs, bounds, a, (pointer_val p ∷ [], (vptr hp.0 hp.1 ∷ [], (vint w64 n ∷ [], tt)))), gh) in let Post : Val → SProp 𝓤 = (walk_of 𝓛 En hs c).post y in
@@ -33,7 +30,7 @@ surrender_spec 𝓤 𝓛 𝓜 𝓡 wired =
     sets ! (is ! (of_opd ! (get_in ! (fld ! refl (stop !)) (sub ! 0 refl (whole !)))) (ap ptr_val at)) refl (tt, tt) $ move ! (1 ∷ 2 ∷ 0 ∷ []) $
     let r : Ptr = block_ptr b o in let t : (Frees 𝓛 𝓜 𝓡).Ghost = freeing 𝓛 𝓜 𝓡 κ q h n w τ r in
     use3 𝓛 (raw ((Frees 𝓛 𝓜 𝓡).pre t)) (may_free 𝓛 𝓜 𝓡 κ q h n w τ asked.0.0 r) $ first ! $ blocks ! $
-    calls_at_last ! (fm 𝓛 𝓜 𝓡) (Frees 𝓛 𝓜 𝓡) (deallocates.met 𝓤 𝓛 𝓜 𝓡 (code.calls-std_heap::GlobalAllocator::deallocate 𝓡.env wired)) t (and_then ! (get ! refl) (and_then ! (get ! refl) (and_then ! (get ! refl) (and_then ! (lit ! tt) (no_more !))))) (λ v.
+    calls_at_last ! (fm 𝓛 𝓜 𝓡) (Frees 𝓛 𝓜 𝓡) (deallocates.met 𝓤 𝓛 𝓜 𝓡 (own.Code.calls-std_heap::GlobalAllocator::deallocate 𝓡.env wired)) t (and_then ! (get ! refl) (and_then ! (get ! refl) (and_then ! (get ! refl) (and_then ! (lit ! tt) (no_more !))))) (λ v.
     use1 𝓛 (later (given (v ≡ vunit) (‵ (flft κ q)))) (was_freed 𝓛 𝓜 𝓡 κ q h n w τ r v) $ await ! tt $ learn ! (λ none.
     let fine : T (has_ty ty_unit v) × WT v = subst (λ (u : Val). T (has_ty ty_unit u) × WT u) (sym none) (tt, tt) in
     lands_last ! refl fine $ exec ! 𝓣.C 𝓣.Λ Ev (from_on 2 fn.body) (at_ret Ev Post) $ sets ! (of_opd ! (unit_lit !)) refl (tt, tt) $ join ! $

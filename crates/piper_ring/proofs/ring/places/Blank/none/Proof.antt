@@ -3,17 +3,14 @@ use Rattle.piper_ring.proofs.Kit.{◌≡◌, ℕ, ◌+◌, List, [], ◌∷◌, 
 use Rattle.piper_ring.specs.Places.{Placed}
 use Rattle.piper_ring.specs.contracts.ring.places.Places as Places
 use Rattle.piper_ring.specs.contracts.ring.places.Blank as Blank
-use Rattle.piper_ring.specs.contracts.ring.places.Blank.none.{ended, clauses}
-use Rattle.piper_ring.specs.contracts.ring.places.Blank.none.Key.{name as #self}
-use Rattle.piper_ring.proofs.ring.places.Blank.none.Statement.{statement}
-use Rattle.piper_ring.proofs.ring.places.Blank.none.Code as code
+use Rattle.piper_ring.proofs.ring.places.Blank.none as own
 
-pub none_spec : {M : Type 1} → statement M
+pub none_spec : {M : Type 1} → own.Statement.statement M
 none_spec 𝓤 𝓛 𝓜 𝓡 wired =
-    let H = 𝓛.H in let 𝓣 = tables 𝓤 H 𝓜 𝓡 𝓡.env in let En = ended in let fn = code.function in let c = clauses 𝓛 𝓜.mem 𝓡.returns in
+    let H = 𝓛.H in let 𝓣 = tables 𝓤 H 𝓜 𝓡 𝓡.env in let En = Blank.none.ended in let fn = own.Code.function in let c = Blank.none.clauses 𝓛 𝓜.mem 𝓡.returns in
     let Row : RattleType = Blank.the_row in let self = plain (λ _. Row) in let KRow : RattleType = Places.the_row in
     let hs : Stays En.signature.params En.kept = (stay_ref (0 ∷ []) tt self, (stay_dropped (plain (λ _. usize)) yes, tt)) in
-    proved 𝓛 En hs c 𝓜 𝓡 (Goes-ref 𝓛 1 0 tt self, (Goes-dropped 𝓛 1 (plain (λ _. usize)) yes (λ κs x f. refl), tt)) #self fn (code.unfolded 𝓤 H 𝓜 𝓡 wired)
+    proved 𝓛 En hs c 𝓜 𝓡 (Goes-ref 𝓛 1 0 tt self, (Goes-dropped 𝓛 1 (plain (λ _. usize)) yes (λ κs x f. refl), tt)) Blank.none.Key.name fn (own.Code.unfolded 𝓤 H 𝓜 𝓡 wired)
     (λ κs. (mut_vals, (uint_vals w64, tt))) (λ κs. (mut_Tells (named 0) κs.0 Row, (uint_Tells w64, tt))) (λ κs qs bounds a gh are.
     let b : ℕ = a.0.ref_ptr.0 in let o : ℕ = a.0.ref_ptr.1 in let h = a.0.now in let n : ℕ = a.1.0 in let κ = κs.0 in let us : List Val = ghost_val ∷ [] in
     let new : KRow.Denot = record { mark = record {}; at = h.at; capacity = h.capacity; first = h.first + n; bytes = [] } in

@@ -3,17 +3,14 @@ use Rattle.piper_ring.proofs.Kit.{◌≡◌, ℕ, List, [], ◌∷◌, length, r
 use Rattle.piper_ring.proofs.PlacesParts.{forgets}
 use Rattle.piper_ring.specs.contracts.ring.places.Places as Places
 use Rattle.piper_ring.specs.contracts.ring.places.Blank as Blank
-use Rattle.piper_ring.specs.contracts.ring.places.Places.forget.{ended, clauses}
-use Rattle.piper_ring.specs.contracts.ring.places.Places.forget.Key.{name as #self}
-use Rattle.piper_ring.proofs.ring.places.Places.forget.Statement.{statement}
-use Rattle.piper_ring.proofs.ring.places.Places.forget.Code as code
+use Rattle.piper_ring.proofs.ring.places.Places.forget as own
 
-pub forget_spec : {M : Type 1} → statement M
+pub forget_spec : {M : Type 1} → own.Statement.statement M
 forget_spec 𝓤 𝓛 𝓜 𝓡 wired =
-    let H = 𝓛.H in let 𝓣 = tables 𝓤 H 𝓜 𝓡 𝓡.env in let En = ended in let fn = code.function in let c = clauses 𝓛 𝓜.mem 𝓡.returns in
+    let H = 𝓛.H in let 𝓣 = tables 𝓤 H 𝓜 𝓡 𝓡.env in let En = Places.forget.ended in let fn = own.Code.function in let c = Places.forget.clauses 𝓛 𝓜.mem 𝓡.returns in
     let Row : RattleType = Places.the_row in let self = plain (λ _. Row) in let BRow : RattleType = Blank.the_row in
     let hs : Stays En.signature.params En.kept = (stay_dropped self yes, tt) in
-    proved 𝓛 En hs c 𝓜 𝓡 (Goes-dropped 𝓛 0 self yes (λ κs x f. refl), tt) #self fn (code.unfolded 𝓤 H 𝓜 𝓡 wired)
+    proved 𝓛 En hs c 𝓜 𝓡 (Goes-dropped 𝓛 0 self yes (λ κs x f. refl), tt) Places.forget.Key.name fn (own.Code.unfolded 𝓤 H 𝓜 𝓡 wired)
     (λ κs. ((λ x. ghost_val ∷ []), tt)) (λ κs. ((λ x vs is. ghost_told vs is.0), tt)) (λ κs qs bounds a gh are.
     let h = a.0 in let xs : List ℕ = h.bytes in let us : List Val = ghost_val ∷ [] in
     let new : BRow.Denot = record { mark = record {}; at = h.at; capacity = h.capacity; first = h.first; count = length xs } in

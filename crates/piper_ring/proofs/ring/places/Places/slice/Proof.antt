@@ -7,17 +7,14 @@ use Rattle.piper_ring.specs.contracts.ring.places.Places as Places
 use Rattle.piper_ring.specs.contracts.ring.places.Base as Base
 use Rattle.piper_ring.proofs.ring.places.Base.TheLaws.{lowers}
 use Rattle.piper_ring.proofs.PlacesParts.{seen}
-use Rattle.piper_ring.specs.contracts.ring.places.Places.slice.{ended, clauses}
-use Rattle.piper_ring.specs.contracts.ring.places.Places.slice.Key.{name as #self}
-use Rattle.piper_ring.proofs.ring.places.Places.slice.Statement.{statement}
-use Rattle.piper_ring.proofs.ring.places.Places.slice.Code as code
+use Rattle.piper_ring.proofs.ring.places.Places.slice as own
 
-pub slice_spec : {M : Type 1} → statement M
+pub slice_spec : {M : Type 1} → own.Statement.statement M
 slice_spec 𝓤 𝓛 𝓜 𝓡 wired =
-    let H = 𝓛.H in let 𝓣 = tables 𝓤 H 𝓜 𝓡 𝓡.env in let En = ended in let fn = code.function in let c = clauses 𝓛 𝓜.mem 𝓡.returns in
+    let H = 𝓛.H in let 𝓣 = tables 𝓤 H 𝓜 𝓡 𝓡.env in let En = Places.slice.ended in let fn = own.Code.function in let c = Places.slice.clauses 𝓛 𝓜.mem 𝓡.returns in
     let self = RefOf (0 ∷ []) tt (plain (λ _. Places.the_row)) (λ _. tt) in
     let hs : Stays En.signature.params En.kept = (stay_dropped self yes, (stay_dropped (plain (λ _. Base.the_row)) yes, (stay_dropped (plain (λ _. usize)) yes, (stay_dropped (plain (λ _. usize)) yes, tt)))) in
-    proved 𝓛 En hs c 𝓜 𝓡 (Goes-dropped 𝓛 1 self yes (λ κs x f. refl), (Goes-dropped 𝓛 1 (plain (λ _. Base.the_row)) yes (λ κs x f. refl), (Goes-dropped 𝓛 1 (plain (λ _. usize)) yes (λ κs x f. refl), (Goes-dropped 𝓛 1 (plain (λ _. usize)) yes (λ κs x f. refl), tt)))) #self fn (code.unfolded 𝓤 H 𝓜 𝓡 wired)
+    proved 𝓛 En hs c 𝓜 𝓡 (Goes-dropped 𝓛 1 self yes (λ κs x f. refl), (Goes-dropped 𝓛 1 (plain (λ _. Base.the_row)) yes (λ κs x f. refl), (Goes-dropped 𝓛 1 (plain (λ _. usize)) yes (λ κs x f. refl), (Goes-dropped 𝓛 1 (plain (λ _. usize)) yes (λ κs x f. refl), tt)))) Places.slice.Key.name fn (own.Code.unfolded 𝓤 H 𝓜 𝓡 wired)
     (λ κs. (shr_vals, ((λ d. lowers.lowered d ∷ []), (uint_vals w64, (uint_vals w64, tt))))) (λ κs. (shr_Tells (named 0) κs.0 Places.the_row, (lowers.val_is, (uint_Tells w64, (uint_Tells w64, tt))))) (λ κs qs bounds a gh are.
     let b : ℕ = a.0.ref_ptr.0 in let o : ℕ = a.0.ref_ptr.1 in let h = a.0.now in let at : Ptr = h.at in let κ = κs.0 in let base = a.1.0 in let from : ℕ = a.1.1.0 in let len : ℕ = a.1.1.1.0 in
     let bv : Val = lowers.lowered base in

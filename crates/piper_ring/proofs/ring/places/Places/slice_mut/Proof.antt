@@ -19,10 +19,7 @@ use Rattle.piper_ring.specs.contracts.ring.places.Places as Places
 use Rattle.piper_ring.specs.contracts.ring.places.Base as Base
 use Rattle.piper_ring.proofs.ring.places.Base.TheLaws.{lowers}
 use Rattle.piper_ring.proofs.PlacesParts.{to_cells, of_cells}
-use Rattle.piper_ring.specs.contracts.ring.places.Places.slice_mut.{ended, clauses}
-use Rattle.piper_ring.specs.contracts.ring.places.Places.slice_mut.Key.{name as #self}
-use Rattle.piper_ring.proofs.ring.places.Places.slice_mut.Statement.{statement}
-use Rattle.piper_ring.proofs.ring.places.Places.slice_mut.Code as code
+use Rattle.piper_ring.proofs.ring.places.Places.slice_mut as own
 
 abbrev Row : RattleType
 Row = Places.the_row
@@ -45,11 +42,11 @@ module _ {M : Type 1} {𝓤 : Ura M} (𝓛 : Logic 𝓤) (d : Row.Denot) (vs : L
       nothing ! $ fpack ! (Placed at d.capacity) (λ _. ftrue) fine $ fjoin ! $ move ! (1 ∷ 0 ∷ []) $ fjoin ! $ move ! (1 ∷ 0 ∷ []) $ fjoin ! $
       fpack ! (List Val) (λ us. fsep (cell_at full_share Row.mir us rb ro) (Row.own_val (with_bytes d d.bytes ws) us)) vs $ done !
 
-pub slice_mut_spec : {M : Type 1} → statement M
+pub slice_mut_spec : {M : Type 1} → own.Statement.statement M
 slice_mut_spec 𝓤 𝓛 𝓜 𝓡 wired =
-    let H = 𝓛.H in let 𝓣 = tables 𝓤 H 𝓜 𝓡 𝓡.env in let En = ended in let fn = code.function in let c = clauses 𝓛 𝓜.mem 𝓡.returns in
+    let H = 𝓛.H in let 𝓣 = tables 𝓤 H 𝓜 𝓡 𝓡.env in let En = Places.slice_mut.ended in let fn = own.Code.function in let c = Places.slice_mut.clauses 𝓛 𝓜.mem 𝓡.returns in
     let hs : Stays En.signature.params En.kept = (stay_dropped (mut_ref_to (0 ∷ []) tt (plain (λ _. Row))) no, (stay_dropped (plain (λ _. Base.the_row)) yes, (stay_dropped (plain (λ _. usize)) yes, (stay_dropped (plain (λ _. usize)) yes, tt)))) in
-    proved 𝓛 En hs c 𝓜 𝓡 (Goes-spent_ref 𝓛 1 (0 ∷ []) tt (plain (λ _. Row)), (Goes-dropped 𝓛 1 (plain (λ _. Base.the_row)) yes (λ κs x f. refl), (Goes-dropped 𝓛 1 (plain (λ _. usize)) yes (λ κs x f. refl), (Goes-dropped 𝓛 1 (plain (λ _. usize)) yes (λ κs x f. refl), tt)))) #self fn (code.unfolded 𝓤 H 𝓜 𝓡 wired)
+    proved 𝓛 En hs c 𝓜 𝓡 (Goes-spent_ref 𝓛 1 (0 ∷ []) tt (plain (λ _. Row)), (Goes-dropped 𝓛 1 (plain (λ _. Base.the_row)) yes (λ κs x f. refl), (Goes-dropped 𝓛 1 (plain (λ _. usize)) yes (λ κs x f. refl), (Goes-dropped 𝓛 1 (plain (λ _. usize)) yes (λ κs x f. refl), tt)))) Places.slice_mut.Key.name fn (own.Code.unfolded 𝓤 H 𝓜 𝓡 wired)
     (λ κs. (mut_vals, ((λ d. lowers.lowered d ∷ []), (uint_vals w64, (uint_vals w64, tt))))) (λ κs. (mut_Tells (named 0) κs.0 Row, (lowers.val_is, (uint_Tells w64, (uint_Tells w64, tt))))) (λ κs qs bounds a gh are.
     let rb : ℕ = a.0.ref_ptr.0 in let ro : ℕ = a.0.ref_ptr.1 in let γ : GName = a.0.ghost_name in let d = a.0.now in let at : Ptr = d.at in let κ = κs.0 in let q = qs.0 in let base = a.1.0 in let from : ℕ = a.1.1.0 in let len : ℕ = a.1.1.1.0 in
     let bv : Val = lowers.lowered base in let new : List ℕ → Row.Denot = with_bytes d d.bytes in let u = Row.coded.code d in

@@ -2,17 +2,14 @@
 use Rattle.piper_ring.proofs.Kit.{◌≡◌, ℕ, ◌+◌, List, [], ◌∷◌, length, refl, named, Val, vptr, SProp, emp, full_share, Fml, ftrue, flft, ‵, raw, ◌⊛◌, ◌$◌, ◌∵◌, !, qed, by, move, keep, split, join, fsplit, fsplit3, fjoin, fjoin3, fpick, fpack, use0, rewrite, feq_i, drop as forget, no_more, and_then, returns, enter, alloc_all, pass_all, free_all, look_at, get, sets, env, agg, fact, fact_i, tables, RattleType, owns, types_at, plain, Is, shows, cell_at, mut_vals, mut_Tells, nothing, peeks, opens, closes, Stays, stay_ref, walk_of, Goes-ref, proved, leaves, byte, ghost_val, GhostData, ghost_told, ghost_made}
 use Rattle.piper_ring.specs.Places.{Placed}
 use Rattle.piper_ring.specs.contracts.ring.places.Places as Places
-use Rattle.piper_ring.specs.contracts.ring.places.Places.take.{ended, clauses}
-use Rattle.piper_ring.specs.contracts.ring.places.Places.take.Key.{name as #self}
-use Rattle.piper_ring.proofs.ring.places.Places.take.Statement.{statement}
-use Rattle.piper_ring.proofs.ring.places.Places.take.Code as code
+use Rattle.piper_ring.proofs.ring.places.Places.take as own
 
-pub take_spec : {M : Type 1} → statement M
+pub take_spec : {M : Type 1} → own.Statement.statement M
 take_spec 𝓤 𝓛 𝓜 𝓡 wired =
-    let H = 𝓛.H in let 𝓣 = tables 𝓤 H 𝓜 𝓡 𝓡.env in let En = ended in let fn = code.function in let c = clauses 𝓛 𝓜.mem 𝓡.returns in
+    let H = 𝓛.H in let 𝓣 = tables 𝓤 H 𝓜 𝓡 𝓡.env in let En = Places.take.ended in let fn = own.Code.function in let c = Places.take.clauses 𝓛 𝓜.mem 𝓡.returns in
     let Row : RattleType = Places.the_row in let self = plain (λ _. Row) in
     let hs : Stays En.signature.params En.kept = (stay_ref (0 ∷ []) tt self, tt) in
-    proved 𝓛 En hs c 𝓜 𝓡 (Goes-ref 𝓛 1 0 tt self, tt) #self fn (code.unfolded 𝓤 H 𝓜 𝓡 wired)
+    proved 𝓛 En hs c 𝓜 𝓡 (Goes-ref 𝓛 1 0 tt self, tt) Places.take.Key.name fn (own.Code.unfolded 𝓤 H 𝓜 𝓡 wired)
     (λ κs. (mut_vals, tt)) (λ κs. (mut_Tells (named 0) κs.0 Row, tt)) (λ κs qs bounds a gh are.
     let b : ℕ = a.0.ref_ptr.0 in let o : ℕ = a.0.ref_ptr.1 in let h = a.0.now in let κ = κs.0 in let xs : List ℕ = h.bytes in let B = byte h.at h.capacity in let us : List Val = ghost_val ∷ [] in
     let back : Row.Denot = record h { first = h.first + length xs; bytes = [] } in let Data : Fml = GhostData.own_val (record {}, tt) us in

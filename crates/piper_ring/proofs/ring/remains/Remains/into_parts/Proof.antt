@@ -16,16 +16,13 @@ use Rattle.piper_cells.specs.contracts.token_cell.Token as Token
 use mir.Syntax.{Ty, ty_int}
 use Rattle.piper_ring.specs.contracts.ring.memory.Frame as Frame
 use Rattle.piper_ring.specs.contracts.ring.remains.Remains as Remains
-use Rattle.piper_ring.specs.contracts.ring.remains.Remains.into_parts.{ended, clauses}
-use Rattle.piper_ring.specs.contracts.ring.remains.Remains.into_parts.Key.{name as #self}
-use Rattle.piper_ring.proofs.ring.remains.Remains.into_parts.Statement.{statement}
-use Rattle.piper_ring.proofs.ring.remains.Remains.into_parts.Code as code
+use Rattle.piper_ring.proofs.ring.remains.Remains.into_parts as own
 
-pub into_parts_spec : {M : Type 1} → statement M
+pub into_parts_spec : {M : Type 1} → own.Statement.statement M
 into_parts_spec 𝓤 𝓛 𝓜 𝓡 wired =
-    let H = 𝓛.H in let 𝓣 = tables 𝓤 H 𝓜 𝓡 𝓡.env in let En = ended in let fn = code.function in let c = clauses 𝓛 𝓜.mem 𝓡.returns in
+    let H = 𝓛.H in let 𝓣 = tables 𝓤 H 𝓜 𝓡 𝓡.env in let En = Remains.into_parts.ended in let fn = own.Code.function in let c = Remains.into_parts.clauses 𝓛 𝓜.mem 𝓡.returns in
     let self = plain (λ _. Remains.the_row) in let hs : Stays En.signature.params En.kept = (stay_dropped self yes, tt) in
-    proved 𝓛 En hs c 𝓜 𝓡 (Goes-dropped 𝓛 0 self yes (λ κs x f. refl), tt) #self fn (code.unfolded 𝓤 H 𝓜 𝓡 wired)
+    proved 𝓛 En hs c 𝓜 𝓡 (Goes-dropped 𝓛 0 self yes (λ κs x f. refl), tt) Remains.into_parts.Key.name fn (own.Code.unfolded 𝓤 H 𝓜 𝓡 wired)
     (λ κs. ((λ x. pointer_val x.words ∷ []), tt)) (λ κs. ((λ x vs is. pointer_told x.words vs is.0), tt)) (λ κs qs bounds a gh are.
     let h = a.0 in let w : Ptr = h.words in let p : Ptr = h.at in let z : Names = h.names in let cap : ℕ = z.capacity in let w' : Ptr = block_ptr (block_of w) (count_of w) in let at' : Ptr = space_of w' in
     let y : (walk_of 𝓛 En hs c).Ghost = ((κs, qs, bounds, a, (pointer_val w ∷ [], tt)), gh) in let Post : Val → SProp 𝓤 = (walk_of 𝓛 En hs c).post y in

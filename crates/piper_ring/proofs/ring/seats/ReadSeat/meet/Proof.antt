@@ -10,18 +10,15 @@ use Rattle.piper_ring.proofs.Rights.{common_twice}
 use Rattle.piper_ring.specs.contracts.ring.places.Places as Places
 use Rattle.piper_ring.specs.contracts.ring.seats.ReadSeat as Reads
 use Rattle.piper_ring.specs.contracts.ring.seats.WriteSeat as Writes
-use Rattle.piper_ring.specs.contracts.ring.seats.ReadSeat.meet.{ended, clauses}
-use Rattle.piper_ring.specs.contracts.ring.seats.ReadSeat.meet.Key.{name as #self}
-use Rattle.piper_ring.proofs.ring.seats.ReadSeat.meet.Statement.{statement}
-use Rattle.piper_ring.proofs.ring.seats.ReadSeat.meet.Code as code
+use Rattle.piper_ring.proofs.ring.seats.ReadSeat.meet as own
 
-pub meet_spec : {M : Type 1} → statement M
+pub meet_spec : {M : Type 1} → own.Statement.statement M
 meet_spec 𝓤 𝓛 𝓜 𝓡 wired =
-    let H = 𝓛.H in let 𝓣 = tables 𝓤 H 𝓜 𝓡 𝓡.env in let En = ended in let fn = code.function in let c = clauses 𝓛 𝓜.mem 𝓡.returns in
+    let H = 𝓛.H in let 𝓣 = tables 𝓤 H 𝓜 𝓡 𝓡.env in let En = Reads.meet.ended in let fn = own.Code.function in let c = Reads.meet.clauses 𝓛 𝓜.mem 𝓡.returns in
     let Row : RattleType = Reads.the_row in let self = plain (λ _. Row) in let WRow : RattleType = Writes.the_row in let writes = plain (λ _. WRow) in let KRow : RattleType = Places.the_row in
     let heard = RefOf (2 ∷ []) tt (plain (λ _. Mark.the_row)) (λ _. tt) in let two_saw = RefOf (3 ∷ []) tt (plain (λ _. Seen.the_row)) (λ _. tt) in
     let hs : Stays En.signature.params En.kept = (stay_ref (0 ∷ []) tt self, (stay_ref (1 ∷ []) tt writes, (stay_dropped heard yes, (stay_dropped two_saw yes, tt)))) in
-    proved 𝓛 En hs c 𝓜 𝓡 (Goes-ref 𝓛 4 0 tt self, (Goes-ref 𝓛 4 1 tt writes, (Goes-dropped 𝓛 4 heard yes (λ κs x f. refl), (Goes-dropped 𝓛 4 two_saw yes (λ κs x f. refl), tt)))) #self fn (code.unfolded 𝓤 H 𝓜 𝓡 wired)
+    proved 𝓛 En hs c 𝓜 𝓡 (Goes-ref 𝓛 4 0 tt self, (Goes-ref 𝓛 4 1 tt writes, (Goes-dropped 𝓛 4 heard yes (λ κs x f. refl), (Goes-dropped 𝓛 4 two_saw yes (λ κs x f. refl), tt)))) Reads.meet.Key.name fn (own.Code.unfolded 𝓤 H 𝓜 𝓡 wired)
     (λ κs. (mut_vals, (mut_vals, (shr_vals, (shr_vals, tt))))) (λ κs. (mut_Tells (named 0) κs.0 Row, (mut_Tells (named 1) κs.1.0 WRow, (shr_Tells (named 2) κs.1.1.0 Mark.the_row, (shr_Tells (named 3) κs.1.1.1.0 Seen.the_row, tt))))) (λ κs qs bounds a gh are.
     let b : ℕ = a.0.ref_ptr.0 in let o : ℕ = a.0.ref_ptr.1 in let h = a.0.now in let b' : ℕ = a.1.0.ref_ptr.0 in let o' : ℕ = a.1.0.ref_ptr.1 in let k = a.1.0.now in let u = a.1.1.0.now in let v = a.1.1.1.0.now in let b2 : ℕ = a.1.1.0.ref_ptr.0 in let o2 : ℕ = a.1.1.0.ref_ptr.1 in let b3 : ℕ = a.1.1.1.0.ref_ptr.0 in let o3 : ℕ = a.1.1.1.0.ref_ptr.1 in let w : Ptr = h.words in let p : Ptr = h.at in let z : Names = h.names in
     let C : Fml = common w p z in let RK : Fml = reader_knows w p z half h.head h.seen (flag h.leaving) in let Hv : List ℕ → Fml = began z in let B = byte p z.capacity in let full : ℕ = h.head + z.capacity in let RK' : Fml = reader_knows w p z half h.head (length k.sent) (flag h.leaving) in let WK' : Fml = writer_knows w p z half k.sent full k.shut 0 in

@@ -6,17 +6,14 @@ use Rattle.piper_ring.proofs.Slots.{Waited, publish}
 use Rattle.piper_ring.specs.contracts.ring.slots.WaiterState as Slot
 use Rattle.piper_ring.specs.contracts.ring.marks.WriteMark as Mark
 use Rattle.piper_ring.specs.contracts.ring.seats.ReadSeat as Seat
-use Rattle.piper_ring.specs.contracts.ring.seats.ReadSeat.publish_waker.{ended, clauses}
-use Rattle.piper_ring.specs.contracts.ring.seats.ReadSeat.publish_waker.Key.{name as #self}
-use Rattle.piper_ring.proofs.ring.seats.ReadSeat.publish_waker.Statement.{statement}
-use Rattle.piper_ring.proofs.ring.seats.ReadSeat.publish_waker.Code as code
+use Rattle.piper_ring.proofs.ring.seats.ReadSeat.publish_waker as own
 
-pub publish_waker_spec : {M : Type 1} → statement M
+pub publish_waker_spec : {M : Type 1} → own.Statement.statement M
 publish_waker_spec 𝓤 𝓛 𝓜 𝓡 wired =
-    let H = 𝓛.H in let 𝓣 = tables 𝓤 H 𝓜 𝓡 𝓡.env in let En = ended in let fn = code.function in let c = clauses 𝓛 𝓜.mem 𝓡.returns in
+    let H = 𝓛.H in let 𝓣 = tables 𝓤 H 𝓜 𝓡 𝓡.env in let En = Seat.publish_waker.ended in let fn = own.Code.function in let c = Seat.publish_waker.clauses 𝓛 𝓜.mem 𝓡.returns in
     let self = RefOf (0 ∷ []) tt (plain (λ _. Seat.the_row)) (λ _. tt) in let SRow : RattleType = Slot.the_row in let slot_ref = plain (λ _. SRow) in let token = plain (λ _. Token.the_row) in
     let hs : Stays En.signature.params En.kept = (stay_dropped self yes, (stay_ref (1 ∷ []) tt slot_ref, (stay_dropped token yes, tt))) in
-    proved 𝓛 En hs c 𝓜 𝓡 (Goes-dropped 𝓛 2 self yes (λ κs x f. refl), (Goes-ref 𝓛 2 1 tt slot_ref, (Goes-dropped 𝓛 2 token yes (λ κs x f. refl), tt))) #self fn (code.unfolded 𝓤 H 𝓜 𝓡 wired)
+    proved 𝓛 En hs c 𝓜 𝓡 (Goes-dropped 𝓛 2 self yes (λ κs x f. refl), (Goes-ref 𝓛 2 1 tt slot_ref, (Goes-dropped 𝓛 2 token yes (λ κs x f. refl), tt))) Seat.publish_waker.Key.name fn (own.Code.unfolded 𝓤 H 𝓜 𝓡 wired)
     (λ κs. (shr_vals, (mut_vals, ((λ x. ghost_val ∷ []), tt)))) (λ κs. (shr_Tells (named 0) κs.0 Seat.the_row, (mut_Tells (named 1) κs.1.0 SRow, ((λ x vs is. ghost_told vs is.0), tt)))) (λ κs qs bounds a gh are.
     let b : ℕ = a.0.ref_ptr.0 in let o : ℕ = a.0.ref_ptr.1 in let h = a.0.now in let w : Ptr = h.words in let p : Ptr = h.at in let z : Names = h.names in let κ = κs.0 in let q : Share = qs.0 in
     let b' : ℕ = a.1.0.ref_ptr.0 in let o' : ℕ = a.1.0.ref_ptr.1 in let k = a.1.0.now in let t : Token.the_row.Denot = a.1.1.0 in let view : Waits Stored = of_waits k in
@@ -37,7 +34,7 @@ publish_waker_spec 𝓤 𝓛 𝓜 𝓡 wired =
     move ! (4 ∷ 0 ∷ []) $ fjoin ! $ move ! (1 ∷ []) $ drop ! $ move ! (1 ∷ 2 ∷ 0 ∷ []) $
     let out : ℕ → Fml = Waited 𝓛 w p z s (by_reader h.head h.seen h.leaving) true view (λ m x u _. PublishesWaker Stored view x m u) in
     use3 𝓛 (raw (𝓣.C _ (vptr bw e ∷ vint w64 1 ∷ seq_cst ∷ []) (λ u. mean 𝓛 (stored (out 0) u))))
-    (via 𝓤 _ (publish 𝓛 w p z s (by_reader h.head h.seen h.leaving) true view asked.2) (stores 𝓛 𝓜 𝓡 (code.calls-core::raw_atomic::store 𝓡.env wired) (block_ptr bw e) 1 (lit< tt) (out 0))) $
+    (via 𝓤 _ (publish 𝓛 w p z s (by_reader h.head h.seen h.leaving) true view asked.2) (stores 𝓛 𝓜 𝓡 (own.Code.calls-core::raw_atomic::store 𝓡.env wired) (block_ptr bw e) 1 (lit< tt) (out 0))) $
     sets ! (agg ! (and_then ! (lit ! tt) (no_more !))) refl (tt, (record { fits = lit< tt }, tt)) $
     Calls-last ! (fm 𝓛 𝓜 𝓡) (stored (out 0)) (and_then ! (get ! refl) (and_then ! (lit ! tt) (and_then ! (get ! refl) (no_more !)))) (λ u. has_stored ! (out 0) (
     lands_last ! refl (tt, tt) $ exec ! 𝓣.C 𝓣.Λ Ev (tail fn.body) (at_ret Ev Post) $ sets ! (agg ! (no_more !)) refl (tt, tt) $ sets ! (agg ! (and_then ! (get ! refl) (no_more !))) refl (tt, (tt, tt)) $

@@ -4,17 +4,15 @@ use Rattle.piper_ring.proofs.Rights.{common_twice}
 use Rattle.piper_ring.proofs.Steps.{flag_small}
 use Rattle.piper_ring.proofs.Leaving.{IsClosing, reader_closes}
 use Rattle.piper_ring.specs.contracts.ring.seats.ReadSeat.{the_row}
-use Rattle.piper_ring.specs.contracts.ring.seats.ReadSeat.store_closed.{ended, clauses}
-use Rattle.piper_ring.specs.contracts.ring.seats.ReadSeat.store_closed.Key.{name as #self}
-use Rattle.piper_ring.proofs.ring.seats.ReadSeat.store_closed.Statement.{statement}
-use Rattle.piper_ring.proofs.ring.seats.ReadSeat.store_closed.Code as code
+use Rattle.piper_ring.specs.contracts.ring.seats.ReadSeat.store_closed as called
+use Rattle.piper_ring.proofs.ring.seats.ReadSeat.store_closed as own
 
-pub store_closed_spec : {M : Type 1} → statement M
+pub store_closed_spec : {M : Type 1} → own.Statement.statement M
 store_closed_spec 𝓤 𝓛 𝓜 𝓡 wired =
-    let H = 𝓛.H in let 𝓣 = tables 𝓤 H 𝓜 𝓡 𝓡.env in let En = ended in let fn = code.function in let c = clauses 𝓛 𝓜.mem 𝓡.returns in
+    let H = 𝓛.H in let 𝓣 = tables 𝓤 H 𝓜 𝓡 𝓡.env in let En = called.ended in let fn = own.Code.function in let c = called.clauses 𝓛 𝓜.mem 𝓡.returns in
     let Row : RattleType = the_row in let self = plain (λ _. Row) in
     let hs : Stays En.signature.params En.kept = (stay_ref (0 ∷ []) tt self, tt) in
-    proved 𝓛 En hs c 𝓜 𝓡 (Goes-ref 𝓛 1 0 tt self, tt) #self fn (code.unfolded 𝓤 H 𝓜 𝓡 wired)
+    proved 𝓛 En hs c 𝓜 𝓡 (Goes-ref 𝓛 1 0 tt self, tt) called.Key.name fn (own.Code.unfolded 𝓤 H 𝓜 𝓡 wired)
     (λ κs. (mut_vals, tt)) (λ κs. (mut_Tells (named 0) κs.0 Row, tt)) (λ κs qs bounds a gh are.
     let b : ℕ = a.0.ref_ptr.0 in let o : ℕ = a.0.ref_ptr.1 in let h = a.0.now in let w : Ptr = h.words in let p : Ptr = h.at in let z : Names = h.names in let κ = κs.0 in
     let bw : ℕ = block_of w in let e : ℕ = 136 + count_of w in let us : List Val = pointer_val w ∷ [] in let C : Fml = common w p z in
@@ -31,7 +29,7 @@ store_closed_spec 𝓤 𝓛 𝓜 𝓡 wired =
     sets ! (is ! (of_opd ! (load ! (through ! refl (fld ! refl (stop !))) (look_in ! 3 (sub ! 0 refl (whole !))))) (ap ptr_val isw)) refl (tt, tt) $
     sets ! (bin ! (get ! refl) (lit ! tt) tt) refl (tt, tt) $
     use1 𝓛 (raw (𝓣.C _ (vptr bw e ∷ vint w64 1 ∷ seq_cst ∷ []) (λ u. mean 𝓛 (stored Then u))))
-    (stores 𝓛 𝓜 𝓡 (code.calls-core::raw_atomic::store 𝓡.env wired) (block_ptr bw e) 1 (lit< tt) Then) $
+    (stores 𝓛 𝓜 𝓡 (own.Code.calls-core::raw_atomic::store 𝓡.env wired) (block_ptr bw e) 1 (lit< tt) Then) $
     sets ! (agg ! (and_then ! (lit ! tt) (no_more !))) refl (tt, (record { fits = lit< tt }, tt)) $
     Calls-last ! (fm 𝓛 𝓜 𝓡) (stored Then) (and_then ! (get ! refl) (and_then ! (lit ! tt) (and_then ! (get ! refl) (no_more !)))) (λ u. has_stored ! Then (
     lands_last ! refl (tt, tt) $ exec ! 𝓣.C 𝓣.Λ Ev (tail fn.body) (at_ret Ev Post) $

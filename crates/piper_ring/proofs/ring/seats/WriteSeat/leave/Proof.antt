@@ -12,17 +12,14 @@ use Rattle.piper_cells.specs.Space.{lease}
 use Rattle.piper_ring.specs.contracts.ring.places.Blank as Blank
 use Rattle.piper_ring.specs.contracts.ring.seats.WriteSeat as WriteSeat
 use Rattle.piper_ring.specs.contracts.ring.remains.Remains as Remains
-use Rattle.piper_ring.specs.contracts.ring.seats.WriteSeat.leave.{ended, clauses}
-use Rattle.piper_ring.specs.contracts.ring.seats.WriteSeat.leave.Key.{name as #self}
-use Rattle.piper_ring.proofs.ring.seats.WriteSeat.leave.Statement.{statement}
-use Rattle.piper_ring.proofs.ring.seats.WriteSeat.leave.Code as code
+use Rattle.piper_ring.proofs.ring.seats.WriteSeat.leave as own
 
-pub leave_spec : {M : Type 1} → statement M
+pub leave_spec : {M : Type 1} → own.Statement.statement M
 leave_spec 𝓤 𝓛 𝓜 𝓡 wired =
-    let H = 𝓛.H in let 𝓣 = tables 𝓤 H 𝓜 𝓡 𝓡.env in let En = ended in let fn = code.function in let c = clauses 𝓛 𝓜.mem 𝓡.returns in
+    let H = 𝓛.H in let 𝓣 = tables 𝓤 H 𝓜 𝓡 𝓡.env in let En = WriteSeat.leave.ended in let fn = own.Code.function in let c = WriteSeat.leave.clauses 𝓛 𝓜.mem 𝓡.returns in
     let self = plain (λ _. WriteSeat.the_row) in let gift = plain (λ _. Blank.the_row) in let term = plain (λ _. Lease.the_row) in
     let hs : Stays En.signature.params En.kept = (stay_dropped self yes, (stay_dropped gift yes, (stay_dropped term yes, tt))) in
-    proved 𝓛 En hs c 𝓜 𝓡 (Goes-dropped 𝓛 0 self yes (λ κs x f. refl), (Goes-dropped 𝓛 0 gift yes (λ κs x f. refl), (Goes-dropped 𝓛 0 term yes (λ κs x f. refl), tt))) #self fn (code.unfolded 𝓤 H 𝓜 𝓡 wired)
+    proved 𝓛 En hs c 𝓜 𝓡 (Goes-dropped 𝓛 0 self yes (λ κs x f. refl), (Goes-dropped 𝓛 0 gift yes (λ κs x f. refl), (Goes-dropped 𝓛 0 term yes (λ κs x f. refl), tt))) WriteSeat.leave.Key.name fn (own.Code.unfolded 𝓤 H 𝓜 𝓡 wired)
     (λ κs. ((λ x. pointer_val x.words ∷ []), ((λ x. ghost_val ∷ []), ((λ x. ghost_val ∷ []), tt)))) (λ κs. ((λ x vs is. pointer_told x.words vs is.0), ((λ x vs is. ghost_told vs is.0), ((λ x vs is. ghost_told vs is.0), tt)))) (λ κs qs bounds a gh are.
     let h = a.0 in let g = a.1.0 in let m = a.1.1.0 in let w : Ptr = h.words in let p : Ptr = h.at in let z : Names = h.names in let C : Fml = common w p z in let K : Fml = writer_knows w p z half h.sent h.limit h.shut 0 in
     let low : ℕ = length h.sent in let high : ℕ = h.limit in let G : Fml = blanks w p z low (high - low) in let bw : ℕ = block_of w in let ow : ℕ = count_of w in let w' : Ptr = block_ptr bw ow in let e : ℕ = 0 + ow in let out : ℕ → Fml = Left 𝓛 w p z in
@@ -39,7 +36,7 @@ leave_spec 𝓤 𝓛 𝓜 𝓡 wired =
     enter ! 𝓣.C 𝓣.Λ fn (pointer_val w ∷ ghost_val ∷ ghost_val ∷ []) Post $ alloc_all ! (λ l. pass_all ! refl (word-Good [] w, ((tt, (tt, tt)), ((tt, (tt, tt)), tt))) $ let Ev = env fn.locals l in
     sets ! (is ! (of_opd ! (get_in ! (fld ! refl (stop !)) (sub ! 0 refl (shape_all !)))) (ap ptr_val isw)) refl (tt, tt) $ first ! $ blocks ! $ sets ! (bin ! (get ! refl) (lit ! tt) tt) refl (tt, tt) $
     use1 𝓛 (raw (𝓣.C _ (vptr bw e ∷ vint w64 1 ∷ seq_cst ∷ []) (λ u. mean 𝓛 (found out u))))
-    (swaps 𝓛 𝓜 𝓡 (code.calls-core::raw_atomic::swap 𝓡.env wired) (block_ptr bw e) 1 (lit< tt) out) $
+    (swaps 𝓛 𝓜 𝓡 (own.Code.calls-core::raw_atomic::swap 𝓡.env wired) (block_ptr bw e) 1 (lit< tt) out) $
     sets ! (agg ! (and_then ! (lit ! tt) (no_more !))) refl (tt, (record { fits = lit< tt }, tt)) $
     Calls-last ! (fm 𝓛 𝓜 𝓡) (found out) (and_then ! (get ! refl) (and_then ! (lit ! tt) (and_then ! (get ! refl) (no_more !)))) (λ u. finds ! out (λ n fits.
     lands_last ! refl (tt, record { fits = fits }) $ exec ! 𝓣.C 𝓣.Λ Ev (from_on 2 fn.body) (at_ret Ev Post) $ sets ! (of_opd ! (get ! refl)) refl (tt, record { fits = fits }) $

@@ -5,17 +5,14 @@ use Rattle.piper_ring.specs.contracts.ring.marks.ReadMark as Mark
 use Rattle.piper_ring.proofs.Rights.{writer_halves}
 use Rattle.piper_ring.proofs.Steps.{flag_small, AfterPeek, looks_head}
 use Rattle.piper_ring.specs.contracts.ring.seats.WriteSeat as Seat
-use Rattle.piper_ring.specs.contracts.ring.seats.WriteSeat.load_head.{ended, clauses}
-use Rattle.piper_ring.specs.contracts.ring.seats.WriteSeat.load_head.Key.{name as #self}
-use Rattle.piper_ring.proofs.ring.seats.WriteSeat.load_head.Statement.{statement}
-use Rattle.piper_ring.proofs.ring.seats.WriteSeat.load_head.Code as code
+use Rattle.piper_ring.proofs.ring.seats.WriteSeat.load_head as own
 
-pub load_head_spec : {M : Type 1} → statement M
+pub load_head_spec : {M : Type 1} → own.Statement.statement M
 load_head_spec 𝓤 𝓛 𝓜 𝓡 wired =
-    let H = 𝓛.H in let 𝓣 = tables 𝓤 H 𝓜 𝓡 𝓡.env in let En = ended in let fn = code.function in let c = clauses 𝓛 𝓜.mem 𝓡.returns in
+    let H = 𝓛.H in let 𝓣 = tables 𝓤 H 𝓜 𝓡 𝓡.env in let En = Seat.load_head.ended in let fn = own.Code.function in let c = Seat.load_head.clauses 𝓛 𝓜.mem 𝓡.returns in
     let self = RefOf (0 ∷ []) tt (plain (λ _. Seat.the_row)) (λ _. tt) in let told = RefOf (1 ∷ []) tt (plain (λ _. Mark.the_row)) (λ _. tt) in
     let hs : Stays En.signature.params En.kept = (stay_dropped self yes, (stay_dropped told yes, tt)) in
-    proved 𝓛 En hs c 𝓜 𝓡 (Goes-dropped 𝓛 2 self yes (λ κs x f. refl), (Goes-dropped 𝓛 2 told yes (λ κs x f. refl), tt)) #self fn (code.unfolded 𝓤 H 𝓜 𝓡 wired)
+    proved 𝓛 En hs c 𝓜 𝓡 (Goes-dropped 𝓛 2 self yes (λ κs x f. refl), (Goes-dropped 𝓛 2 told yes (λ κs x f. refl), tt)) Seat.load_head.Key.name fn (own.Code.unfolded 𝓤 H 𝓜 𝓡 wired)
     (λ κs. (shr_vals, (shr_vals, tt))) (λ κs. (shr_Tells (named 0) κs.0 Seat.the_row, (shr_Tells (named 1) κs.1.0 Mark.the_row, tt))) (λ κs qs bounds a gh are.
     let b : ℕ = a.0.ref_ptr.0 in let o : ℕ = a.0.ref_ptr.1 in let h = a.0.now in let w : Ptr = h.words in let p : Ptr = h.at in let z : Names = h.names in let t = a.1.0.now in let b2 : ℕ = a.1.0.ref_ptr.0 in let o2 : ℕ = a.1.0.ref_ptr.1 in let κ = κs.0 in
     let C : Fml = common w p z in let Φ : Share → Fml = λ s. writer_knows w p z s h.sent h.limit h.shut 0 in
@@ -33,7 +30,7 @@ load_head_spec 𝓤 𝓛 𝓜 𝓡 wired =
     sets ! (bin ! (get ! refl) (lit ! tt) tt) refl (tt, tt) $ move ! (2 ∷ 0 ∷ []) $ shr_bor-open ! tt (writer_halves 𝓛 w p z h.sent h.limit h.shut 0) (λ s. move ! (2 ∷ 1 ∷ 3 ∷ []) $
     let out : ℕ → Fml = AfterPeek 𝓛 w p z s h.sent h.limit h.shut 0 t.count in
     use3 𝓛 (raw (𝓣.C _ (vptr bw e ∷ seq_cst ∷ []) (λ u. mean 𝓛 (found out u))))
-    (via 𝓤 _ (looks_head 𝓛 w p z s h.sent h.limit h.shut 0 t.count (flag_small false)) (loads 𝓛 𝓜 𝓡 (code.calls-core::raw_atomic::load 𝓡.env wired) (block_ptr bw e) out)) $
+    (via 𝓤 _ (looks_head 𝓛 w p z s h.sent h.limit h.shut 0 t.count (flag_small false)) (loads 𝓛 𝓜 𝓡 (own.Code.calls-core::raw_atomic::load 𝓡.env wired) (block_ptr bw e) out)) $
     sets ! (agg ! (and_then ! (lit ! tt) (no_more !))) refl (tt, (record { fits = lit< tt }, tt)) $
     Calls-last ! (fm 𝓛 𝓜 𝓡) (found out) (and_then ! (get ! refl) (and_then ! (get ! refl) (no_more !))) (λ u. finds ! out (λ n fits.
     lands_last ! refl (tt, record { fits = fits }) $ exec ! 𝓣.C 𝓣.Λ Ev (tail fn.body) (at_ret Ev Post) $ sets ! (of_opd ! (get ! refl)) refl (tt, record { fits = fits }) $

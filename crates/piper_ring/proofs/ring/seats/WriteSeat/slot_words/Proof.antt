@@ -6,17 +6,14 @@ use denote.SharingLaws.{one_shr_laws}
 use Rattle.piper_ring.proofs.Rights.{writer_halves}
 use Rattle.piper_ring.proofs.Slots.{writer_stored}
 use Rattle.piper_ring.specs.contracts.ring.seats.WriteSeat as Seat
-use Rattle.piper_ring.specs.contracts.ring.seats.WriteSeat.slot_words.{ended, clauses}
-use Rattle.piper_ring.specs.contracts.ring.seats.WriteSeat.slot_words.Key.{name as #self}
-use Rattle.piper_ring.proofs.ring.seats.WriteSeat.slot_words.Statement.{statement}
-use Rattle.piper_ring.proofs.ring.seats.WriteSeat.slot_words.Code as code
+use Rattle.piper_ring.proofs.ring.seats.WriteSeat.slot_words as own
 
-pub slot_words_spec : {M : Type 1} → statement M
+pub slot_words_spec : {M : Type 1} → own.Statement.statement M
 slot_words_spec 𝓤 𝓛 𝓜 𝓡 wired =
-    let H = 𝓛.H in let 𝓣 = tables 𝓤 H 𝓜 𝓡 𝓡.env in let En = ended in let fn = code.function in let c = clauses 𝓛 𝓜.mem 𝓡.returns in
+    let H = 𝓛.H in let 𝓣 = tables 𝓤 H 𝓜 𝓡 𝓡.env in let En = Seat.slot_words.ended in let fn = own.Code.function in let c = Seat.slot_words.clauses 𝓛 𝓜.mem 𝓡.returns in
     let self = RefOf (0 ∷ []) tt (plain (λ _. Seat.the_row)) (λ _. tt) in
     let hs : Stays En.signature.params En.kept = (stay_dropped self yes, tt) in
-    proved 𝓛 En hs c 𝓜 𝓡 (Goes-dropped 𝓛 1 self yes (λ κs x f. refl), tt) #self fn (code.unfolded 𝓤 H 𝓜 𝓡 wired)
+    proved 𝓛 En hs c 𝓜 𝓡 (Goes-dropped 𝓛 1 self yes (λ κs x f. refl), tt) Seat.slot_words.Key.name fn (own.Code.unfolded 𝓤 H 𝓜 𝓡 wired)
     (λ κs. (shr_vals, tt)) (λ κs. (shr_Tells (named 0) κs.0 Seat.the_row, tt)) (λ κs qs bounds a gh are.
     let b : ℕ = a.0.ref_ptr.0 in let o : ℕ = a.0.ref_ptr.1 in let h = a.0.now in let w : Ptr = h.words in let p : Ptr = h.at in let z : Names = h.names in let κ = κs.0 in let q : Share = qs.0 in
     let Φ : Share → Fml = λ s. writer_knows w p z s h.sent h.limit h.shut 0 in let x : Stored = as_stored h.sent 0 h.shut in
