@@ -1,5 +1,5 @@
 -- The names that many proofs of this crate cite, passed on from one place. Declares nothing.
-pub use Rattle.std.proofs.Common.{◌≡◌, ℕ, ◌+◌, ◌≤◌, Bool, true, false, List, [], ◌∷◌, refl, sym, ap, arith, ◌-◌, length, ◌<◌, ◌⊎◌, inl, inr, max, leb, ◌++◌, ◌∙◌, suc, length-append, w64, ◌*◌, zero, subst, ◌^◌, w8, take, append_assoc, min, lit<}
+pub use Rattle.std.proofs.Common.{◌≡◌, ℕ, ◌+◌, ◌≤◌, Bool, true, false, List, [], ◌∷◌, refl, sym, ap, arith, ◌-◌, length, ◌<◌, ◌⊎◌, inl, inr, max, leb, ◌++◌, ◌∙◌, suc, length-append, w64, ◌*◌, zero, subst, ◌^◌, w8, take, append_assoc, min, lit<, drop as drop_list}
 pub use Rattle.std.proofs.Math.Seq.{take-append_seam}
 pub use Rattle.std.proofs.lemmas.List.{length-drop, take-append-le, take-append-drop, length-take-le}
 pub use mathlib.Core.List.{IsPrefix}
@@ -34,7 +34,7 @@ pub use denote.Ref.{shr_vals, shr_Tells, mut_vals, mut_Tells}
 pub use denote.SharingLaws.{beside_shr_laws, nothing_shr_laws, said_shr_laws}
 pub use denote.Signature.{plain, types_at, named_lft}
 pub use denote.Steps.{nothing, peeks, opens, closes}
-pub use denote.Struct.Laws.{field_copy, RawPtr-copy}
+pub use denote.Struct.Laws.{RawPtr-copy}
 pub use denote.Struct.Lending.{Lends, Lends-both, Lends-nothing, Lends-said, Lends-first, of_Lends, lent_out}
 pub use denote.Struct.Owning.{shape}
 pub use denote.Struct.Struct.{Struct}
@@ -54,8 +54,8 @@ pub use Rattle.piper_ring.proofs.Fields.{pointer_val, pointer_told, PointerData,
 pub use Rattle.piper_ring.specs.Block.{heap_token, words_type}
 pub use Rattle.piper_ring.specs.Places.{byte, unset, place, run_lent, places_lent}
 pub use Rattle.piper_ring.specs.ReadView.{ReadView, read_view_of, in_one_piece}
-pub use Rattle.piper_ring.specs.Shared.{announced, raised, Names, State, Holds, half, other, flag, word, writer_knows, reader_knows, ends, Inner, common, slots, deeds, gone, where_gone, until_both, arrived_first, blanks, memory, reader_owns, reader_lends, writer_owns, writer_lends, took, idle, word_room, slot_rooms, all_rooms, state_holds, began, Placed, Known, by_reader, by_writer, knows, evidence, flag_word, waker_place, waits_in, wakes_in, words_lent, lent_by, ring_of}
-pub use Rattle.piper_ring.specs.SlotValues.{of_waits, of_wakes, SameWaiter, SameWaker}
+pub use Rattle.piper_ring.specs.Shared.{announced, raised, Names, State, Holds, half, other, flag, word, writer_knows, reader_knows, ends, Inner, common, slots, deeds, gone, where_gone, until_both, arrived_first, blanks, memory, reader_owns, reader_lends, writer_owns, writer_lends, took, idle, word_room, slot_rooms, all_rooms, state_holds, began, Placed, Known, by_reader, by_writer, knows, evidence, flag_word, waker_place, waits_in, wakes_in, lent_by, ring_of}
+pub use Rattle.piper_ring.specs.SlotValues.{of_waits, of_wakes}
 pub use Rattle.piper_ring.specs.Slot.{Stored, as_stored, nothing_stored, stored_code, held_at, Waits, Wakes, IsWhere, Slot, with_waiter, code_of, slot, slot_at, Looks, Takes, GivesBack, PublishesWaker, Reclaims, IsRemembered}
 pub use Rattle.piper_ring.specs.Streams.{Stream, Reaches, streams, reaches_same, open_reaches, reaches_trans}
 pub use Rattle.piper_ring.specs.WriteView.{WriteView}

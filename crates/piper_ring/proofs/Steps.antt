@@ -1,7 +1,7 @@
 -- The invariant is taken apart by what one end knows and put together again; and the steps on the
 -- tail, on the head and on closed. Assumes `Logic`.
-use Rattle.piper_ring.proofs.Kit.{◌≡◌, ℕ, zero, suc, ◌+◌, ◌-◌, ◌≤◌, Bool, true, false, List, [], ◌∷◌, ◌++◌, length, sym, refl, ap, ◌∙◌, length-append, arith, Ura, full_share, Order, numbers, latest, prefix_refl, SProp, ent, sep, upd, guard, ex, upd_i, Share, Fml, GName, ftrue, fsep, fex, Logic, sem, latest_grows, latest_bounds, latest_shows, ‵, raw, ◌⊛◌, some, given, ◌$◌, ◌∵◌, !, qed, by, move, split, split3, fsplit, fsplit3, fjoin, fjoin3, fpick, fpack, pick, learn, check, show, frame, assume, settle, suffices, rewrite, use1, use2, use3, done, drop as forget, Ptr, block_ptr, block_of, count_of, nothing, asks, always, position_of, run, Lies, length-drop, run_join, byte, Stream, Reaches, streams, open_reaches, Names, State, Holds, half, other, flag, gone, until_both, where_gone, word, blanks, deeds, memory, announced, began, took, writer_knows, reader_knows, ends, state_holds, Inner, common, keep, reaches_same, raised, u8, part_at, slot_of as offset_of, idle}
-use Rattle.std.proofs.Common.{drop, append-nil}
+use Rattle.piper_ring.proofs.Kit.{◌≡◌, ℕ, zero, suc, ◌+◌, ◌-◌, ◌≤◌, Bool, true, false, List, [], ◌∷◌, ◌++◌, length, sym, refl, ap, ◌∙◌, length-append, arith, Ura, full_share, Order, numbers, latest, prefix_refl, SProp, ent, sep, upd, guard, ex, upd_i, Share, Fml, GName, ftrue, fsep, fex, Logic, sem, latest_grows, latest_bounds, latest_shows, ‵, raw, ◌⊛◌, some, given, ◌$◌, ◌∵◌, !, qed, by, move, split, split3, fsplit, fsplit3, fjoin, fjoin3, fpick, fpack, pick, learn, check, show, frame, assume, settle, suffices, rewrite, use1, use2, use3, done, drop as forget, Ptr, block_ptr, block_of, count_of, nothing, asks, always, position_of, run, Lies, length-drop, run_join, byte, Stream, Reaches, streams, open_reaches, Names, State, Holds, half, other, flag, gone, until_both, where_gone, word, blanks, deeds, memory, announced, began, took, writer_knows, reader_knows, ends, state_holds, Inner, common, keep, reaches_same, raised, u8, part_at, slot_of as offset_of, idle, drop_list}
+use Rattle.std.proofs.Common.{append-nil}
 use types.Growing.{latest_agrees}
 use Rattle.rtrb.proofs.Asks.{shared}
 use Rattle.std.proofs.lemmas.List.{drop-append-le}
@@ -213,7 +213,7 @@ module _ {M : Type 1} {𝓤 : Ura M} (𝓛 : Logic 𝓤) (w p : Ptr) (z : Names)
         move ! (1 ∷ 0 ∷ []) $ fjoin3 ! $ move ! (1 ∷ []) $ fsplit ! $ move ! (1 ∷ []) $ fsplit3 ! $ move ! (2 ∷ []) $
         rewrite ! 0 (λ (F : Fml). ‵ (fsep F (deeds w p z s))) {x = where_gone (gone s.writer_stage) (blanks w p z (length all) (s.limit - length all))} {y = where_gone (gone s.writer_stage) (blanks w p z (length s.sent) (s.limit - length s.sent))} (not_gone s.writer_stage _ _ (omega arith)) refl $
         move ! (1 ∷ 2 ∷ 0 ∷ []) $ fjoin3 ! $ move ! (1 ∷ 7 ∷ []) $
-        use2 𝓛 (‵ (run (byte p cap) s.seen (drop s.seen s.sent ++ xs))) (run_join 𝓛 (byte p cap) (drop s.seen s.sent) xs s.seen (length sent) (omega (arith, length-drop s.seen s.sent))) $
+        use2 𝓛 (‵ (run (byte p cap) s.seen (drop_list s.seen s.sent ++ xs))) (run_join 𝓛 (byte p cap) (drop_list s.seen s.sent) xs s.seen (length sent) (omega (arith, length-drop s.seen s.sent))) $
         rewrite ! 0 (λ (l : List ℕ). ‵ (run (byte p cap) s.seen l)) (sym (drop-append-le s.seen s.sent xs arrived)) refl $
         fjoin ! $ move ! (1 ∷ 0 ∷ []) $ fjoin ! $ move ! (1 ∷ 0 ∷ []) $ fjoin ! $ move ! (2 ∷ 1 ∷ 0 ∷ []) $ use3 𝓛 (‵ I) (closes s' so' near) $ frame ! $ done !)))
 

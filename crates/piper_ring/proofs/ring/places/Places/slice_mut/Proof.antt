@@ -1,9 +1,7 @@
 -- `slice_mut` lends the bytes, and their owner follows what is written. Assumes `Logic`.
-use Rattle.piper_ring.proofs.Kit.{◌≡◌, ℕ, ◌+◌, ◌*◌, ◌^◌, ◌<◌, ◌≤◌, List, [], ◌∷◌, length, sym, refl, ◌∙◌, arith, w64, named, Val, vint, vptr, Ura, SProp, ent, sep, id⊢, Fml, GName, ftrue, fsep, flft, fat, full_share, Logic, sem, ‵, raw, ◌⊛◌, some, given, later, await, pick, split3, at_ret, ◌$◌, ◌∵◌, !, qed, move, keep, split, join, fsplit, fsplit3, fjoin, fpick, fpack, learn, use1, rewrite, frame, suffices, done, drop as forget, stop, fld, of_opd, and_then, no_more, bin, first, blocks, exec, returns, enter, alloc_all, pass_all, free_all, look_at, get, get_in, sets, sets_last, is, take_at, give_at, env, agg, sub, whole, tables, yes, RattleType, owns, types_at, plain, Ptr, block_ptr, block_of, count_of, at_block, u8, usize, uint_vals, uint_Tells, mut_vals, mut_Tells, mem, cell_at, nothing, opens, Struct, shape, layout, Stays, stay_dropped, walk_of, Goes-dropped, tail, word-Good, proved, slot_of as offset_of, run, byte, GhostData}
-use Rattle.std.proofs.Common.{drop}
+use Rattle.piper_ring.proofs.Kit.{◌≡◌, ℕ, ◌+◌, ◌*◌, ◌^◌, ◌<◌, ◌≤◌, List, [], ◌∷◌, length, sym, refl, ◌∙◌, arith, w64, named, Val, vint, vptr, Ura, SProp, ent, sep, id⊢, Fml, GName, ftrue, fsep, flft, fat, full_share, Logic, sem, ‵, raw, ◌⊛◌, some, given, later, await, pick, split3, at_ret, ◌$◌, ◌∵◌, !, qed, move, keep, split, join, fsplit, fsplit3, fjoin, fpick, fpack, learn, use1, rewrite, frame, suffices, done, drop as forget, stop, fld, of_opd, and_then, no_more, bin, first, blocks, exec, returns, enter, alloc_all, pass_all, free_all, look_at, get, get_in, sets, sets_last, is, take_at, give_at, env, agg, sub, whole, tables, yes, RattleType, owns, types_at, plain, Ptr, block_ptr, block_of, count_of, at_block, u8, usize, uint_vals, uint_Tells, mut_vals, mut_Tells, mem, cell_at, nothing, opens, layout, Stays, stay_dropped, walk_of, Goes-dropped, tail, word-Good, proved, slot_of as offset_of, run, byte, GhostData, drop_list, no}
 use types.SemTy.{cells}
 use types.Kit.{group}
-use denote.Exit.{no}
 use denote.Signature.{mut_ref_to}
 use denote.Ref.{MutBor}
 use denote.Array.{Array}
@@ -35,7 +33,7 @@ module _ {M : Type 1} {𝓤 : Ura M} (𝓛 : Logic 𝓤) (d : Row.Denot) (vs : L
   back : Placed at d.capacity → from ≡ offset_of d.capacity d.first → from + length d.bytes ≤ d.capacity → (ws : List ℕ) → length ws ≡ length d.bytes
       → ent 𝓤 (sep 𝓤 (sem 𝓛 (cells (mem u8) ws (block_of at) (from + count_of at))) (sem 𝓛 Rest)) (sem 𝓛 ((mem Row).own_at (with_bytes d d.bytes ws) rb ro))
   unfolding denote.Memory.part_of
-  back fine is near ws same = let all : written d.bytes ws ≡ ws = take_front ws (drop (length ws) d.bytes) (length d.bytes) same in
+  back fine is near ws same = let all : written d.bytes ws ≡ ws = take_front ws (drop_list (length ws) d.bytes) (length d.bytes) same in
       qed 𝓛 (‵ (cells (mem u8) ws (block_of at) (from + count_of at)) ∷ ‵ Rest ∷ []) ∵
       use1 𝓛 (‵ (run (byte at d.capacity) d.first ws)) (of_cells 𝓛 at d.capacity ws d.first from (from + count_of at) (λ _. is) (omega arith) refl) $ move ! (1 ∷ []) $ fsplit ! $ move ! (2 ∷ []) $
       rewrite ! 0 (λ (l : List ℕ). ‵ (run (byte at d.capacity) d.first l)) (sym all) refl $

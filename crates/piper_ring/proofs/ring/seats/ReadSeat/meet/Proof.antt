@@ -1,5 +1,5 @@
 -- `meet` is no step of the program. Assumes `Logic`.
-use Rattle.piper_ring.proofs.Kit.{◌≤◌, false, ◌≡◌, ℕ, ◌+◌, List, [], ◌∷◌, ◌++◌, length, sym, refl, named, Val, vptr, SProp, emp, Fml, ftrue, flft, fhide, yes, RawPtr, RefOf, shr_vals, shr_Tells, hidden_shr, unhide, lent_out, Reaches, ‵, raw, ◌⊛◌, given, ◌$◌, ◌∵◌, !, qed, by, move, keep, drop, split, split3, join, fsplit, fsplit3, fjoin, fjoin3, fpick, fpack, learn, use0, use1, use2, use3, rewrite, feq_i, no_more, and_then, returns, enter, alloc_all, pass_all, free_all, look_at, get, sets, env, agg, fact, fact_i, some, later, await, pick, tables, RattleType, owns, types_at, plain, Ptr, mut_vals, mut_Tells, nothing, opens, closes, Stays, stay_ref, stay_dropped, walk_of, Goes-ref, Goes-dropped, run, proved, leaves, byte, flag, raised, announced, began, Names, Placed, half, common, reader_knows, writer_knows, writer_owns, pair_val, pair_of, GhostData, ghost_val, ghost_made, ghost_coded}
+use Rattle.piper_ring.proofs.Kit.{◌≤◌, false, ◌≡◌, ℕ, ◌+◌, List, [], ◌∷◌, ◌++◌, length, sym, refl, named, Val, vptr, SProp, emp, Fml, ftrue, flft, fhide, yes, RefOf, shr_vals, shr_Tells, hidden_shr, unhide, lent_out, Reaches, ‵, raw, ◌⊛◌, given, ◌$◌, ◌∵◌, !, qed, by, move, keep, drop, split, split3, join, fsplit, fsplit3, fjoin, fjoin3, fpick, fpack, learn, use0, use1, use2, use3, rewrite, feq_i, no_more, and_then, returns, enter, alloc_all, pass_all, free_all, look_at, get, sets, env, agg, fact, fact_i, some, later, await, pick, tables, RattleType, owns, types_at, plain, Ptr, mut_vals, mut_Tells, nothing, opens, closes, Stays, stay_ref, stay_dropped, walk_of, Goes-ref, Goes-dropped, run, proved, leaves, byte, flag, raised, announced, began, Names, Placed, half, common, reader_knows, writer_knows, writer_owns, pair_val, pair_of, GhostData, ghost_val, ghost_made, ghost_coded}
 use Rattle.piper_ring.specs.contracts.ring.marks.ClosedMark as Seen
 use Rattle.piper_ring.specs.contracts.ring.marks.WriteMark as Mark
 use Rattle.piper_ring.specs.Places as P

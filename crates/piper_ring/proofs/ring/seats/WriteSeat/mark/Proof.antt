@@ -1,5 +1,5 @@
 -- `mark` copies evidence out of a share of what the writer knows. Assumes `Logic`.
-use Rattle.piper_ring.proofs.Kit.{◌≡◌, ℕ, [], ◌∷◌, refl, named, Val, vptr, SProp, emp, Share, ftrue, flft, fhide, ‵, raw, ◌⊛◌, ◌$◌, ◌∵◌, !, qed, by, move, keep, drop, split, join, fsplit, fsplit3, fjoin, fjoin3, use0, use1, no_more, and_then, returns, enter, alloc_all, pass_all, free_all, look_at, get, sets, env, agg, shr_bor-open, obor_close, fact, fact_i, tables, yes, RattleType, owns, types_at, plain, Ptr, RefOf, shr_vals, shr_Tells, hidden_shr, unhide, nothing, Struct, shape, lent_out, Stays, stay_dropped, walk_of, Goes-dropped, proved, leaves, Names, announced, writer_lends, Stream, streams, reaches_same, latest, latest_shows, PointerData, ghost_val, GhostData, ghost_made}
+use Rattle.piper_ring.proofs.Kit.{◌≡◌, ℕ, [], ◌∷◌, refl, named, Val, vptr, SProp, emp, Share, ftrue, flft, fhide, ‵, raw, ◌⊛◌, ◌$◌, ◌∵◌, !, qed, by, move, keep, drop, split, join, fsplit, fsplit3, fjoin, fjoin3, use0, use1, no_more, and_then, returns, enter, alloc_all, pass_all, free_all, look_at, get, sets, env, agg, shr_bor-open, obor_close, fact, fact_i, tables, yes, owns, types_at, plain, Ptr, RefOf, shr_vals, shr_Tells, hidden_shr, unhide, nothing, lent_out, Stays, stay_dropped, walk_of, Goes-dropped, proved, leaves, Names, announced, writer_lends, Stream, streams, reaches_same, latest, latest_shows, PointerData, ghost_val, GhostData, ghost_made}
 use Rattle.piper_ring.proofs.Rights.{writer_halves}
 use Rattle.piper_ring.specs.contracts.ring.seats.WriteSeat as Seat
 use Rattle.piper_ring.proofs.ring.seats.WriteSeat.mark as own

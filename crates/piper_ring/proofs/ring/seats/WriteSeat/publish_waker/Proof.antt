@@ -1,5 +1,5 @@
 -- `publish_waker` is one store, beside a share of what the writer knows. Assumes `Logic`.
-use Rattle.piper_ring.proofs.Kit.{true, false, lit<, ◌≡◌, ℕ, ◌+◌, List, [], ◌∷◌, sym, refl, w64, Bool, named, Val, vint, vptr, SProp, emp, via, Share, Fml, ftrue, flft, fhide, ‵, raw, ◌⊛◌, given, mean, at_ret, ◌$◌, ◌∵◌, !, qed, by, move, keep, drop, split, split3, join, fsplit, fsplit3, fjoin, fjoin3, fpick, fpack, learn, use0, use1, use3, rewrite, feq_i, stop, fld, load, look, lit, of_opd, bin, no_more, and_then, first, blocks, exec, Calls-last, returns, enter, alloc_all, pass_all, free_all, look_at, get, through, sets, lands_last, env, agg, shr_bor-open, obor_close, fact, fact_i, tables, yes, RattleType, owns, types_at, plain, Ptr, block_ptr, block_of, count_of, at_block, RefOf, shr_vals, shr_Tells, mut_vals, mut_Tells, hidden_shr, hide, unhide, nothing, opens, closes, Struct, shape, lent_out, Stays, stay_dropped, stay_ref, walk_of, Goes-dropped, Goes-ref, tail, pointer_in, pointer_out, proved, leaves, seq_cst, fm, stored, has_stored, stores, Waits, PublishesWaker, Names, Placed, common, writer_knows, writer_lends, right, ghost_val, ghost_told, use2, pair_val, pair_of, Stored, waits_in, of_waits, SameWaiter, ap, ◌∙◌, by_writer, PointerData, GhostData, ghost_made}
+use Rattle.piper_ring.proofs.Kit.{true, false, lit<, ◌≡◌, ℕ, ◌+◌, List, [], ◌∷◌, sym, refl, w64, Bool, named, Val, vint, vptr, SProp, emp, via, Share, Fml, ftrue, flft, fhide, ‵, raw, ◌⊛◌, given, mean, at_ret, ◌$◌, ◌∵◌, !, qed, by, move, keep, drop, split, split3, join, fsplit, fsplit3, fjoin, fjoin3, fpick, fpack, learn, use0, use1, use3, rewrite, feq_i, stop, fld, load, look, lit, of_opd, bin, no_more, and_then, first, blocks, exec, Calls-last, returns, enter, alloc_all, pass_all, free_all, look_at, get, through, sets, lands_last, env, agg, shr_bor-open, obor_close, fact, fact_i, tables, yes, RattleType, owns, types_at, plain, Ptr, block_ptr, block_of, count_of, at_block, RefOf, shr_vals, shr_Tells, mut_vals, mut_Tells, hidden_shr, hide, unhide, nothing, opens, closes, Struct, lent_out, Stays, stay_dropped, stay_ref, walk_of, Goes-dropped, Goes-ref, tail, pointer_in, pointer_out, proved, leaves, seq_cst, fm, stored, has_stored, stores, Waits, PublishesWaker, Names, Placed, common, writer_knows, writer_lends, right, ghost_val, ghost_told, use2, pair_val, pair_of, Stored, waits_in, of_waits, ap, ◌∙◌, by_writer, PointerData, GhostData, ghost_made}
 use Rattle.piper_ring.proofs.Rights.{writer_halves}
 use Rattle.piper_cells.specs.contracts.token_cell.Token as Token
 use Rattle.piper_ring.proofs.Slots.{Waited, publish}
@@ -47,5 +47,5 @@ publish_waker_spec 𝓤 𝓛 𝓜 𝓡 wired =
     rewrite ! 1 (λ (m : Names × Bool). ‵ (waits_in m.0 m.1 v.0 v.1.0 v.1.1)) {x = (k.names, k.for_reader)} {y = (z, false)} (λ i. (sym asked.0 i, sym asked.1 i)) refl $ move ! (3 ∷ 1 ∷ []) $ fjoin ! $ move ! (3 ∷ 0 ∷ 4 ∷ 5 ∷ 6 ∷ []) $ closes ! tt SRow k' vs' b' o' $
     feq_i ! (List Val) (vptr b' o' ∷ []) (vptr b' o' ∷ []) refl $ fjoin3 ! $ nothing ! $ nothing ! $ fjoin ! $ move ! (1 ∷ 0 ∷ []) $ fjoin ! $ nothing ! $ fjoin ! $ nothing ! $ move ! (2 ∷ 0 ∷ []) $ join ! $ move ! (2 ∷ 0 ∷ []) $ join ! $
     use0 𝓛 (raw (fact 𝓤 (PublishesWaker Stored view v.1.1 0 v))) (fact_i 𝓤 (PublishesWaker Stored view v.1.1 0 v) (emp 𝓤) (told ∙ ap (λ (u : Stored). (false, (view.1.0 + 1, u))) (sym (ap (λ (u : Waits Stored). u.1.1) told)))) $
-    let Heard : Type 0 = (v.1.1.count ≡ r.0.count) × (v.1.1.closed ≡ r.0.closed) in use0 𝓛 (raw (fact 𝓤 Heard)) (fact_i 𝓤 Heard (emp 𝓤) (ap (λ (u : Waits Stored). u.1.1.count) told, ap (λ (u : Waits Stored). u.1.1.closed) told)) $ join ! $ use0 𝓛 (raw (fact 𝓤 ((z ≡ z) × (z ≡ z)))) (fact_i 𝓤 ((z ≡ z) × (z ≡ z)) (emp 𝓤) (refl, refl)) $ join ! $ use0 𝓛 (raw (fact 𝓤 (SameWaiter k k'))) (fact_i 𝓤 (SameWaiter k k') (emp 𝓤) (refl, refl)) $ join ! $ move ! (3 ∷ []) $
+    let Heard : Type 0 = (v.1.1.count ≡ r.0.count) × (v.1.1.closed ≡ r.0.closed) in use0 𝓛 (raw (fact 𝓤 Heard)) (fact_i 𝓤 Heard (emp 𝓤) (ap (λ (u : Waits Stored). u.1.1.count) told, ap (λ (u : Waits Stored). u.1.1.closed) told)) $ join ! $ use0 𝓛 (raw (fact 𝓤 ((z ≡ z) × (z ≡ z)))) (fact_i 𝓤 ((z ≡ z) × (z ≡ z)) (emp 𝓤) (refl, refl)) $ join ! $ let Same : Type 0 = k' ≡ record k { owns = k'.owns; tickets = k'.tickets; heard = k'.heard } in use0 𝓛 (raw (fact 𝓤 Same)) (fact_i 𝓤 Same (emp 𝓤) refl) $ join ! $ move ! (3 ∷ []) $
     returns ! (look_at ! 0 refl) $ free_all ! refl $ keep ! (2 ∷ 3 ∷ 0 ∷ 1 ∷ []) $ by ! (leaves 𝓛 En hs c y (pair_val g g) (mark, saw) (tt, (k', (tt, tt))) (tt, (tt, (tt, tt)))))))))))))))

@@ -1,6 +1,6 @@
 -- `load_flag` is one load, beside a share of what the end knows that lends the words, and evidence of
 -- what it stored. Assumes `Logic`.
-use Rattle.piper_ring.proofs.Kit.{flt_i, lit<, ◌≡◌, ℕ, ◌+◌, ◌*◌, ◌<◌, ◌^◌, List, [], ◌∷◌, sym, refl, ap, subst, w64, named, Val, vint, vptr, SProp, emp, via, Share, Fml, ftrue, flft, ‵, raw, ◌⊛◌, given, mean, at_ret, ◌$◌, ◌∵◌, !, qed, by, move, keep, drop, split, split3, join, fsplit, fsplit3, fjoin, fjoin3, fpick, fpack, learn, use0, rewrite, feq_i, stop, fld, lit, of_opd, bin, no_more, and_then, first, blocks, exec, Calls-last, returns, enter, alloc_all, pass_all, free_all, look_at, get, get_in, sub, whole, is, sets, lands_last, env, agg, shr_bor-open, obor_close, fact, fact_i, tables, yes, no, RattleType, owns, types_at, plain, named_lft, Ptr, block_ptr, ptr_val, block_of, count_of, at_block, usize, uint_vals, uint_Tells, mut_vals, mut_Tells, nothing, opens, closes, Stays, stay_dropped, stay_ref, walk_of, Goes-dropped, Goes-ref, after as from_on, guard_good, proved, leaves, seq_cst, fm, Names, Placed, Bool, Stored, flag_word, false, use3, found, finds, loads, Wakes, Looks, evidence, wakes_in, of_wakes, SameWaker, lent_val, lent_told}
+use Rattle.piper_ring.proofs.Kit.{flt_i, lit<, ◌≡◌, ℕ, ◌+◌, ◌*◌, ◌<◌, ◌^◌, List, [], ◌∷◌, sym, refl, ap, subst, w64, named, Val, vint, vptr, SProp, emp, via, Share, Fml, ftrue, flft, ‵, raw, ◌⊛◌, given, mean, at_ret, ◌$◌, ◌∵◌, !, qed, by, move, keep, drop, split, split3, join, fsplit, fsplit3, fjoin, fjoin3, fpick, fpack, learn, use0, rewrite, feq_i, stop, fld, lit, of_opd, bin, no_more, and_then, first, blocks, exec, Calls-last, returns, enter, alloc_all, pass_all, free_all, look_at, get, get_in, sub, whole, is, sets, lands_last, env, agg, shr_bor-open, obor_close, fact, fact_i, tables, yes, no, RattleType, owns, types_at, plain, named_lft, Ptr, block_ptr, ptr_val, block_of, count_of, at_block, usize, uint_vals, uint_Tells, mut_vals, mut_Tells, nothing, opens, closes, Stays, stay_dropped, stay_ref, walk_of, Goes-dropped, Goes-ref, after as from_on, guard_good, proved, leaves, seq_cst, fm, Names, Placed, Bool, Stored, flag_word, false, use3, found, finds, loads, Wakes, Looks, evidence, wakes_in, of_wakes, lent_val, lent_told}
 use Rattle.piper_ring.proofs.Rights.{known_halves}
 use Rattle.piper_ring.proofs.Slots.{flag_fits, Woke, load_flag}
 use Rattle.piper_ring.specs.Loads.{FoundWaiter, as_waiter}
@@ -33,5 +33,5 @@ load_flag_spec 𝓤 𝓛 𝓜 𝓡 wired =
     fpick ! (λ got. let v : Wakes Stored = got.0 in fsplit3 ! $ fpick ! (λ told. drop ! $ move ! (2 ∷ 1 ∷ []) $ obor_close ! tt $ drop ! $ move ! (1 ∷ []) $ fsplit ! $ move ! (1 ∷ []) $ drop ! $ let k' : SRow.Denot = record k { holds = v.0; taken = v.1.0; stored = v.1.1 } in
     rewrite ! 0 (λ (m : Names). ‵ (wakes_in m r v.0 v.1.0 v.1.1)) {x = k.names} {y = z} (sym asked.0) refl $ move ! (2 ∷ 0 ∷ []) $ fjoin ! $ move ! (2 ∷ 0 ∷ 3 ∷ 4 ∷ 5 ∷ []) $ closes ! tt SRow k' vs b o $
     feq_i ! (List Val) (vptr b o ∷ []) (vptr b o ∷ []) refl $ fjoin3 ! $ nothing ! $ nothing ! $ fjoin ! $ move ! (1 ∷ 0 ∷ []) $ fjoin ! $ nothing ! $ fjoin ! $ nothing ! $ move ! (2 ∷ 0 ∷ []) $ join ! $ move ! (2 ∷ 0 ∷ []) $ join ! $
-    use0 𝓛 (raw (fact 𝓤 (FoundWaiter k.names n))) (fact_i 𝓤 (FoundWaiter k.names n) (emp 𝓤) (as_waiter k.names n)) $ use0 𝓛 (raw (fact 𝓤 (Looks Stored view x n v))) (fact_i 𝓤 (Looks Stored view x n v) (emp 𝓤) told) $ join ! $ use0 𝓛 (raw (fact 𝓤 (SameWaker k k'))) (fact_i 𝓤 (SameWaker k k') (emp 𝓤) (refl, refl)) $ join ! $
+    use0 𝓛 (raw (fact 𝓤 (FoundWaiter k.names n))) (fact_i 𝓤 (FoundWaiter k.names n) (emp 𝓤) (as_waiter k.names n)) $ use0 𝓛 (raw (fact 𝓤 (Looks Stored view x n v))) (fact_i 𝓤 (Looks Stored view x n v) (emp 𝓤) told) $ join ! $ let Same : Type 0 = k' ≡ record k { holds = k'.holds; taken = k'.taken; stored = k'.stored } in use0 𝓛 (raw (fact 𝓤 Same)) (fact_i 𝓤 Same (emp 𝓤) refl) $ join ! $
     flt_i ! n (2 ^ 64) fits $ feq_i ! (List Val) (vint w64 n ∷ []) (vint w64 n ∷ []) refl $ fjoin ! $ returns ! (look_at ! 0 refl) $ free_all ! refl $ keep ! (2 ∷ 3 ∷ 0 ∷ 1 ∷ []) $ by ! (leaves 𝓛 En hs c y (vint w64 n) n (tt, (k', (tt, tt))) (tt, (tt, (tt, tt)))))))))))))))

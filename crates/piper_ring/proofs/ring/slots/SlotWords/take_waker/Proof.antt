@@ -1,6 +1,6 @@
 -- `take_waker` is one swap, beside a share of what the end knows that lends the words, and evidence of
 -- what it stored. Assumes `Logic`.
-use Rattle.piper_ring.proofs.Kit.{flt_i, lit<, ◌≡◌, ℕ, ◌+◌, ◌*◌, ◌<◌, ◌^◌, List, [], ◌∷◌, sym, refl, ap, subst, w64, named, Val, vint, vptr, SProp, emp, via, Share, Fml, ftrue, flft, ‵, raw, ◌⊛◌, given, mean, at_ret, ◌$◌, ◌∵◌, !, qed, by, move, keep, drop, split, split3, join, fsplit, fsplit3, fjoin, fjoin3, fpick, fpack, learn, use0, rewrite, feq_i, stop, fld, lit, of_opd, bin, no_more, and_then, first, blocks, exec, Calls-last, returns, enter, alloc_all, pass_all, free_all, look_at, get, get_in, sub, whole, is, sets, lands_last, env, agg, shr_bor-open, obor_close, fact, fact_i, tables, yes, no, RattleType, owns, types_at, plain, named_lft, Ptr, block_ptr, ptr_val, block_of, count_of, at_block, usize, uint_vals, uint_Tells, mut_vals, mut_Tells, nothing, opens, closes, Stays, stay_dropped, stay_ref, walk_of, Goes-dropped, Goes-ref, after as from_on, guard_good, proved, leaves, seq_cst, fm, Names, Placed, Bool, Stored, flag_word, false, use3, found, finds, swaps, Wakes, Takes, evidence, wakes_in, of_wakes, SameWaker, use2, u64, pair_val, pair_of, ghost_val, GhostData, ghost_made, waker_place, lent_val, lent_told}
+use Rattle.piper_ring.proofs.Kit.{flt_i, lit<, ◌≡◌, ℕ, ◌+◌, ◌*◌, ◌<◌, ◌^◌, List, [], ◌∷◌, sym, refl, ap, subst, w64, named, Val, vint, vptr, SProp, emp, via, Share, Fml, ftrue, flft, ‵, raw, ◌⊛◌, given, mean, at_ret, ◌$◌, ◌∵◌, !, qed, by, move, keep, drop, split, split3, join, fsplit, fsplit3, fjoin, fjoin3, fpick, fpack, learn, use0, rewrite, feq_i, stop, fld, lit, of_opd, bin, no_more, and_then, first, blocks, exec, Calls-last, returns, enter, alloc_all, pass_all, free_all, look_at, get, get_in, sub, whole, is, sets, lands_last, env, agg, shr_bor-open, obor_close, fact, fact_i, tables, yes, no, RattleType, owns, types_at, plain, named_lft, Ptr, block_ptr, ptr_val, block_of, count_of, at_block, usize, uint_vals, uint_Tells, mut_vals, mut_Tells, nothing, opens, closes, Stays, stay_dropped, stay_ref, walk_of, Goes-dropped, Goes-ref, after as from_on, guard_good, proved, leaves, seq_cst, fm, Names, Placed, Bool, Stored, flag_word, false, use3, found, finds, swaps, Wakes, Takes, evidence, wakes_in, of_wakes, use2, u64, pair_val, pair_of, ghost_val, GhostData, ghost_made, waker_place, lent_val, lent_told}
 use Rattle.piper_ring.proofs.Rights.{known_halves}
 use Rattle.piper_ring.proofs.Slots.{flag_fits, Woke, TakesHeld, take_waker}
 use Rattle.piper_ring.specs.Loads.{FoundWaiter, as_waiter}
@@ -39,5 +39,5 @@ take_waker_spec 𝓤 𝓛 𝓜 𝓡 wired =
     move ! (2 ∷ []) $ use0 𝓛 (‵ (GhostData.own_val (record {}, tt) (ghost_val ∷ []))) (ghost_made 𝓛) $ fjoin ! $ flt_i ! n (2 ^ 64) fits $ feq_i ! (List Val) (vint w64 n ∷ []) (vint w64 n ∷ []) refl $ fjoin ! $
     use2 𝓛 (‵ ((denote.Struct.Tuple.Tuple (u64 ∷ Token.the_row ∷ [])).own_val (n, token) (pair_val (vint w64 n) ghost_val ∷ []))) (pair_of 𝓛 u64 Token.the_row n token (vint w64 n) ghost_val) $
     use0 𝓛 (raw (fact 𝓤 (FoundWaiter k.names n))) (fact_i 𝓤 (FoundWaiter k.names n) (emp 𝓤) (as_waiter k.names n)) $ use0 𝓛 (raw (fact 𝓤 (Righted))) (fact_i 𝓤 (Righted) (emp 𝓤) (ap (λ (m : Names). waker_place m r) (sym asked.0), (λ j. (told.1 j).0), λ j. (told.1 j).1)) $ join ! $
-    use0 𝓛 (raw (fact 𝓤 (Takes Stored view x n v))) (fact_i 𝓤 (Takes Stored view x n v) (emp 𝓤) told.0) $ join ! $ use0 𝓛 (raw (fact 𝓤 (SameWaker k k'))) (fact_i 𝓤 (SameWaker k k') (emp 𝓤) (refl, refl)) $ join ! $
+    use0 𝓛 (raw (fact 𝓤 (Takes Stored view x n v))) (fact_i 𝓤 (Takes Stored view x n v) (emp 𝓤) told.0) $ join ! $ let Same : Type 0 = k' ≡ record k { holds = k'.holds; taken = k'.taken; stored = k'.stored } in use0 𝓛 (raw (fact 𝓤 Same)) (fact_i 𝓤 Same (emp 𝓤) refl) $ join ! $
     returns ! (look_at ! 0 refl) $ free_all ! refl $ keep ! (2 ∷ 3 ∷ 1 ∷ 0 ∷ []) $ by ! (leaves 𝓛 En hs c y (pair_val (vint w64 n) ghost_val) (n, token) (tt, (k', (tt, tt))) (tt, (tt, (tt, tt)))))))))))))))
