@@ -5,14 +5,13 @@ use Rattle.futures.specs.declared.task.Poll.{Poll}
 use Rattle.futures.specs.declared.task.Poll.TheVariants.{Ready, Pending}
 use Rattle.futures.specs.Poll.{OnPending}
 use Rattle.piper.specs.declared.handles.Writer.{Writer}
-use Rattle.piper_ring.specs.SlotsView.{KeepsSlots}
 use Rattle.piper.specs.Handles.{SameWriter}
 use Rattle.piper.specs.Waits.{WriterRegistered}
 use Rattle.piper.specs.WriterCalls.{FillDraws, FillPends, FillsWaiting}
 use Rattle.piper.specs.declared.error.CopyError.{CopyError}
 use Rattle.piper.specs.declared.error.CopyError.TheVariants.{Memory, Like}
 
-draws : {E : Type 0} (r : Poll (Result ℕ (CopyError E))) (a b d : Writer) → d.side.end ≡ record b.side.end { lent = [] } → SameWriter KeepsSlots b d → FillDraws r a b → FillDraws r a d
+draws : {E : Type 0} (r : Poll (Result ℕ (CopyError E))) (a b d : Writer) → d.side.end ≡ record b.side.end { lent = [] } → SameWriter (λ s t. t ≡ s) b d → FillDraws r a b → FillDraws r a d
 draws (Ready (Ok n)) a b d end rest h = rw (rest.rng, end) h
 draws (Ready (Err Memory)) a b d end rest h = rw rest.rng h
 draws (Ready (Err (Like e))) a b d end rest h = rw rest.rng h
@@ -33,7 +32,7 @@ still a b d cx end registrations (inl w) = inl (record {
 })
 still a b d cx end registrations (inr away) = inr (away.0, (away.1.0, rw registrations away.1.1, away.1.2))
 
-pending : {A : Type 0} (r : Poll A) (a b d : Writer) (cx : Context) → d.side.end ≡ record b.side.end { lent = [] } → SameWriter KeepsSlots b d
+pending : {A : Type 0} (r : Poll A) (a b d : Writer) (cx : Context) → d.side.end ≡ record b.side.end { lent = [] } → SameWriter (λ s t. t ≡ s) b d
     → OnPending r (FillPends a b cx) → OnPending r (FillPends a d cx)
 pending (Ready x) a b d cx end rest h = tt
 pending Pending a b d cx end rest h = record {
@@ -43,7 +42,7 @@ pending Pending a b d cx end rest h = record {
 }
 
 -- and the whole fill waits as it did
-pub stays_waiting : {E : Type 0} (r : Poll (Result ℕ (CopyError E))) (a b d : Writer) (old left : Context) → d.side.end ≡ record b.side.end { lent = [] } → SameWriter KeepsSlots b d
+pub stays_waiting : {E : Type 0} (r : Poll (Result ℕ (CopyError E))) (a b d : Writer) (old left : Context) → d.side.end ≡ record b.side.end { lent = [] } → SameWriter (λ s t. t ≡ s) b d
     → FillsWaiting r a b old left → FillsWaiting r a d old left
 stays_waiting r a b d old left end rest h = record {
   draws = draws r a b d end rest h.draws;

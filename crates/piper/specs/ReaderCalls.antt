@@ -6,8 +6,8 @@ use Rattle.futures.specs.declared.task.context.Context.{Context}
 use Rattle.futures.specs.declared.task.Poll.{Poll}
 use Rattle.futures.specs.declared.task.Poll.TheVariants.{Ready}
 use denote.Ref.{Bor}
-use Rattle.piper_ring.specs.ReadView.{KeepsAll as EndKeepsAll, KnowsEnd, MayBeUnread as EndMayHave}
-use Rattle.piper_ring.specs.SlotsView.{IsReaderPending, IsWriterPending, KeepsSlots, OnlyWaits, WaitsAsBefore}
+use Rattle.piper_ring.specs.ReadView.{KeepsAll, KnowsEnd, MayBeUnread as EndMayHave}
+use Rattle.piper_ring.specs.SlotsView.{IsReaderPending, IsWriterPending, OnlyWaits, WaitsAsBefore}
 use Rattle.piper.specs.Called.{CallsTaken}
 use Rattle.piper.specs.Contexts.{AsksAgain}
 use Rattle.piper.specs.Copies.{ReaderCopied}
@@ -36,10 +36,6 @@ AtEnd reader = IsEnded reader.side.end
 abbrev pub ReaderMayHave : Reader → ℕ → Type 0
 ReaderMayHave reader n = EndMayHave reader.side.end n
 
--- what the reader knows to be all that was ever published is so still
-abbrev pub KeepsAll : Reader → Reader → Type 0
-KeepsAll a b = EndKeepsAll a.side.end b.side.end
-
 -- the reader looked, which takes no byte
 abbrev pub Looks : Reader → Reader → Type 0
 Looks a b = ReaderLooked a.side.end b.side.end
@@ -55,14 +51,14 @@ pub record ReaderPolled {E : Type 0} (r : Poll (Result Bool E)) (a b : Reader) :
 -- to be all is all
 pub record PollsEnd {A E : Type 0} (r : Poll (Result A E)) (a b : Reader) : Type 0 where
   pub after : AtEnd a → After r (AtEnd b) b.side.end.known
-  pub all : KeepsAll a b
+  pub all : KeepsAll a.side.end b.side.end
 
 -- a poll that lends looked as `poll` does, and if it is pending it waits as that does
 pub record PollsPiece (r : Poll (Result (Bor (List ℕ)) PipeError)) (a b : Reader) (cx : Context)
     : Type 0 where
   pub looked : ReaderLooked a.side.end b.side.end
   pub pending : OnPending r (ReaderPends a b cx)
-  pub all : KeepsAll a b
+  pub all : KeepsAll a.side.end b.side.end
   pub rest : SameReader OnlyWaits a b
 
 -- n bytes were drained into a slice: they are at its front, and the rest of it stays. They are the
@@ -102,12 +98,12 @@ DrainsStd contents is_full fails r a b s t =
 pub record DrainsEnd {E : Type 0} (r : Poll (Result ℕ E)) (a b : Reader) : Type 0 where
   pub end : EndIsTrue r a.side.end b.side.end
   pub after : AtEnd a → TakesNone r (AtEnd b) a.side.end.taken b.side.end.taken
-  pub all : KeepsAll a b
+  pub all : KeepsAll a.side.end b.side.end
 
 -- the same of a drain that doesn't wait
 pub record KeepsEnd (a b : Reader) : Type 0 where
   pub stays : AtEnd a → AtEnd b
-  pub all : KeepsAll a b
+  pub all : KeepsAll a.side.end b.side.end
 
 -- a drain that is pending: it found no byte, neither saw the pipe closed nor was told so, and waits
 -- as a poll does; or it found one and asked for another poll itself
@@ -164,12 +160,6 @@ pub record ReadsAsDrain (a b : Reader) (r : Count) (old new : List ℕ)
   pub woken : WakesWriter a b
   pub rest : SameReaderButMoved a b
 
--- the reader, but for the bytes that it took and knows of
-pub record SameReaderButConsumed (a b : Reader) : Type 0 where
-  pub handle : SameReader WaitsAsBefore a b
-  pub end : b.side.end
-      ≡ record a.side.end { taken = b.side.end.taken; known = b.side.end.known }
-
 -- the reader learned that these bytes are all that was ever published: what it took and knows of is
 -- their front
 pub record KnowsAll (r : Reader) (bytes : List ℕ) : Type 0 where
@@ -182,18 +172,11 @@ ReaderWasWoken reader left =
     IsReaderPending reader.side.end reader.side.slots
     → left.slots.taken ≡ reader.side.slots.tickets
 
--- the reader, but for what marks reported to it
-pub record SameReaderButTold (a b : Reader) : Type 0 where
-  pub end : b.side.end ≡ record a.side.end
-      { told = b.side.end.told; told_shut = b.side.end.told_shut; all = b.side.end.all }
-  pub handle : SameReader KeepsSlots a b
-  pub log : b.side.log ≡ a.side.log
-
 -- two handles met: what each of them knows of more than before
 pub record MeetMore (a b : Reader) (c d : Writer) : Type 0 where
   pub known : (xs : List ℕ) × (b.side.end.known ≡ a.side.end.known ++ xs)
   pub room : c.side.end.room ≤ d.side.end.room
-  pub all : KeepsAll a b
+  pub all : KeepsAll a.side.end b.side.end
 
 -- and that the writer closed the pipe, if one of them saw it closed: then all is what it sent
 pub record MeetClosed (b : Reader) (d : Writer) : Type 0 where
@@ -231,5 +214,5 @@ pub record MeetSame (a b : Reader) (c d : Writer) : Type 0 where
   pub reader : b.side.end
       ≡ record a.side.end { known = b.side.end.known; all = b.side.end.all }
   pub writer : d.side.end ≡ record c.side.end { room = d.side.end.room }
-  pub handles : SameReader KeepsSlots a b × SameWriter KeepsSlots c d
+  pub handles : SameReader (λ s t. t ≡ s) a b × SameWriter (λ s t. t ≡ s) c d
   pub logs : (b.side.log ≡ a.side.log) × (d.side.log ≡ c.side.log)

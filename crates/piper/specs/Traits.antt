@@ -5,10 +5,10 @@ use Rattle.futures.specs.declared.task.context.Context.{Context}
 use Rattle.futures.specs.declared.task.Poll.{Poll}
 use Rattle.futures.specs.declared.task.Poll.TheVariants.{Ready, Pending}
 use Rattle.piper_protocol.specs.declared.memory.OutOfMemory.{OutOfMemory}
+use Rattle.piper_ring.specs.SlotsView.{WaitsAsBefore}
 use Rattle.piper.specs.Called.{CallsTaken}
-use Rattle.piper.specs.Handles.{NotifiesReader, NotifiesWriter}
+use Rattle.piper.specs.Handles.{NotifiesReader, NotifiesWriter, SameReader}
 use Rattle.piper.specs.Polls.{Done}
-use Rattle.piper.specs.ReaderCalls.{SameReaderButConsumed}
 use Rattle.piper.specs.Waits.{WriterLeavesNone}
 use Rattle.piper.specs.WriterCalls.{SameWriterButShut}
 use Rattle.piper.specs.declared.error.PipeError.{PipeError}
@@ -27,7 +27,9 @@ as_pipe Pending = Pending
 pub record Consumes (a b : Reader) (n : ℕ) : Type 0 where
   pub woken : NotifiesWriter b
   pub called : CallsTaken a.side.slots b.side.slots
-  pub rest : SameReaderButConsumed a b
+  pub handle : SameReader WaitsAsBefore a b
+  pub end : b.side.end
+      ≡ record a.side.end { taken = b.side.end.taken; known = b.side.end.known }
 
 -- a flush is ready at once, doesn't fail, and asks nothing of the context: what was written is
 -- published

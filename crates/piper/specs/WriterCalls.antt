@@ -6,7 +6,7 @@ use Rattle.futures.specs.Poll.{OnPending}
 use Rattle.futures.specs.declared.task.context.Context.{Context}
 use Rattle.futures.specs.declared.task.Poll.{Poll}
 use Rattle.futures.specs.declared.task.Poll.TheVariants.{Ready}
-use Rattle.piper_ring.specs.SlotsView.{EmptiesOwn, IsWriterPending, KeepsSlots, WaitsAsBefore}
+use Rattle.piper_ring.specs.SlotsView.{IsWriterPending, WaitsAsBefore}
 use Rattle.piper_ring.specs.WriteView.{Lendable, MayBeUnread as EndMayHave}
 use Rattle.piper.specs.Called.{CallsTaken}
 use Rattle.piper.specs.Contexts.{AsksAgain}
@@ -146,10 +146,6 @@ pub record WritesAsFill (a b : Writer) (r : Count) (bytes : List ℕ)
 
 -- the writer, which has closed the pipe for good: it lends nothing any more
 pub record SameWriterButShut (a b : Writer) : Type 0 where
-  pub handle : SameWriter EmptiesOwn a b
+  pub handle : SameWriter (λ s t. t ≡ record s
+      { owns = t.owns; maybe_registered = false; taken = t.taken; stored = t.stored }) a b
   pub end : b.side.end ≡ record a.side.end { shut = true; saw = true; lent = [] }
-
--- the writer made no call: it only learned something
-pub record SameWriterButTold (a b : Writer) : Type 0 where
-  pub handle : SameWriter KeepsSlots a b
-  pub log : b.side.log ≡ a.side.log

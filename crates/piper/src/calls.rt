@@ -66,8 +66,8 @@ impl Reader {
     /// Returns: always `true` if this reader saw the pipe closed or learned it from a mark. Once it
     /// is `true` it stays so (not proved).
     pub fn is_closed(&self) -> bool
-        ensures saw { saw self.now ≡ true → IsTrue result }
-        ensures told { told_shut self.now ≡ true → IsTrue result }
+        ensures stays { (saw self.now ≡ true → IsTrue result)
+            × (told_shut self.now ≡ true → IsTrue result) }
         ensures found { FoundClosed (ring self.now).names result }
     {
         self.end().is_closed()
@@ -129,8 +129,7 @@ impl Reader {
           known = drop amt (known self.old);
         } }
         ensures end { AtEnd self.old → AtEnd self.new }
-        ensures woken { NotifiesWriter self.new }
-        ensures called { CallsTaken (slots self.old) (slots self.new) }
+        ensures woken { NotifiesWriter self.new × CallsTaken (slots self.old) (slots self.new) }
         ensures rest { SameReader WaitsAsBefore self.old self.new }
     {
         self.side.begin(Point::Reader(ReadPoint::StoreHead(amt, AfterRead::Answer)));
@@ -140,8 +139,8 @@ impl Reader {
 
     /// Evidence of how many bytes were taken, for the writer to observe.
     pub fn mark(&self) -> ReadMark
-        ensures ring { result.names ≡ (ring self.now).names }
-        ensures count { result.count ≡ length (taken self.now) }
+        ensures { (result.names ≡ (ring self.now).names)
+            × (result.count ≡ length (taken self.now)) }
     {
         self.end().mark()
     }
@@ -156,8 +155,8 @@ impl Reader {
     pub fn drop(self) -> FinishedReader
         ensures ran { Opened (Point.Reader ReadPoint.StoreClosed)
             (ends (Point.Reader ReadPoint.Dropped) Answer.Done) (log self) result.log }
-        ensures ring { result.told.consumed.names ≡ (ring self).names }
-        ensures count { result.told.consumed.count ≡ length (taken self) }
+        ensures told { (result.told.consumed.names ≡ (ring self).names)
+            × (result.told.consumed.count ≡ length (taken self)) }
         ensures woken { ReaderWokeLast self result }
         ensures left { HasDropped (ring self).names }
     {
@@ -282,8 +281,7 @@ impl Writer {
           lent = drop n (lent self.old);
           room = room self.old - n;
         } }
-        ensures woken { NotifiesReader self.new }
-        ensures called { CallsTaken (slots self.old) (slots self.new) }
+        ensures woken { NotifiesReader self.new × CallsTaken (slots self.old) (slots self.new) }
         ensures rest { SameWriter WaitsAsBefore self.old self.new }
     {
         self.side.begin(Point::Writer(WritePoint::StoreTail(n, AfterWrite::Answer)));
@@ -301,8 +299,7 @@ impl Writer {
         ensures ran { Ran (Point.Writer (WritePoint.StoreClosed AfterWrite.WakeWriter)) Answer.Done
             (log self.old) (log self.new) }
         ensures answer { result ≡ Poll.Ready (Ok (record {})) }
-        ensures woken { NotifiesReader self.new }
-        ensures called { CallsTaken (slots self.old) (slots self.new) }
+        ensures woken { NotifiesReader self.new × CallsTaken (slots self.old) (slots self.new) }
         ensures leaves { WriterLeavesNone self.new }
         ensures context { Keeps cx.old cx.new }
         ensures rest { SameWriterButShut self.old self.new }
@@ -317,9 +314,8 @@ impl Writer {
 
     /// Evidence of what was published, for the reader to observe.
     pub fn mark(&self) -> WriteMark
-        ensures ring { result.names ≡ (ring self.now).names }
-        ensures bytes { result.bytes ≡ sent self.now }
-        ensures shut { result.shut ≡ shut self.now }
+        ensures { (result.names ≡ (ring self.now).names) × (result.bytes ≡ sent self.now)
+            × (result.shut ≡ shut self.now) }
     {
         self.end().mark()
     }
@@ -334,9 +330,8 @@ impl Writer {
     pub fn drop(self) -> FinishedWriter
         ensures ran { Opened (Point.Writer (WritePoint.StoreClosed AfterWrite.Drop))
             (ends (Point.Writer WritePoint.Dropped) Answer.Done) (log self) result.log }
-        ensures ring { result.told.names ≡ (ring self).names }
-        ensures bytes { result.told.bytes ≡ sent self }
-        ensures shut { result.told.shut ≡ true }
+        ensures told { (result.told.names ≡ (ring self).names)
+            × (result.told.bytes ≡ sent self) × (result.told.shut ≡ true) }
         ensures woken { WriterWokeLast self result }
         ensures left { HasDropped (ring self).names }
     {

@@ -60,9 +60,8 @@ impl Model for OwnedWriter {
 /// Errors: `OutOfMemory` if memory is refused. Then nothing stays allocated (not proved).
 pub fn owned_pipe(alloc: Global, cap: usize) -> Result<(OwnedReader, OwnedWriter), OutOfMemory>
     requires { (0 < cap) × (2 * cap < 2 ^ 64) }
-    ensures pair { IfOk result (λ (reader, writer). ArePair reader writer) }
-    ensures fresh { IfOk result (λ (reader, writer). AreFresh cap reader writer) }
-    ensures draws { IfOk result (λ (reader, writer). DrawFrom 0 reader writer) }
+    ensures fresh { IfOk result (λ (reader, writer). ArePair reader writer
+        × AreFresh cap reader writer × DrawFrom 0 reader writer) }
     ensures refused { IfErr result HasFailed }
 {
     let (reader, writer) = pipe(alloc, cap, DEFAULT_SEED)?;

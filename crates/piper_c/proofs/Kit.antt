@@ -21,6 +21,7 @@ pub use denote.Index.{closes_slice, opens_slice}
 pub use denote.Memory.{part_at, lone, mem}
 pub use denote.RawPtr.Bytes.{bytes, bytes_apart, bytes_whole}
 pub use Rattle.std_alloc.specs.Box.Ownership.{box_owns}
+pub use Rattle.piper_ring.proofs.Fields.{pointer_val, PointerData, pointer_told, pointer_made}
 pub use Rattle.piper_ring.specs.Block.{heap_token}
 pub use mir.Raw.{raw as bare}
 pub use mir.Syntax.{Dict, impl, method, tcons, tnil, dnil, named}

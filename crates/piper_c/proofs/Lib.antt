@@ -1,7 +1,7 @@
 pub mod Kit
+pub mod Owner
 pub mod ReaderValues
 pub mod WriterValues
-pub mod RoomValues
 pub mod HeldSteps
 pub mod Loans
 pub mod Told

@@ -14,7 +14,7 @@ use Rattle.piper_c.specs.declared.words.Waiter.{Waiter}
 use Rattle.piper_c.specs.declared.words.PiperMoved.{PiperMoved}
 use Rattle.piper_c.specs.declared.words.PiperWords.{PiperWords}
 use Rattle.piper_c.specs.Outcome.{code}
-use Rattle.piper_c.specs.Waiting.{GotBack, IsRefusal, IsTold, Took, HandedOut}
+use Rattle.piper_c.specs.Waiting.{GotBack, IsRefusal, Told, Took, HandedOut}
 
 -- what a poll found; it has to be made again only where the place of the words is away
 abbrev pub ReaderFound : Outcome → ReadHalf → Type 0
@@ -90,15 +90,8 @@ pub record ReadsInto (old new : List ℕ) (n : ℕ) (a b : ReadHalf) : Type 0 wh
 
 -- the exports
 
--- a poll with words of C: C got what the side's own poll with these words found, and gave back
-pub record ReaderTold (mine : PiperWords) (p : PiperPolled) (a b : ReadHalf) : Type 0 where
-  pub waiter : Waiter
-  pub polled : Polled
-  pub words : ReaderGotBack waiter polled a b
-  pub given : waiter.words ≡ mine
-  pub found : ReaderFound polled.outcome b
-  pub looked : ReaderLooked a b
-  pub told : IsTold polled p
+abbrev pub ReaderTold : PiperWords → PiperPolled → ReadHalf → ReadHalf → Type 0
+ReaderTold = Told ReaderGotBack ReaderFound ReaderLooked
 
 -- after all that b consumed, the writer's slot was checked: words come out exactly where
 -- it took a ticket of the writer's

@@ -3,6 +3,7 @@
 use Rattle.std.specs.Prelude.{◌≡◌, ℕ, ◌<◌, ◌+◌, ◌⊎◌, Bool, true, false, Option, Some, None, IsSome}
 use Rattle.piper_ring.specs.Loads.{CameBack, IsUnregistered}
 use Rattle.piper_ring.specs.Shared.{Names}
+use Rattle.piper_c.specs.declared.outcome.Outcome.{Outcome}
 use Rattle.piper_c.specs.declared.outcome.Outcome.TheVariants.{Pending}
 use Rattle.piper_c.specs.declared.outcome.Polled.{Polled}
 use Rattle.piper_c.specs.declared.outcome.PiperPolled.{PiperPolled}
@@ -78,3 +79,16 @@ pub record HandedBack (mine : PiperWords) (names : Names) (had : Bool) (tickets 
   pub words : Option Waiter
   pub took : TookBack words names had tickets
   pub out : IsOut words mine
+
+-- a poll with words of C: C got what the side's own poll with these words found, as `Finds` says, and
+-- gave back, as `Gives` says. It looked, as `Looks` says
+pub record Told {H : Type 0} (Gives : Waiter → Polled → H → H → Type 0)
+    (Finds : Outcome → H → Type 0) (Looks : H → H → Type 0)
+    (mine : PiperWords) (p : PiperPolled) (a b : H) : Type 0 where
+  pub waiter : Waiter
+  pub polled : Polled
+  pub words : Gives waiter polled a b
+  pub given : waiter.words ≡ mine
+  pub found : Finds polled.outcome b
+  pub looked : Looks a b
+  pub told : IsTold polled p

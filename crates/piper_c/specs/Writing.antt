@@ -3,7 +3,7 @@ use Rattle.std.specs.Prelude.{◌≡◌, ℕ, ◌<◌, ◌≤◌, ◌+◌, ◌-�
 use Rattle.piper_ring.specs.Loads.{FoundClosed, IsAway}
 use Rattle.piper_ring.specs.Looks.{WriterLooked as EndLooked}
 use Rattle.piper_ring.specs.WriteView.{HasLoadedHead, Lendable}
-use Rattle.piper_ring.specs.SlotsView.{SlotsView, EmptiesOwn, IsWriterPending, IsWriterAtRest, OnlyWaits, WaitsAsBefore}
+use Rattle.piper_ring.specs.SlotsView.{SlotsView, IsWriterPending, IsWriterAtRest, OnlyWaits, WaitsAsBefore}
 use Rattle.piper_c.specs.declared.halves.WriteHalf.{WriteHalf}
 use Rattle.piper_c.specs.declared.outcome.Outcome.{Outcome}
 use Rattle.piper_c.specs.declared.outcome.Outcome.TheVariants.{Pending, Ready, End, Again, Refused}
@@ -14,7 +14,7 @@ use Rattle.piper_c.specs.declared.words.PiperMoved.{PiperMoved}
 use Rattle.piper_c.specs.declared.words.PiperLeft.{PiperLeft}
 use Rattle.piper_c.specs.declared.words.PiperWords.{PiperWords}
 use Rattle.piper_c.specs.Outcome.{code}
-use Rattle.piper_c.specs.Waiting.{GotBack, IsTold, Took, HandedOut, HandedBack}
+use Rattle.piper_c.specs.Waiting.{GotBack, Told, Took, HandedOut, HandedBack}
 
 -- what a poll found; it has to be made again only where the place of the words is away
 abbrev pub WriterFound : Outcome → WriteHalf → Type 0
@@ -62,7 +62,12 @@ pub record TookReader (taken : Option Waiter) (old : SlotsView) (b : WriteHalf) 
 pub record TookReaderLast (taken : Option Waiter) (old : SlotsView) (b : WriteHalf) : Type 0 where
   pub rests : IsWriterAtRest b.side.end b.side.slots
   pub took : Took taken old.names old.taken b.side.slots.taken
-  pub own : EmptiesOwn old b.side.slots
+  pub own : b.side.slots ≡ record old {
+    owns = b.side.slots.owns;
+    maybe_registered = false;
+    taken = b.side.slots.taken;
+    stored = b.side.slots.stored;
+  }
 
 -- after the close by which a left, the reader's slot was checked: words come out exactly
 -- where a ticket of the reader's was taken
@@ -105,15 +110,8 @@ pub record WriterSeen (result : ℕ) (a b : WriteHalf) : Type 0 where
   pub looked : WriterLooked a b
   pub slots : b.side.slots ≡ a.side.slots
 
--- a poll with words of C: C got what the side's own poll with these words found, and gave back
-pub record WriterTold (mine : PiperWords) (p : PiperPolled) (a b : WriteHalf) : Type 0 where
-  pub waiter : Waiter
-  pub polled : Polled
-  pub words : WriterGotBack waiter polled a b
-  pub given : waiter.words ≡ mine
-  pub found : WriterFound polled.outcome b
-  pub looked : WriterLooked a b
-  pub told : IsTold polled p
+abbrev pub WriterTold : PiperWords → PiperPolled → WriteHalf → WriteHalf → Type 0
+WriterTold = Told WriterGotBack WriterFound WriterLooked
 
 -- after all that b published, the reader's slot was checked: words come out exactly where
 -- it took a ticket of the reader's
@@ -134,7 +132,12 @@ pub record WriterCloses (left : PiperLeft) (a b : WriteHalf) : Type 0 where
   pub rests : IsWriterAtRest b.side.end b.side.slots
   pub took : HandedOut left.wake a.side.slots.names a.side.slots.taken b.side.slots.taken
   pub mine : HandedBack left.mine a.side.slots.names a.side.slots.owns a.side.slots.tickets
-  pub own : EmptiesOwn a.side.slots b.side.slots
+  pub own : b.side.slots ≡ record a.side.slots {
+    owns = b.side.slots.owns;
+    maybe_registered = false;
+    taken = b.side.slots.taken;
+    stored = b.side.slots.stored;
+  }
   pub places : b.side.cells ≡ a.side.cells
 
 -- the first n bytes of room that C gave back were published, as it left them; after that the

@@ -60,6 +60,19 @@ pub(crate) struct Polled {
     pub(crate) mine: Option<Waiter>,
 }
 
+impl Polled {
+    /// What a poll found, and the words that it gives back.
+    pub(crate) fn new(outcome: Outcome, before: Option<Waiter>, mine: Option<Waiter>) -> Polled
+        ensures { (result.outcome ≡ outcome) × (result.before ≡ before) × (result.mine ≡ mine) }
+    {
+        Polled {
+            outcome,
+            before,
+            mine,
+        }
+    }
+}
+
 /// The result of a look for C, and how many bytes lie in one piece where it found some.
 #[repr(C)]
 #[derive(Drop)]
@@ -87,4 +100,35 @@ pub struct PiperPolled {
     pub outcome: u32,
     pub before: PiperWords,
     pub mine: PiperWords,
+}
+
+impl PiperPolled {
+    ghost use Rattle.piper_c.specs.Waiting.{IsTold};
+
+    /// What C gets of a poll.
+    pub(crate) fn told(polled: Polled) -> PiperPolled
+        ensures { IsTold polled result }
+    {
+        let Polled {
+            outcome,
+            before,
+            mine,
+        } = polled;
+        PiperPolled {
+            outcome: outcome.code(),
+            before: Waiter::hand_out(before),
+            mine: Waiter::hand_out(mine),
+        }
+    }
+
+    /// What C gets of a poll that it made without words.
+    pub(crate) fn refused(mine: PiperWords) -> PiperPolled
+        ensures { (result.outcome ≡ 4) × (result.mine ≡ mine) × (result.before ≡ mine) }
+    {
+        PiperPolled {
+            outcome: Outcome::Refused.code(),
+            before: mine,
+            mine,
+        }
+    }
 }

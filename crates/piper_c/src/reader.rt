@@ -12,7 +12,7 @@ ghost use Rattle.piper_c.specs.Reading.{LeftReading, ReaderTold, ReaderSeen, Rea
 use crate::halves::Left;
 use crate::handles::PiperReader;
 use crate::lending::address;
-use crate::outcome::{Outcome, PiperPolled, PiperSeen, Polled};
+use crate::outcome::{Outcome, PiperPolled, PiperSeen};
 use crate::words::{PiperLeft, PiperMoved, PiperWords, Waiter};
 use std::alloc::Global;
 
@@ -30,24 +30,12 @@ pub extern "C" fn piper_reader_poll(
         HoldsOn reader.old.half reader.new.half (λ a b. ReaderTold mine result a b) }
 {
     if mine.vtable == 0 {
-        return PiperPolled {
-            outcome: Outcome::Refused.code(),
-            before: mine,
-            mine,
-        };
+        return PiperPolled::refused(mine);
     }
     let mut half = reader.take(alloc);
-    let Polled {
-        outcome,
-        before,
-        mine,
-    } = half.poll(Waiter::new(mine));
+    let polled = half.poll(Waiter::new(mine));
     reader.put(half);
-    PiperPolled {
-        outcome: outcome.code(),
-        before: Waiter::hand_out(before),
-        mine: Waiter::hand_out(mine),
-    }
+    PiperPolled::told(polled)
 }
 
 /// Checks for a byte or for the end, and leaves nothing. Where it finds a byte it gives what `peek`

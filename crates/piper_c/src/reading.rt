@@ -28,38 +28,16 @@ impl ReadHalf {
         ensures words { ReaderGotBack mine result self.old self.new }
     {
         if self.side.look_first(Purpose::Poll) {
-            return Polled {
-                outcome: Outcome::Ready,
-                before: take_own(&mut self.side),
-                mine: Some(mine),
-            };
+            return Polled::new(Outcome::Ready, take_own(&mut self.side), Some(mine));
         }
         let before = match register(&mut self.side, mine) {
             Ok(before) => before,
-            Err(mine) => {
-                return Polled {
-                    outcome: Outcome::Again,
-                    before: None,
-                    mine: Some(mine),
-                };
-            }
+            Err(mine) => return Polled::new(Outcome::Again, None, Some(mine)),
         };
         match self.side.look_again(Purpose::Poll) {
-            Look::Ready => Polled {
-                outcome: Outcome::Ready,
-                before,
-                mine: take_own(&mut self.side),
-            },
-            Look::Closed => Polled {
-                outcome: Outcome::End,
-                before,
-                mine: None,
-            },
-            Look::NotReady => Polled {
-                outcome: Outcome::Pending,
-                before,
-                mine: None,
-            },
+            Look::Ready => Polled::new(Outcome::Ready, before, take_own(&mut self.side)),
+            Look::Closed => Polled::new(Outcome::End, before, None),
+            Look::NotReady => Polled::new(Outcome::Pending, before, None),
         }
     }
 

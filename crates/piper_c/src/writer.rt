@@ -12,7 +12,7 @@ ghost use Rattle.piper_c.specs.Lending.{LendsOut, IsLoanOf, IsWhole, EndsLoan, W
 use crate::halves::Left;
 use crate::handles::{PiperRoom, PiperWriter};
 use crate::lending::{lend_out, reclaim_room};
-use crate::outcome::{Outcome, PiperNext, PiperPolled, PiperSeen, Polled};
+use crate::outcome::{Outcome, PiperNext, PiperPolled, PiperSeen};
 use crate::words::{PiperLeft, PiperMoved, PiperWords, Waiter};
 use std::alloc::Global;
 use std::mem::replace;
@@ -32,24 +32,12 @@ pub extern "C" fn piper_writer_poll(
     ensures whole { IsWholeWriter writer.new.half writer.new.lent }
 {
     if mine.vtable == 0 {
-        return PiperPolled {
-            outcome: Outcome::Refused.code(),
-            before: mine,
-            mine,
-        };
+        return PiperPolled::refused(mine);
     }
     let mut half = writer.take(alloc);
-    let Polled {
-        outcome,
-        before,
-        mine,
-    } = half.poll(Waiter::new(mine));
+    let polled = half.poll(Waiter::new(mine));
     writer.put(half);
-    PiperPolled {
-        outcome: outcome.code(),
-        before: Waiter::hand_out(before),
-        mine: Waiter::hand_out(mine),
-    }
+    PiperPolled::told(polled)
 }
 
 /// Checks for room or for the end, and leaves nothing.

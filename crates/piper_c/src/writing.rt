@@ -27,16 +27,8 @@ impl WriteHalf {
         ensures words { WriterGotBack mine result self.old self.new }
     {
         match self.side.look_first(Purpose::Poll) {
-            Look::Ready => Polled {
-                outcome: Outcome::Ready,
-                before: take_own(&mut self.side),
-                mine: Some(mine),
-            },
-            Look::Closed => Polled {
-                outcome: Outcome::End,
-                before: None,
-                mine: Some(mine),
-            },
+            Look::Ready => Polled::new(Outcome::Ready, take_own(&mut self.side), Some(mine)),
+            Look::Closed => Polled::new(Outcome::End, None, Some(mine)),
             Look::NotReady => self.poll_waiting(mine),
         }
     }
@@ -56,30 +48,12 @@ impl WriteHalf {
     {
         let before = match register(&mut self.side, mine) {
             Ok(before) => before,
-            Err(mine) => {
-                return Polled {
-                    outcome: Outcome::Again,
-                    before: None,
-                    mine: Some(mine),
-                };
-            }
+            Err(mine) => return Polled::new(Outcome::Again, None, Some(mine)),
         };
         match self.side.look_again(Purpose::Poll) {
-            Look::Ready => Polled {
-                outcome: Outcome::Ready,
-                before,
-                mine: take_own(&mut self.side),
-            },
-            Look::Closed => Polled {
-                outcome: Outcome::End,
-                before,
-                mine: None,
-            },
-            Look::NotReady => Polled {
-                outcome: Outcome::Pending,
-                before,
-                mine: None,
-            },
+            Look::Ready => Polled::new(Outcome::Ready, before, take_own(&mut self.side)),
+            Look::Closed => Polled::new(Outcome::End, before, None),
+            Look::NotReady => Polled::new(Outcome::Pending, before, None),
         }
     }
 

@@ -1,6 +1,5 @@
 -- The seats may cross threads and be shared by them. Assumes nothing.
-use Rattle.piper_ring.proofs.Kit.{ℕ, Bool, true, false, List, ◌+◌, ◌-◌, length, Share, Fml, latest, at_least, Ptr, u8, IsSend, Common, sendable, slots, deeds, Names, State, flag, gone, where_gone, until_both, writer_knows, reader_knows, arrived_first, ends, blanks, memory, Inner, common, reader_owns, reader_lends, writer_owns, writer_lends, held_at}
-use Rattle.std.proofs.Common.{drop}
+use Rattle.piper_ring.proofs.Kit.{ℕ, Bool, true, false, List, ◌+◌, ◌-◌, length, Share, Fml, latest, at_least, Ptr, u8, IsSend, Common, sendable, slots, deeds, Names, State, flag, gone, where_gone, until_both, writer_knows, reader_knows, arrived_first, ends, blanks, memory, Inner, common, reader_owns, reader_lends, writer_owns, writer_lends, held_at, drop_list}
 use base.Shift.{Keyless}
 use Rattle.std.proofs.Crossing.{frees}
 use Rattle.piper_ring.specs.Block.{purpose, size_of_block}
@@ -51,7 +50,7 @@ module _ (w p : Ptr) (z : Names) where
   memory-Keyless s u = (
     (tt, (tt, (tt, tt))),
     (
-      run-Keyless p z.capacity s u.seen (drop u.seen u.sent),
+      run-Keyless p z.capacity s u.seen (drop_list u.seen u.sent),
       (
         spare-Keyless s u.limit (u.head + z.capacity - u.limit),
         (where-Keyless (gone u.reader_stage) (blanks w p z u.head (u.seen - u.head)) (span-Keyless p z.capacity (u.seen - u.head) u.head), (where-Keyless (gone u.writer_stage) (blanks w p z (length u.sent) (u.limit - length u.sent)) (span-Keyless p z.capacity (u.limit - length u.sent) (length u.sent)), deeds-Keyless u)),

@@ -1,5 +1,5 @@
 -- The names that many proofs of this crate cite, passed on from one place. Declares nothing.
-pub use Rattle.std.proofs.Common.{◌≡◌, ℕ, ◌+◌, ◌≤◌, Bool, true, false, List, [], ◌∷◌, refl, sym, ap, arith, ◌-◌, length, ◌<◌, ◌⊎◌, inl, inr, max, leb, ◌++◌, ◌∙◌, suc, length-append, w64, ◌*◌, zero, subst, ◌^◌, w8, take, append_assoc, min, lit<}
+pub use Rattle.std.proofs.Common.{◌≡◌, ℕ, ◌+◌, ◌≤◌, Bool, true, false, List, [], ◌∷◌, refl, sym, ap, arith, ◌-◌, length, ◌<◌, ◌⊎◌, inl, inr, max, leb, ◌++◌, ◌∙◌, suc, length-append, w64, ◌*◌, zero, subst, ◌^◌, w8, take, append_assoc, min, lit<, drop as drop_list}
 pub use Rattle.std.proofs.Math.Seq.{take-append_seam}
 pub use Rattle.std.proofs.lemmas.List.{length-drop, take-append-le, take-append-drop, length-take-le}
 pub use mathlib.Core.List.{IsPrefix}
@@ -25,7 +25,7 @@ pub use denote.Laws.{Is, shows}
 pub use denote.Memory.{part_at, lone, shared_of, mem, hidden_shr, cell_at}
 pub use denote.Opens.{unhide, hide}
 pub use denote.Param.{layout}
-pub use denote.Param.Send.{IsSend, Common, sendable, IsSync}
+pub use denote.Param.Send.{IsSend, Common, part_keyless, sendable, IsSync}
 pub use denote.Param.Shared.{copy_shared}
 pub use denote.Plain.{uint_vals, uint_Tells}
 pub use denote.RattleType.{RattleType, owns}
@@ -34,7 +34,7 @@ pub use denote.Ref.{shr_vals, shr_Tells, mut_vals, mut_Tells}
 pub use denote.SharingLaws.{beside_shr_laws, nothing_shr_laws, said_shr_laws}
 pub use denote.Signature.{plain, types_at, named_lft}
 pub use denote.Steps.{nothing, peeks, opens, closes}
-pub use denote.Struct.Laws.{field_copy, RawPtr-copy}
+pub use denote.Struct.Laws.{RawPtr-copy}
 pub use denote.Struct.Lending.{Lends, Lends-both, Lends-nothing, Lends-said, Lends-first, of_Lends, lent_out}
 pub use denote.Struct.Owning.{shape}
 pub use denote.Struct.Struct.{Struct}
@@ -50,11 +50,12 @@ pub use Rattle.core.specs.Sync.RawAtomic.{asks, always}
 pub use Rattle.logbook.proofs.Fields.{lends_twice}
 pub use Rattle.piper_protocol.specs.ReaderIndices.{ReaderIndices}
 pub use Rattle.piper_protocol.specs.WriterIndices.{WriterIndices, room_in, left_in}
+pub use Rattle.piper_ring.proofs.Fields.{pointer_val, pointer_told, PointerData, pointer_made, ghost_coded, ghost_shared, lent_val, lent_told, lent_made, LentData, seven_val, seven_of, eight_val, eight_of}
 pub use Rattle.piper_ring.specs.Block.{heap_token, words_type}
 pub use Rattle.piper_ring.specs.Places.{byte, unset, place, run_lent, places_lent}
 pub use Rattle.piper_ring.specs.ReadView.{ReadView, read_view_of, in_one_piece}
-pub use Rattle.piper_ring.specs.Shared.{announced, raised, Names, State, Holds, half, other, flag, word, writer_knows, reader_knows, ends, Inner, common, slots, deeds, gone, where_gone, until_both, arrived_first, blanks, memory, reader_owns, reader_lends, writer_owns, writer_lends, took, idle, word_room, slot_rooms, all_rooms, state_holds, began, Placed, Known, by_reader, by_writer, knows, evidence, flag_word, waker_place, waits_in, wakes_in, words_lent, lent_by, ring_of}
-pub use Rattle.piper_ring.specs.SlotValues.{of_waits, of_wakes, SameWaiter, SameWaker}
+pub use Rattle.piper_ring.specs.Shared.{announced, raised, Names, State, Holds, half, other, flag, word, writer_knows, reader_knows, ends, Inner, common, slots, deeds, gone, where_gone, until_both, arrived_first, blanks, memory, reader_owns, reader_lends, writer_owns, writer_lends, took, idle, word_room, slot_rooms, all_rooms, state_holds, began, Placed, Known, by_reader, by_writer, knows, evidence, flag_word, waker_place, waits_in, wakes_in, lent_by, ring_of}
+pub use Rattle.piper_ring.specs.SlotValues.{of_waits, of_wakes}
 pub use Rattle.piper_ring.specs.Slot.{Stored, as_stored, nothing_stored, stored_code, held_at, Waits, Wakes, IsWhere, Slot, with_waiter, code_of, slot, slot_at, Looks, Takes, GivesBack, PublishesWaker, Reclaims, IsRemembered}
 pub use Rattle.piper_ring.specs.Streams.{Stream, Reaches, streams, reaches_same, open_reaches, reaches_trans}
 pub use Rattle.piper_ring.specs.WriteView.{WriteView}
@@ -67,5 +68,5 @@ pub use Rattle.rtrb.proofs.Walks.{proved, leaves}
 pub use Rattle.rtrb.specs.Fifo.{position_of, slot_of}
 pub use Rattle.rtrb.specs.Shared.{run, span}
 pub use Rattle.std_alloc.proofs.RcSteps.{word-Good}
-pub use Rattle.piper_cells.proofs.CellFields.{right_val, RightData, right_made, right_told}
+pub use Rattle.piper_cells.proofs.CellFields.{right_val as ghost_val, RightData as GhostData, right_made as ghost_made, right_told as ghost_told}
 pub use Rattle.piper_cells.specs.TokenCell.{right}

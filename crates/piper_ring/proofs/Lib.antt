@@ -12,8 +12,6 @@ pub mod Crosses
 pub mod Steps
 pub mod Refresh
 pub mod Reclaim
-pub mod Closing
-pub mod Freeing
 pub mod Leaving
 pub mod Meet
 pub mod Slots

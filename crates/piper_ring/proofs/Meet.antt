@@ -1,12 +1,10 @@
 -- Both ends held by one thread open the invariant with no step of the program: the reader gets all
 -- that was published, the writer all that is free, and a ring that was seen closed is shut. Assumes
 -- `Logic`.
-use Rattle.piper_ring.proofs.Kit.{◌≡◌, ℕ, ◌+◌, ◌-◌, ◌≤◌, Bool, false, List, [], ◌∷◌, ◌++◌, length, sym, refl, ap, subst, ◌∙◌, arith, Order, numbers, latest, prefix_refl, latest_bounds, latest_shows, run, byte, Ura, SProp, ent, sep, ex, guard, upd, upd_i, Fml, ftrue, fsep, Logic, sem, keep, ‵, raw, ◌⊛◌, some, given, ◌$◌, ◌∵◌, !, qed, move, split, split3, fsplit, fsplit3, fjoin, fjoin3, fpick, fpack, pick, learn, check, show, frame, assume, settle, suffices, rewrite, use1, use2, use3, done, nothing, drop as forget, Ptr, Names, State, Holds, half, other, idle, flag, gone, where_gone, blanks, deeds, raised, announced, began, writer_knows, reader_knows, ends, Inner, common, Stream, Reaches, streams, open_reaches}
-use Rattle.std.proofs.Common.{drop}
+use Rattle.piper_ring.proofs.Kit.{◌≡◌, ℕ, ◌+◌, ◌-◌, ◌≤◌, Bool, false, List, [], ◌∷◌, ◌++◌, length, sym, refl, ap, subst, ◌∙◌, arith, Order, numbers, latest, prefix_refl, latest_bounds, latest_shows, run, byte, Ura, SProp, ent, sep, ex, guard, upd, upd_i, Fml, ftrue, fsep, Logic, sem, keep, ‵, raw, ◌⊛◌, some, given, ◌$◌, ◌∵◌, !, qed, move, split, split3, fsplit, fsplit3, fjoin, fjoin3, fpick, fpack, pick, learn, check, show, frame, assume, settle, suffices, rewrite, use1, use2, use3, done, nothing, drop as forget, Ptr, Names, State, Holds, half, other, idle, flag, gone, where_gone, blanks, deeds, raised, announced, began, writer_knows, reader_knows, ends, Inner, common, Stream, Reaches, streams, open_reaches, drop_list}
 use Rattle.std.proofs.Math.Seq.{drop-length}
 use Rattle.piper_ring.proofs.Refresh.{pending_is}
-use Rattle.piper_ring.proofs.Closing.{ends_show}
-use Rattle.piper_ring.proofs.Steps.{flag_small, not_gone, Rest, OneStays, WriterSees, writer_opens, reader_agrees, closes, raise}
+use Rattle.piper_ring.proofs.Steps.{ends_show, flag_small, not_gone, Rest, OneStays, WriterSees, writer_opens, reader_agrees, closes, raise}
 
 module _ {M : Type 1} {𝓤 : Ura M} (𝓛 : Logic 𝓤) (w p : Ptr) (z : Names) (head seen : ℕ) (sent : List ℕ) (limit : ℕ) (shut there : Bool) (have : List ℕ) (heard : Stream) (other_saw : Bool) where
   open 𝓛 use {H}
@@ -75,12 +73,12 @@ module _ {M : Type 1} {𝓤 : Ura M} (𝓛 : Logic 𝓤) (w p : Ptr) (z : Names)
       use2 𝓛 (raw (upd 𝓤 (⟦ latest numbers half z.seen (length sent) ⟧ ∗ ⟦ latest numbers other z.seen top ⟧))) (raise 𝓛 w p z numbers z.seen seen s.seen (length sent) top es esent (omega arith)) $
       settle 𝓛 Z (‵ (latest numbers half z.seen (length sent)) ⊛ ‵ (latest numbers other z.seen top)) $ suffices ! _ (upd_i 𝓤 Z) $ split ! $
       move ! (3 ∷ 0 ∷ []) $ fjoin ! $ move ! (2 ∷ 1 ∷ []) $ fjoin ! $ move ! (5 ∷ []) $ fsplit ! $ move ! (1 ∷ []) $ fsplit ! $ move ! (1 ∷ []) $ fsplit ! $
-      rewrite ! 0 (λ (r : ℕ × List ℕ). ‵ (run B r.0 r.1)) {x = (seen, xs)} {y = (s.seen, drop s.seen s.sent)} (λ i. (sym es i, pending_is have xs s.sent seen s.seen lh es whole i)) refl $
+      rewrite ! 0 (λ (r : ℕ × List ℕ). ‵ (run B r.0 r.1)) {x = (seen, xs)} {y = (s.seen, drop_list s.seen s.sent)} (λ i. (sym es i, pending_is have xs s.sent seen s.seen lh es whole i)) refl $
       move ! (1 ∷ []) $ fsplit3 ! $
       rewrite ! 1 (λ (F : Fml). ‵ F) {x = where_gone (gone s.reader_stage) (blanks w p z s.head (top - s.head))} {y = where_gone (gone s.reader_stage) (blanks w p z s.head (s.seen - s.head))} (not_gone 𝓛 w p z s.reader_stage _ _ (omega arith)) refl $
       rewrite ! 2 (λ (F : Fml). ‵ (fsep F (deeds w p z s))) {x = where_gone (gone s.writer_stage) (blanks w p z top (full - top))} {y = where_gone (gone s.writer_stage) (blanks w p z top (s.limit - top))} (not_gone 𝓛 w p z s.writer_stage _ _ (omega arith)) refl $
       fpick ! (λ ys. fsplit ! $ fpick ! (λ ly. forget ! $ rewrite ! 0 (λ (m : ℕ). ‵ (run B m ys)) (sym el) refl $
-      nothing ! $ rewrite ! 0 (λ (l : List ℕ). ‵ (run B top l)) {x = drop top s.sent} {y = []} (sym (drop-length s.sent)) refl $
+      nothing ! $ rewrite ! 0 (λ (l : List ℕ). ‵ (run B top l)) {x = drop_list top s.sent} {y = []} (sym (drop-length s.sent)) refl $
       nothing ! $ nothing ! $ fpack ! (length {A = ℕ} [] ≡ full - full) (λ _. ftrue) (omega arith) $ fjoin ! $ fpack ! (List ℕ) (idle w p z full (full - full)) [] $
       move ! (0 ∷ 3 ∷ 4 ∷ []) $ fjoin3 ! $ move ! (1 ∷ 0 ∷ []) $ fjoin ! $ move ! (3 ∷ 0 ∷ []) $ fjoin ! $ move ! (3 ∷ 0 ∷ []) $ fjoin ! $ move ! (5 ∷ 3 ∷ 0 ∷ []) $ use3 𝓛 (‵ I) (closes 𝓛 w p z s' so' near) $ frame ! $
       show ! Joined (xs, ys) $ check ! (whole ∙ sym so.1, omega arith, subst (λ (a : Stream). Reaches heard a) (λ j. (sym so.1 j, sym so.3 j)) ht, omega arith) $ move ! (1 ∷ 0 ∷ []) $ done !))))))))

@@ -1,11 +1,10 @@
 -- Stretches of places are cut; their front is one piece of memory; and their bytes are given up.
 -- Assumes `Logic`.
-use Rattle.piper_ring.proofs.Kit.{◌≡◌, ℕ, zero, suc, ◌+◌, ◌<◌, ◌≤◌, List, [], ◌∷◌, length, take, sym, ap, ◌∙◌, subst, arith, Ura, ent, id⊢, Lft, Fml, Logic, sem, ‵, ◌$◌, ◌∵◌, !, qed, keep, done, u8, Ptr, block_of, count_of, shared_of, slot_of as offset_of, slot_small, mem, full_share, sep, via, emp, emp∗, move, split, fjoin, use1, ◌⊛◌, w8, ty_int, vint, run, span, run_lent, place, byte, unset}
+use Rattle.piper_ring.proofs.Kit.{◌≡◌, ℕ, zero, suc, ◌+◌, ◌<◌, ◌≤◌, List, [], ◌∷◌, length, take, sym, ap, ◌∙◌, subst, arith, Ura, ent, id⊢, Lft, Fml, Logic, sem, ‵, ◌$◌, ◌∵◌, !, qed, keep, done, u8, Ptr, block_of, count_of, shared_of, slot_of as offset_of, slot_small, mem, full_share, sep, via, emp, emp∗, move, split, fjoin, use1, ◌⊛◌, w8, ty_int, vint, run, span, run_lent, place, byte, unset, drop_list}
 use base.Logic.{mono_r}
 use denote.Slice.{elements_shared}
 use Rattle.rtrb.proofs.Positions.{slot_add}
 use types.SemTy.{cells}
-use Rattle.std.proofs.Common.{drop}
 use denote.Plain.{uint_out}
 use Rattle.rtrb.proofs.Spans.{run_span}
 
@@ -26,11 +25,11 @@ module _ {M : Type 1} {𝓤 : Ura M} (𝓛 : Logic 𝓤) (at : Ptr) (cap : ℕ) 
       (seen n (suc k) (suc s) (place at cap k + 1) xs (omega arith) (λ pos. next_place cap k s here (omega arith)) (omega arith) (ap (λ (m : ℕ). m + 1) same ∙ ap (λ (m : ℕ). m + 1) is ∙ omega arith)))
 
 module _ {M : Type 1} {𝓤 : Ura M} (𝓛 : Logic 𝓤) where
-  pub run_cut : (F : ℕ → ℕ → Fml) (n k j : ℕ) (xs : List ℕ) → n ≤ length xs → j ≡ k + n → ent 𝓤 (sem 𝓛 (run F k xs)) (sep 𝓤 (sem 𝓛 (run F k (take n xs))) (sem 𝓛 (run F j (drop n xs))))
+  pub run_cut : (F : ℕ → ℕ → Fml) (n k j : ℕ) (xs : List ℕ) → n ≤ length xs → j ≡ k + n → ent 𝓤 (sem 𝓛 (run F k xs)) (sep 𝓤 (sem 𝓛 (run F k (take n xs))) (sem 𝓛 (run F j (drop_list n xs))))
   run_cut F zero k j xs le e = let same : k ≡ j = omega arith in subst (λ (m : ℕ). ent 𝓤 (sem 𝓛 (run F k xs)) (sep 𝓤 (emp 𝓤) (sem 𝓛 (run F m xs)))) same (emp∗ 𝓤 (sem 𝓛 (run F k xs)))
   run_cut F (suc n) k j [] le e = absurd (omega arith)
   run_cut F (suc n) k j (x ∷ xs) le e = qed 𝓛 (‵ (F k x) ∷ ‵ (run F (suc k) xs) ∷ []) ∵ move ! (1 ∷ []) $
-      use1 𝓛 (‵ (run F (suc k) (take n xs)) ⊛ ‵ (run F j (drop n xs))) (run_cut F n (suc k) j xs (omega arith) (omega arith)) $ split ! $ move ! (2 ∷ 0 ∷ []) $ fjoin ! $ done !
+      use1 𝓛 (‵ (run F (suc k) (take n xs)) ⊛ ‵ (run F j (drop_list n xs))) (run_cut F n (suc k) j xs (omega arith) (omega arith)) $ split ! $ move ! (2 ∷ 0 ∷ []) $ fjoin ! $ done !
 
   module _ (at : Ptr) (cap : ℕ) where
     -- bytes side by side are the cells of an array

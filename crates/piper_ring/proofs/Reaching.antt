@@ -1,17 +1,16 @@
 -- What follows for two streams where one may become of the other. Assumes nothing.
-use Rattle.piper_ring.proofs.Kit.{◌≡◌, ℕ, ◌+◌, ◌<◌, ◌≤◌, ◌⊎◌, inl, inr, Bool, true, false, List, ◌++◌, length, take, max, leb, refl, sym, ap, subst, ◌∙◌, length-append, arith, take-append_seam, take-append-le, take-append-drop, IsPrefix, flag, Stream, Reaches, open_reaches}
-use Rattle.std.proofs.Common.{drop}
+use Rattle.piper_ring.proofs.Kit.{◌≡◌, ℕ, ◌+◌, ◌<◌, ◌≤◌, ◌⊎◌, inl, inr, Bool, true, false, List, ◌++◌, length, take, max, leb, refl, sym, ap, subst, ◌∙◌, length-append, arith, take-append_seam, take-append-le, take-append-drop, IsPrefix, flag, Stream, Reaches, open_reaches, drop_list}
 use Rattle.std.proofs.lemmas.Bool.{false≢true}
 use Rattle.std.proofs.lemmas.Bool.Decides.{leb_tells}
 
 -- of two beginnings of one list, the longer begins with the shorter
-pub begins : (a b l xs ys : List ℕ) → a ++ xs ≡ l → b ++ ys ≡ l → length a ≤ length b → a ++ drop (length a) b ≡ b
+pub begins : (a b l xs ys : List ℕ) → a ++ xs ≡ l → b ++ ys ≡ l → length a ≤ length b → a ++ drop_list (length a) b ≡ b
 begins a b l xs ys ea eb le = let front : a ≡ take (length a) b = sym (take-append_seam a xs) ∙ ap (take (length a)) (ea ∙ sym eb) ∙ take-append-le (length a) b ys le in
-    ap (λ (c : List ℕ). c ++ drop (length a) b) front ∙ take-append-drop (length a) b
+    ap (λ (c : List ℕ). c ++ drop_list (length a) b) front ∙ take-append-drop (length a) b
 
 shorter : (a b l xs ys : List ℕ) → a ++ xs ≡ l → b ++ ys ≡ l → ((leb (length a) (length b) ≡ true) × (length a ≤ length b)) ⊎ ((leb (length a) (length b) ≡ false) × (length b < length a)) → IsPrefix a b ⊎ IsPrefix b a
-shorter a b l xs ys ea eb (inl e) = inl (drop (length a) b, begins a b l xs ys ea eb e.1)
-shorter a b l xs ys ea eb (inr e) = let lt : length b < length a = e.1 in inr (drop (length b) a, begins b a l ys xs eb ea (omega arith))
+shorter a b l xs ys ea eb (inl e) = inl (drop_list (length a) b, begins a b l xs ys ea eb e.1)
+shorter a b l xs ys ea eb (inr e) = let lt : length b < length a = e.1 in inr (drop_list (length b) a, begins b a l ys xs eb ea (omega arith))
 
 -- of two that became one stream, one is what became of the other
 pub in_line : (xs : List ℕ) (s : Bool) (ys : List ℕ) (t : Bool) (d : Stream) → Reaches (xs, s) d → Reaches (ys, t) d → Reaches (xs, s) (ys, t) ⊎ Reaches (ys, t) (xs, s)

@@ -1,7 +1,6 @@
 -- The places that the writer saw given back come to it, with no step of the program. Assumes
 -- `Logic`.
-use Rattle.piper_ring.proofs.Kit.{◌≡◌, ℕ, ◌+◌, ◌-◌, ◌≤◌, Bool, false, List, [], ◌∷◌, length, take, sym, refl, ap, arith, length-take-le, length-drop, Ura, numbers, latest, SProp, ent, sep, ex, guard, upd, upd_i, Fml, ftrue, fsep, Logic, sem, latest_bounds, ‵, raw, ◌⊛◌, some, given, ◌$◌, ◌∵◌, !, qed, move, split, split3, fsplit, fsplit3, fjoin, fjoin3, fpick, fpack, pick, learn, check, show, frame, assume, settle, suffices, rewrite, use1, use2, use3, done, drop as forget, Ptr, nothing, run, byte, Names, State, Holds, half, other, idle, gone, where_gone, blanks, deeds, took, writer_knows, reader_knows, Inner, common}
-use Rattle.std.proofs.Common.{drop}
+use Rattle.piper_ring.proofs.Kit.{◌≡◌, ℕ, ◌+◌, ◌-◌, ◌≤◌, Bool, false, List, [], ◌∷◌, length, take, sym, refl, ap, arith, length-take-le, length-drop, Ura, numbers, latest, SProp, ent, sep, ex, guard, upd, upd_i, Fml, ftrue, fsep, Logic, sem, latest_bounds, ‵, raw, ◌⊛◌, some, given, ◌$◌, ◌∵◌, !, qed, move, split, split3, fsplit, fsplit3, fjoin, fjoin3, fpick, fpack, pick, learn, check, show, frame, assume, settle, suffices, rewrite, use1, use2, use3, done, drop as forget, Ptr, nothing, run, byte, Names, State, Holds, half, other, idle, gone, where_gone, blanks, deeds, took, writer_knows, reader_knows, Inner, common, drop_list}
 use Rattle.piper_ring.proofs.PlacesParts.{run_cut}
 use Rattle.piper_ring.proofs.Steps.{flag_small, not_gone, Rest, OneStays, WriterSees, writer_opens, closes, raise}
 
@@ -41,14 +40,14 @@ module _ {M : Type 1} {𝓤 : Ura M} (𝓛 : Logic 𝓤) (w p : Ptr) (z : Names)
       let s' : State = record s { limit = full } in let near : OneStays 𝓛 w p z s' = omega arith in let n : ℕ = full - limit in
       let so' : Holds z.capacity s' = record { known = known; arrived = arrived; written = omega arith; freed = omega arith; closing = so.0.closing; shutting = so.0.shutting; stages = so.0.stages } in
       move ! (1 ∷ []) $ fsplit ! $ move ! (1 ∷ []) $ fsplit ! $ move ! (1 ∷ []) $ fsplit ! $ move ! (1 ∷ []) $ fsplit3 ! $ fpick ! (λ ys. fsplit ! $ fpick ! (λ ly. forget ! $
-      let size : length ys ≡ s.head + z.capacity - s.limit = ly in let left : length (drop n ys) ≡ length ys - n = length-drop n ys in
+      let size : length ys ≡ s.head + z.capacity - s.limit = ly in let left : length (drop_list n ys) ≡ length ys - n = length-drop n ys in
       move ! (7 ∷ []) $ fsplit3 ! $ move ! (10 ∷ []) $ fsplit3 ! $ move ! (4 ∷ 1 ∷ []) $
       use2 𝓛 (raw (upd 𝓤 (⟦ latest numbers half z.limit full ⟧ ∗ ⟦ latest numbers other z.limit full ⟧))) (raise 𝓛 w p z numbers z.limit limit s.limit full full el refl more) $
       settle 𝓛 Z (‵ (latest numbers half z.limit full) ⊛ ‵ (latest numbers other z.limit full)) $ suffices ! _ (upd_i 𝓤 Z) $ split ! $
       move ! (2 ∷ 1 ∷ 3 ∷ []) $ fjoin3 ! $ move ! (2 ∷ 1 ∷ 3 ∷ []) $ fjoin3 ! $ move ! (2 ∷ []) $
-      use1 𝓛 (‵ (run B s.limit (take n ys)) ⊛ ‵ (run B full (drop n ys))) (run_cut 𝓛 B n s.limit full ys (omega arith) (omega arith)) $ split ! $
+      use1 𝓛 (‵ (run B s.limit (take n ys)) ⊛ ‵ (run B full (drop_list n ys))) (run_cut 𝓛 B n s.limit full ys (omega arith) (omega arith)) $ split ! $
       rewrite ! 0 (λ (k : ℕ). ‵ (run B k (take n ys))) {x = limit} {y = s.limit} (sym el) refl $ move ! (1 ∷ []) $
-      nothing ! $ fpack ! (length (drop n ys) ≡ s.head + z.capacity - full) (λ _. ftrue) (omega arith) $ fjoin ! $ fpack ! (List ℕ) (idle w p z full (s.head + z.capacity - full)) (drop n ys) $ move ! (5 ∷ []) $
+      nothing ! $ fpack ! (length (drop_list n ys) ≡ s.head + z.capacity - full) (λ _. ftrue) (omega arith) $ fjoin ! $ fpack ! (List ℕ) (idle w p z full (s.head + z.capacity - full)) (drop_list n ys) $ move ! (5 ∷ []) $
       rewrite ! 0 (λ (F : Fml). ‵ (fsep F (deeds w p z s))) {x = where_gone (gone s.writer_stage) (blanks w p z (length s.sent) (full - length s.sent))} {y = where_gone (gone s.writer_stage) (blanks w p z (length s.sent) (s.limit - length s.sent))} (not_gone 𝓛 w p z s.writer_stage _ _ (omega arith)) refl $
       move ! (5 ∷ 0 ∷ []) $ fjoin ! $ move ! (1 ∷ 0 ∷ []) $ fjoin ! $ move ! (4 ∷ 0 ∷ []) $ fjoin ! $ move ! (4 ∷ 0 ∷ []) $ fjoin ! $ move ! (4 ∷ 0 ∷ []) $ fjoin ! $ move ! (3 ∷ 4 ∷ 0 ∷ []) $ use3 𝓛 (‵ I) (closes 𝓛 w p z s' so' near) $ frame ! $
       let got : length (take n ys) ≡ n = length-take-le n ys (omega arith) in show ! Accepted (take n ys) $ check ! (omega arith) $ done !)))))

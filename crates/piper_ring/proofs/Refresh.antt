@@ -1,14 +1,13 @@
 -- The places of the bytes that the reader saw published come to it, with no step of the program.
 -- Assumes `Logic`.
-use Rattle.piper_ring.proofs.Kit.{◌≡◌, ℕ, ◌+◌, ◌-◌, ◌≤◌, Bool, false, List, [], ◌∷◌, ◌++◌, length, take, sym, refl, ap, ◌∙◌, length-append, append_assoc, arith, take-append_seam, Ura, Order, numbers, latest, SProp, ent, sep, ex, guard, upd, upd_i, Share, Fml, Logic, sem, latest_bounds, latest_shows, ‵, raw, ◌⊛◌, some, given, ◌$◌, ◌∵◌, !, qed, move, keep, split, split3, fsplit, fsplit3, fjoin, fjoin3, pick, learn, check, show, frame, assume, settle, suffices, rewrite, use1, use2, use3, done, drop as forget, Ptr, run, byte, Names, State, Holds, half, other, flag, gone, where_gone, blanks, announced, began, writer_knows, reader_knows, Inner, common, Stream, Reaches, streams, open_reaches}
-use Rattle.std.proofs.Common.{drop}
+use Rattle.piper_ring.proofs.Kit.{◌≡◌, ℕ, ◌+◌, ◌-◌, ◌≤◌, Bool, false, List, [], ◌∷◌, ◌++◌, length, take, sym, refl, ap, ◌∙◌, length-append, append_assoc, arith, take-append_seam, Ura, Order, numbers, latest, SProp, ent, sep, ex, guard, upd, upd_i, Share, Fml, Logic, sem, latest_bounds, latest_shows, ‵, raw, ◌⊛◌, some, given, ◌$◌, ◌∵◌, !, qed, move, keep, split, split3, fsplit, fsplit3, fjoin, fjoin3, pick, learn, check, show, frame, assume, settle, suffices, rewrite, use1, use2, use3, done, drop as forget, Ptr, run, byte, Names, State, Holds, half, other, flag, gone, where_gone, blanks, announced, began, writer_knows, reader_knows, Inner, common, Stream, Reaches, streams, open_reaches, drop_list}
 use Rattle.std.proofs.Math.Seq.{drop-append_seam}
 use Rattle.piper_ring.proofs.Reaching.{begins}
 use Rattle.piper_ring.proofs.PlacesParts.{run_cut}
 use Rattle.piper_ring.proofs.Steps.{flag_small, not_gone, Rest, OneStays, ReaderSees, reader_opens, closes, raise}
 
-pub pending_is : (have xs sent : List ℕ) (seen k : ℕ) → length have ≡ seen → seen ≡ k → have ++ xs ≡ sent → drop k sent ≡ xs
-pending_is have xs sent seen k lh e pre = (λ i. drop (sym (lh ∙ e) i) (sym pre i)) ∙ drop-append_seam have xs
+pub pending_is : (have xs sent : List ℕ) (seen k : ℕ) → length have ≡ seen → seen ≡ k → have ++ xs ≡ sent → drop_list k sent ≡ xs
+pending_is have xs sent seen k lh e pre = (λ i. drop_list (sym (lh ∙ e) i) (sym pre i)) ∙ drop-append_seam have xs
 
 module _ {M : Type 1} {𝓤 : Ura M} (𝓛 : Logic 𝓤) (w p : Ptr) (z : Names) (head seen : ℕ) (have published : List ℕ) (left ended : Bool) where
   open 𝓛 use {H}
@@ -53,7 +52,7 @@ module _ {M : Type 1} {𝓤 : Ura M} (𝓛 : Logic 𝓤) (w p : Ptr) (z : Names)
       use2 𝓛 (given (Reaches (published, ended) (s.sent, s.shut)) (‵ (latest O other z.sent (s.sent, s.shut)) ⊛ ‵ P)) (latest_bounds O 𝓛 other z.sent (s.sent, s.shut) (published, ended)) $ learn ! (λ pt. split ! $ move ! (1 ∷ []) $ forget ! $
       use1 𝓛 (‵ (latest O other z.sent (s.sent, s.shut)) ⊛ ‵ (Hv published)) (latest_shows O 𝓛 other z.sent (s.sent, s.shut) (published, false) (open_reaches published (s.sent, s.shut) pt.0)) $ split ! $ move ! (0 ∷ 3 ∷ 4 ∷ []) $ fjoin3 ! $
       let known = so.0.known in let arrived = so.0.arrived in let written = so.0.written in let freed = so.0.freed in let eh = so.1 in let es = so.2 in let ei = so.3 in let top2 = so.0.stages.1 in let small = flag_small left in
-      let xs : List ℕ = drop (length have) published in let whole : have ++ xs ≡ published = begins have published s.sent pre.0.0 pt.0.0 pre.0.1 pt.0.1 (omega arith) in let rest : List ℕ = pt.0.0 in let top : ℕ = length published in
+      let xs : List ℕ = drop_list (length have) published in let whole : have ++ xs ≡ published = begins have published s.sent pre.0.0 pt.0.0 pre.0.1 pt.0.1 (omega arith) in let rest : List ℕ = pt.0.0 in let top : ℕ = length published in
       let l1 : length (have ++ xs) ≡ length have + length xs = length-append have xs in let l2 : length (have ++ xs) ≡ top = ap length whole in let l3 : length (published ++ rest) ≡ top + length rest = length-append published rest in let l4 : length (published ++ rest) ≡ length s.sent = ap length pt.0.1 in
       let l5 : length (xs ++ rest) ≡ length xs + length rest = length-append xs rest in let all : have ++ (xs ++ rest) ≡ s.sent = sym (append_assoc have xs rest) ∙ ap (λ (l : List ℕ). l ++ rest) whole ∙ pt.0.1 in
       let s' : State = record s { seen = top } in let near : OneStays 𝓛 w p z s' = omega arith in
@@ -63,8 +62,8 @@ module _ {M : Type 1} {𝓤 : Ura M} (𝓛 : Logic 𝓤) (w p : Ptr) (z : Names)
       settle 𝓛 Z (‵ (latest numbers half z.seen top) ⊛ ‵ (latest numbers other z.seen top)) $ suffices ! _ (upd_i 𝓤 Z) $ split ! $
       move ! (3 ∷ 0 ∷ []) $ fjoin ! $ move ! (2 ∷ 1 ∷ []) $ fjoin ! $ move ! (5 ∷ []) $ fsplit ! $ move ! (1 ∷ []) $ fsplit ! $ move ! (1 ∷ []) $ fsplit ! $ move ! (1 ∷ []) $ fsplit ! $ move ! (1 ∷ []) $ fsplit ! $
       rewrite ! 0 (λ (F : Fml). ‵ F) {x = where_gone (gone s.reader_stage) (blanks w p z s.head (top - s.head))} {y = where_gone (gone s.reader_stage) (blanks w p z s.head (s.seen - s.head))} (not_gone 𝓛 w p z s.reader_stage _ _ (omega arith)) refl $ fjoin ! $ move ! (1 ∷ 0 ∷ []) $ fjoin ! $ move ! (1 ∷ []) $
-      rewrite ! 0 (λ (r : ℕ × List ℕ). ‵ (run B r.0 r.1)) {x = (seen, xs ++ rest)} {y = (s.seen, drop s.seen s.sent)} (λ i. (sym es i, pending_is have (xs ++ rest) s.sent seen s.seen lh es all i)) refl $
-      use1 𝓛 (‵ (run B seen (take (length xs) (xs ++ rest))) ⊛ ‵ (run B top (drop (length xs) (xs ++ rest)))) (run_cut 𝓛 B (length xs) seen top (xs ++ rest) (omega arith) (omega arith)) $ split ! $
+      rewrite ! 0 (λ (r : ℕ × List ℕ). ‵ (run B r.0 r.1)) {x = (seen, xs ++ rest)} {y = (s.seen, drop_list s.seen s.sent)} (λ i. (sym es i, pending_is have (xs ++ rest) s.sent seen s.seen lh es all i)) refl $
+      use1 𝓛 (‵ (run B seen (take (length xs) (xs ++ rest))) ⊛ ‵ (run B top (drop_list (length xs) (xs ++ rest)))) (run_cut 𝓛 B (length xs) seen top (xs ++ rest) (omega arith) (omega arith)) $ split ! $
       rewrite ! 0 (λ (l : List ℕ). ‵ (run B seen l)) (take-append_seam xs rest) refl $
       rewrite ! 1 (λ (l : List ℕ). ‵ (run B top l)) (drop-append_seam xs rest ∙ sym (pending_is published rest s.sent top top refl refl pt.0.1)) refl $
       move ! (1 ∷ 2 ∷ []) $ fjoin ! $ move ! (2 ∷ 0 ∷ []) $ fjoin ! $ move ! (2 ∷ 0 ∷ []) $ fjoin ! $ move ! (4 ∷ 2 ∷ 0 ∷ []) $ use3 𝓛 (‵ I) (closes 𝓛 w p z s' so' near) $ frame ! $

@@ -1,9 +1,8 @@
 -- What an end knows is cut and joined, lent, and moved up. Assumes `Logic`.
-use Rattle.piper_ring.proofs.Kit.{ℕ, Bool, List, [], ◌∷◌, Ura, Order, numbers, latest, SProp, ent, sep, snd∗, Lft, Share, Fml, GName, ftrue, fsep, finv, before, Logic, sem, ‵, raw, ◌⊛◌, ◌$◌, ◌∵◌, !, qed, move, drop, split, fsplit, fjoin, fpick, fpack, frame, use1, use2, updating, now, done, Ptr, beside_shr_laws, nothing, Lends, Lends-both, Lends-first, lends_twice, streams, Names, half, flag, writer_knows, reader_knows, arrived_first, Inner, Placed, common, reader_owns, reader_lends, writer_owns, writer_lends}
+use Rattle.piper_ring.proofs.Kit.{ℕ, Bool, List, [], ◌∷◌, Ura, Order, numbers, latest, SProp, ent, sep, snd∗, Lft, Share, Fml, GName, ftrue, fsep, finv, before, Logic, sem, ‵, raw, ◌⊛◌, ◌$◌, ◌∵◌, !, qed, move, drop, split, fsplit, fjoin, fpick, fpack, frame, use1, use2, updating, now, done, Ptr, beside_shr_laws, nothing, Lends, Lends-both, Lends-first, lends_twice, streams, Names, half, flag, writer_knows, reader_knows, arrived_first, Inner, Placed, common, reader_owns, reader_lends, writer_owns, writer_lends, Known, by_reader, by_writer, knows}
 use base.Share.{left, right, halves}
 use base.Fml.{fbor, fshr_bor}
 use ghost.Rules.{Halves}
-use Rattle.piper_ring.specs.Shared.{Known, by_reader, by_writer, knows}
 use types.Logic.{lfts}
 use types.Growing.{latest_cut, latest_glue}
 use types.Tokens.{bor_fracture}

@@ -1,13 +1,13 @@
 -- The steps of both sides on a slot. Assumes `Logic`.
-use Rattle.piper_ring.proofs.Kit.{◌*◌, ◌^◌, ◌<◌, lit<, flag, ◌≡◌, ℕ, ◌+◌, ◌≤◌, ◌⊎◌, inl, inr, Bool, true, false, List, [], ◌∷◌, sym, refl, ◌∙◌, subst, arith, Ura, SProp, ent, sep, upd, ex, guard, upd_i, apply∗, Share, Fml, ftrue, fsep, fex, fwand, fobs, Logic, sem, ‵, raw, ◌⊛◌, some, given, ◌$◌, ◌∵◌, !, qed, by, move, keep, split, split3, fsplit, fsplit3, fjoin, fjoin3, fpick, fpack, pick, learn, check, show, frame, assume, settle, suffices, rewrite, use1, use2, done, drop as forget, Ptr, block_ptr, block_of, count_of, nothing, asks, always, Lies, with_waiter, held_at, Waits, Wakes, IsWhere, Slot, code_of, slot, slot_at, Looks, Takes, GivesBack, PublishesWaker, Reclaims, IsRemembered, Names, State, Holds, other, word, reader_knows, writer_knows, slots, Inner, common, Order, numbers, latest, latest_shows, Stream, streams, reaches_same, took, raised}
+use Rattle.piper_ring.proofs.Kit.{◌*◌, ◌^◌, ◌<◌, lit<, flag, ◌≡◌, ℕ, ◌+◌, ◌≤◌, ◌⊎◌, inl, inr, Bool, true, false, List, [], ◌∷◌, sym, refl, ◌∙◌, subst, arith, Ura, SProp, ent, sep, upd, ex, guard, upd_i, apply∗, Share, Fml, ftrue, fsep, fex, fwand, fobs, Logic, sem, ‵, raw, ◌⊛◌, some, given, ◌$◌, ◌∵◌, !, qed, by, move, keep, split, split3, fsplit, fsplit3, fjoin, fjoin3, fpick, fpack, pick, learn, check, show, frame, assume, settle, suffices, rewrite, use1, use2, done, drop as forget, Ptr, block_ptr, block_of, count_of, nothing, asks, always, Lies, with_waiter, held_at, Waits, Wakes, IsWhere, Slot, code_of, slot, slot_at, Looks, Takes, GivesBack, PublishesWaker, Reclaims, IsRemembered, Names, State, Holds, other, word, reader_knows, writer_knows, slots, Inner, common, Order, numbers, latest, latest_shows, Stream, streams, reaches_same, took, raised, Stored, as_stored, stored_code, Known, by_reader, by_writer, knows, evidence, flag_word, waker_place, waits_in, wakes_in}
 use Rattle.std.proofs.lemmas.Bool.{false≢true}
 use base.Stored.{Gv}
 use base.Fml.{fauth}
 use types.Tokens.{name_agree}
 use Rattle.std.specs.Coded.{Coded}
 use Rattle.piper_ring.specs.Places.{fact}
-use Rattle.piper_ring.specs.Slot.{Where, in_slot, with_taker, handed_back, Held, held, flag_of, back_of, Stored, as_stored, stored_code}
-use Rattle.piper_ring.specs.Shared.{slot_of, Known, by_reader, by_writer, knows, evidence, flag_word, waiter, waker, waker_place, waits_in, wakes_in}
+use Rattle.piper_ring.specs.Slot.{Where, in_slot, with_taker, handed_back, Held, held, flag_of, back_of}
+use Rattle.piper_ring.specs.Shared.{slot_of, waiter, waker}
 use Rattle.piper_ring.proofs.Evidence.{announced_twice, took_twice, raised_twice}
 use Rattle.piper_ring.proofs.Steps.{flag_small, inside, Rest, OneStays, ReaderSees, WriterSees, reader_opens, writer_opens, closes}
 

@@ -14,13 +14,6 @@ of_waits s = (s.owns, (s.tickets, s.heard))
 abbrev pub of_wakes : Wakes → WakesOf Stored
 of_wakes s = (s.holds, (s.taken, s.stored))
 
--- it is still what one side knows of that slot
-abbrev pub SameWaiter : WaiterState → WaiterState → Type 0
-SameWaiter s t = (t.names ≡ s.names) × (t.for_reader ≡ s.for_reader)
-
-abbrev pub SameWaker : Wakes → Wakes → Type 0
-SameWaker s t = (t.names ≡ s.names) × (t.for_reader ≡ s.for_reader)
-
 -- nobody has registered yet: the place is with the side that waits
 abbrev pub IsUnused : Names → Bool → WaiterState → Type 0
 IsUnused z r s =

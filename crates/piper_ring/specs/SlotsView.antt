@@ -76,15 +76,6 @@ OnlyWaits a b =
     b ≡ record a
     { owns = b.owns; maybe_registered = b.maybe_registered; tickets = b.tickets; heard = b.heard }
 
--- the side emptied its own slot, and may have checked the other's
-abbrev pub EmptiesOwn : SlotsView → SlotsView → Type 0
-EmptiesOwn a b =
-    b ≡ record a { owns = b.owns; maybe_registered = false; taken = b.taken; stored = b.stored }
-
--- nothing changed of the slots
-abbrev pub KeepsSlots : SlotsView → SlotsView → Type 0
-KeepsSlots a b = b ≡ a
-
 -- the reader waits: it has registered, and its look after that found nothing to do
 pub record IsReaderPending (r : ReadView) (s : SlotsView) : Type 0 where
   pub registered : s.owns ≡ false

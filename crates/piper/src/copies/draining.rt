@@ -3,7 +3,7 @@ ghost use Rattle.std.specs.Prelude.{◌≡◌, ◌<◌, ◌≤◌, ◌⊎◌, []
 ghost use Rattle.piper_ring.specs.ReadView.{in_one_piece};
 ghost use Rattle.piper_protocol.specs.Table.{ends, goes_on};
 ghost use Rattle.piper_ring.specs.Log.{Comes, Ran, made, next, now};
-ghost use Rattle.piper_ring.specs.SlotsView.{KeepsSlots, WaitsAsBefore};
+ghost use Rattle.piper_ring.specs.SlotsView.{WaitsAsBefore};
 ghost use Rattle.piper.specs.Copies.{ReaderCopied};
 ghost use Rattle.piper.specs.CopyAnswers.{CountsFailure, IsAtOnce, of_std, of_bytes};
 ghost use Rattle.piper.specs.Drains.{DrainRounds};
@@ -47,8 +47,7 @@ impl Reader {
             self.old self.new dest.old dest.new }
         ensures end { DrainsEnd result self.old self.new }
         ensures waiting { DrainsWaiting (of_std result) self.old self.new cx.old cx.new }
-        ensures woken { WakesWriter self.old self.new }
-        ensures rest { SameReaderButMoved self.old self.new }
+        ensures rest { WakesWriter self.old self.new × SameReaderButMoved self.old self.new }
     {
         let mut dest = StdWrite::new(dest);
         match self.poll_drain_with(cx, &mut dest) {
@@ -78,8 +77,7 @@ impl Reader {
         ensures drained { DrainsSlice result self.old self.new dest.old dest.new }
         ensures end { DrainsEnd result self.old self.new }
         ensures waiting { DrainsWaiting (of_bytes result) self.old self.new cx.old cx.new }
-        ensures woken { WakesWriter self.old self.new }
-        ensures rest { SameReaderButMoved self.old self.new }
+        ensures rest { WakesWriter self.old self.new × SameReaderButMoved self.old self.new }
     {
         let mut bytes = WriteBytes::new(dest);
         match self.poll_drain_with(cx, &mut bytes) {
@@ -135,8 +133,7 @@ impl Reader {
         ensures failures { CountsFailure result (W.failures dest.old) (W.failures dest.new) }
         ensures end { DrainsEnd result self.old self.new }
         ensures waiting { DrainsWaiting result self.old self.new cx.old cx.new }
-        ensures woken { WakesWriter self.old self.new }
-        ensures rest { SameReaderButMoved self.old self.new }
+        ensures rest { WakesWriter self.old self.new × SameReaderButMoved self.old self.new }
     {
         if !self.side.look_first(Purpose::Copy(WAITING)) {
             match self.look_waiting(Purpose::Copy(WAITING), cx) {
@@ -175,8 +172,8 @@ impl Reader {
         ensures failures { CountsFailure result (W.failures dest.old) (W.failures dest.new) }
         ensures end { DrainsEnd result self.old self.new }
         ensures at_once { DrainsAtOnce result self.old self.new }
-        ensures woken { WakesWriter self.old self.new }
-        ensures rest { SameReader WaitsAsBefore self.old self.new }
+        ensures rest { WakesWriter self.old self.new
+            × SameReader WaitsAsBefore self.old self.new }
     {
         match self.side.look_now(Purpose::Copy(Form::Try)) {
             Look::Ready => self.drain_rounds(Form::Try, dest),
@@ -240,7 +237,7 @@ impl Reader {
         ensures error { IfErr result (λ e. W.fails dest.old e dest.new) }
         ensures failures { Counts result (W.failures dest.old) (W.failures dest.new) }
         ensures end { self.new.side.end ≡ self.old.side.end }
-        ensures rest { SameReader KeepsSlots self.old self.new }
+        ensures rest { SameReader (λ s t. t ≡ s) self.old self.new }
     {
         let piece = self.peek_buf();
         match dest.write(&piece[..piece.len().min(MOST_A_ROUND)]) {

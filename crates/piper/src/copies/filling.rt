@@ -3,7 +3,7 @@ ghost use Rattle.std.specs.Prelude.{◌≡◌, ◌<◌, ◌≤◌, ◌⊎◌, le
 ghost use Rattle.futures.specs.Poll.{OnPending};
 ghost use Rattle.piper_protocol.specs.Table.{ends, goes_on};
 ghost use Rattle.piper_ring.specs.Log.{Comes, Ran, made, next, now};
-ghost use Rattle.piper_ring.specs.SlotsView.{KeepsSlots, WaitsAsBefore};
+ghost use Rattle.piper_ring.specs.SlotsView.{WaitsAsBefore};
 ghost use Rattle.piper.specs.Copies.{WriterCopied};
 ghost use Rattle.piper.specs.CopyAnswers.{OnMemory, CountsFailure, IsAtOnce, of_std, of_bytes};
 ghost use Rattle.piper.specs.Fills.{FillRounds, FoundRoom, OnNoCount, most_of_round};
@@ -48,8 +48,7 @@ impl Writer {
             self.old self.new source.old source.new }
         ensures end { FillsEnd result self.old self.new }
         ensures waiting { FillsWaiting (of_std result) self.old self.new cx.old cx.new }
-        ensures woken { WakesReader self.old self.new }
-        ensures rest { SameWriterButMoved self.old self.new }
+        ensures rest { WakesReader self.old self.new × SameWriterButMoved self.old self.new }
     {
         let mut source = StdRead::new(source);
         match self.poll_fill_with(cx, &mut source) {
@@ -79,8 +78,7 @@ impl Writer {
         ensures filled { FillsSlice result self.old self.new bytes.now }
         ensures end { FillsEnd result self.old self.new }
         ensures waiting { FillsWaiting (of_bytes result) self.old self.new cx.old cx.new }
-        ensures woken { WakesReader self.old self.new }
-        ensures rest { SameWriterButMoved self.old self.new }
+        ensures rest { WakesReader self.old self.new × SameWriterButMoved self.old self.new }
     {
         let mut source = ReadBytes::new(bytes);
         match self.poll_fill_with(cx, &mut source) {
@@ -137,8 +135,7 @@ impl Writer {
         ensures failures { CountsFailure result (R.failures source.old) (R.failures source.new) }
         ensures end { FillsEnd result self.old self.new }
         ensures waiting { FillsWaiting result self.old self.new cx.old cx.new }
-        ensures woken { WakesReader self.old self.new }
-        ensures rest { SameWriterButMoved self.old self.new }
+        ensures rest { WakesReader self.old self.new × SameWriterButMoved self.old self.new }
     {
         let outcome = self.fill_waiting(cx, source);
         self.side.unlend();
@@ -166,8 +163,7 @@ impl Writer {
         ensures failures { CountsFailure result (R.failures source.old) (R.failures source.new) }
         ensures end { FillsEnd result self.old self.new }
         ensures at_once { FillsAtOnce result self.old self.new }
-        ensures woken { WakesReader self.old self.new }
-        ensures rest { SameWriterButMoved self.old self.new }
+        ensures rest { WakesReader self.old self.new × SameWriterButMoved self.old self.new }
     {
         let outcome = self.fill_at_once(source);
         self.side.unlend();
@@ -224,8 +220,8 @@ impl Writer {
         ensures end { FillsEnd result self.old self.new }
         ensures waits { OnPending result (self.new.side.end.room ≡ 0) }
         ensures granted { OnMemory result ⊥ }
-        ensures woken { WakesReader self.old self.new }
-        ensures rest { SameWriter WaitsAsBefore self.old self.new }
+        ensures rest { WakesReader self.old self.new
+            × SameWriter WaitsAsBefore self.old self.new }
     {
         match self.side.look_now(Purpose::Copy(Form::Try)) {
             Look::Ready => self.fill_rounds(Form::Try, source),
@@ -299,7 +295,7 @@ impl Writer {
         ensures failures { Counts result (R.failures source.old) (R.failures source.new) }
         ensures end { self.new.side.end
             ≡ record self.old.side.end { lent = self.new.side.end.lent } }
-        ensures rest { SameWriter KeepsSlots self.old self.new }
+        ensures rest { SameWriter (λ s t. t ≡ s) self.old self.new }
     {
         match source.read(self.write_buf(asks.min(MOST_A_ROUND))) {
             Ok(n) => {

@@ -10,9 +10,11 @@ use piper_ring::{
 };
 
 impl Reader {
-    ghost use Rattle.piper.specs.OfReader.{end_of, ring, capacity, taken, known, told, told_shut};
+    ghost use Rattle.piper.specs.Handles.{SameReader};
+    ghost use Rattle.piper.specs.OfReader.{end_of, log, ring, capacity, taken, known, told, told_shut};
     ghost use Rattle.piper.specs.OfWriter as of_writer;
-    ghost use Rattle.piper.specs.ReaderCalls.{KeepsAll, KnowsAll, MeetClosed, MeetMore, MeetSame, MeetWoken, SameReaderButTold, ReaderWasWoken};
+    ghost use Rattle.piper_ring.specs.ReadView.{KeepsAll};
+    ghost use Rattle.piper.specs.ReaderCalls.{KnowsAll, MeetClosed, MeetMore, MeetSame, MeetWoken, ReaderWasWoken};
 
     /// Its end of the ring.
     pub fn end(&self) -> &ReadEnd
@@ -31,12 +33,17 @@ impl Reader {
     /// Requires: the mark is of the same pipe.
     pub fn observe(&mut self, mark: &WriteMark)
         requires { mark.now.names ≡ (ring self.old).names }
-        ensures told { told self.new ≡ max (told self.old) (length mark.now.bytes) }
-        ensures shut { told_shut self.new ≡ either (told_shut self.old) mark.now.shut }
+        ensures told { (told self.new ≡ max (told self.old) (length mark.now.bytes))
+            × (told_shut self.new ≡ either (told_shut self.old) mark.now.shut) }
         ensures agree { Agree (taken self.new ++ known self.new) mark.now.bytes }
         ensures last { mark.now.shut ≡ true → KnowsAll self.new mark.now.bytes }
-        ensures all { KeepsAll self.old self.new }
-        ensures rest { SameReaderButTold self.old self.new }
+        ensures all { KeepsAll (end_of self.old) (end_of self.new) }
+        ensures rest { SameReader (λ s t. t ≡ s) self.old self.new × (log self.new ≡ log self.old)
+            × (end_of self.new ≡ record (end_of self.old) {
+              told = told self.new;
+              told_shut = told_shut self.new;
+              all = (end_of self.new).all;
+            }) }
     {
         self.side.observe(mark);
     }
@@ -74,12 +81,17 @@ impl Reader {
     pub fn meet_finished(&mut self, left: &mut FinishedWriter)
         requires { left.old.told.names ≡ (ring self.old).names }
         ensures woken { ReaderWasWoken self.old left.old }
-        ensures told { told self.new ≡ max (told self.old) (length left.old.told.bytes) }
-        ensures shut { told_shut self.new ≡ true }
-        ensures agree { Agree (taken self.new ++ known self.new) left.old.told.bytes }
-        ensures last { KnowsAll self.new left.old.told.bytes }
-        ensures rest { SameReaderButTold self.old self.new }
-        ensures kept { left.new ≡ left.old }
+        ensures told { (told self.new ≡ max (told self.old) (length left.old.told.bytes))
+            × (told_shut self.new ≡ true) }
+        ensures last { Agree (taken self.new ++ known self.new) left.old.told.bytes
+            × KnowsAll self.new left.old.told.bytes }
+        ensures rest { SameReader (λ s t. t ≡ s) self.old self.new × (log self.new ≡ log self.old)
+            × (end_of self.new ≡ record (end_of self.old) {
+              told = told self.new;
+              told_shut = told_shut self.new;
+              all = (end_of self.new).all;
+            })
+            × (left.new ≡ left.old) }
     {
         self.side.meet_slot(&mut left.slots);
         self.side.observe(&left.told);
@@ -87,9 +99,9 @@ impl Reader {
 }
 
 impl Writer {
-    ghost use Rattle.piper.specs.Handles.{lends_room};
-    ghost use Rattle.piper.specs.OfWriter.{end_of, ring, told};
-    ghost use Rattle.piper.specs.WriterCalls.{MayLend, MustLend, SameWriterButTold, WriterWasWoken};
+    ghost use Rattle.piper.specs.Handles.{SameWriter, lends_room};
+    ghost use Rattle.piper.specs.OfWriter.{end_of, log, ring, told};
+    ghost use Rattle.piper.specs.WriterCalls.{MayLend, MustLend, WriterWasWoken};
 
     /// Its end of the ring.
     pub fn end(&self) -> &WriteEnd
@@ -106,7 +118,8 @@ impl Writer {
         requires { mark.now.names ≡ (ring self.old).names }
         ensures view { end_of self.new
             ≡ record (end_of self.old) { told = max (told self.old) mark.now.count } }
-        ensures rest { SameWriterButTold self.old self.new }
+        ensures rest { SameWriter (λ s t. t ≡ s) self.old self.new
+            × (log self.new ≡ log self.old) }
     {
         self.side.observe(mark);
     }
@@ -120,7 +133,8 @@ impl Writer {
         requires { mark.now.consumed.names ≡ (ring self.old).names }
         ensures view { end_of self.new ≡ record (end_of self.old)
             { told = max (told self.old) mark.now.consumed.count; saw = true } }
-        ensures rest { SameWriterButTold self.old self.new }
+        ensures rest { SameWriter (λ s t. t ≡ s) self.old self.new
+            × (log self.new ≡ log self.old) }
     {
         self.side.observe_last(mark);
     }
@@ -136,8 +150,8 @@ impl Writer {
         ensures woken { WriterWasWoken self.old left.old }
         ensures view { end_of self.new ≡ record (end_of self.old)
             { told = max (told self.old) left.old.told.consumed.count; saw = true } }
-        ensures rest { SameWriterButTold self.old self.new }
-        ensures kept { left.new ≡ left.old }
+        ensures rest { SameWriter (λ s t. t ≡ s) self.old self.new
+            × (log self.new ≡ log self.old) × (left.new ≡ left.old) }
     {
         self.side.meet_slot(&mut left.slots);
         self.side.observe_last(&left.told);

@@ -18,9 +18,8 @@ use std::alloc::Global;
 /// Errors: `OutOfMemory` if memory is refused. Then nothing stays allocated (not proved).
 pub fn pipe(alloc: Global, cap: usize, seed: u64) -> Result<(Reader, Writer), OutOfMemory>
     requires { (0 < cap) × (2 * cap < 2 ^ 64) }
-    ensures pair { IfOk result (λ (reader, writer). ArePair reader writer) }
-    ensures fresh { IfOk result (λ (reader, writer). AreFresh cap reader writer) }
-    ensures draws { IfOk result (λ (reader, writer). DrawFrom seed reader writer) }
+    ensures fresh { IfOk result (λ (reader, writer). ArePair reader writer
+        × AreFresh cap reader writer × DrawFrom seed reader writer) }
     ensures refused { IfErr result HasFailed }
 {
     let (read, write) = open_with_slots(alloc, cap)?;

@@ -102,8 +102,8 @@ impl ReadEnd {
     /// Whether the pipe is closed now. Once this end saw it closed, or learned from a mark that the
     /// writer closed it, the result is `true`.
     pub fn is_closed(&self) -> bool
-        ensures saw { self.now.saw ≡ true → IsTrue result }
-        ensures told { self.now.told_shut ≡ true → IsTrue result }
+        ensures stays { (self.now.saw ≡ true → IsTrue result)
+            × (self.now.told_shut ≡ true → IsTrue result) }
         ensures found { FoundClosed self.now.ring.names result }
     {
         let mut saw = self.parts.saw.duplicate();
@@ -124,8 +124,7 @@ impl ReadEnd {
 
     /// Evidence of what was consumed, for the other end.
     pub fn mark(&self) -> ReadMark
-        ensures ring { result.names ≡ self.now.ring.names }
-        ensures count { result.count ≡ length self.now.taken }
+        ensures { (result.names ≡ self.now.ring.names) × (result.count ≡ length self.now.taken) }
     {
         self.parts.seat.mark()
     }
@@ -148,8 +147,8 @@ impl ReadEnd {
     pub fn load_tail(&mut self)
         requires { length self.old.known ≡ 0 }
         ensures heard { length self.old.all ≤ length (self.new.taken ++ self.new.known) }
-        ensures fresh { self.old.told ≤ length (self.new.taken ++ self.new.known) }
-        ensures found { HasLoadedTail self.new }
+        ensures fresh { (self.old.told ≤ length (self.new.taken ++ self.new.known))
+            × HasLoadedTail self.new }
         ensures end { KnowsEnd self.old → self.new.taken ++ self.new.known ≡ self.new.all }
         ensures kept { KnowsMore self.old self.new }
     {
@@ -173,10 +172,10 @@ impl ReadEnd {
     /// `load_tail`, if it knows of no byte.
     pub fn refresh(&mut self)
         ensures fresh { self.old.known ≡ [] →
-            self.old.told ≤ length (self.new.taken ++ self.new.known) }
+            (self.old.told ≤ length (self.new.taken ++ self.new.known))
+            × HasLoadedTail self.new }
         ensures end { self.old.known ≡ [] → KnowsEnd self.old →
             self.new.taken ++ self.new.known ≡ self.new.all }
-        ensures found { self.old.known ≡ [] → HasLoadedTail self.new }
         ensures known { 0 < length self.old.known → self.new ≡ self.old }
         ensures kept { KnowsMore self.old self.new }
     {
@@ -208,8 +207,8 @@ impl ReadEnd {
     /// on where the pipe ends.
     pub fn load_closed(&mut self) -> bool
         ensures end { IsTrue result → HasTheRest self.new }
-        ensures stays { self.old.saw ≡ true → result ≡ true }
-        ensures told { self.old.told_shut ≡ true → result ≡ true }
+        ensures stays { (self.old.saw ≡ true → result ≡ true)
+            × (self.old.told_shut ≡ true → result ≡ true) }
         ensures found { FoundClosed self.old.ring.names result }
         ensures all { KeepsAll self.old self.new }
         ensures rest { self.new ≡ record self.old { saw = result; all = self.new.all } }
@@ -223,8 +222,8 @@ impl ReadEnd {
         requires { more.now.names ≡ self.old.ring.names }
         ensures more { more.now.shut ≡ true → result ≡ true }
         ensures end { HasTheRest self.new }
-        ensures stays { self.old.saw ≡ true → result ≡ true }
-        ensures told { self.old.told_shut ≡ true → result ≡ true }
+        ensures stays { (self.old.saw ≡ true → result ≡ true)
+            × (self.old.told_shut ≡ true → result ≡ true) }
         ensures found { FoundClosed self.old.ring.names result }
         ensures all { KeepsAll self.old self.new }
         ensures rest { self.new ≡ record self.old { saw = result; all = self.new.all } }
@@ -259,8 +258,8 @@ impl ReadEnd {
     /// The answer is evidence, for the writer's end, that the pipe is closed, and of all that was
     /// ever consumed.
     pub fn finish(self) -> LastReadMark
-        ensures ring { result.consumed.names ≡ self.ring.names }
-        ensures count { result.consumed.count ≡ length self.taken }
+        ensures { (result.consumed.names ≡ self.ring.names)
+            × (result.consumed.count ≡ length self.taken) }
     {
         let consumed = self.mark();
         let (leaving, closed) = self.close();

@@ -22,7 +22,7 @@ pub struct Away;
 
 /// An end at both slots: it waits in its own, and wakes whoever waits in the other's.
 pub trait SlotEnd {
-    ghost use Rattle.piper_ring.specs.SlotValues.{IsTokenOf, SameWaiter, of_waits};
+    ghost use Rattle.piper_ring.specs.SlotValues.{IsTokenOf, of_waits};
 
     /// Evidence of what the other end had stored.
     type Heard: Drop;
@@ -57,7 +57,8 @@ pub trait SlotEnd {
         requires { (slot.old.names ≡ names_of self.now) × (slot.old.for_reader ≡ READS)
             × (slot.old.owns ≡ true)
             × IsTokenOf (waker_place (names_of self.now) READS) true true right }
-        ensures side { SameWaiter slot.old slot.new }
+        ensures side { slot.new ≡ record slot.old
+            { owns = slot.new.owns; tickets = slot.new.tickets; heard = slot.new.heard } }
         ensures heard { tells result (names_of self.now) slot.new.heard }
         ensures registered { PublishesWaker Stored (of_waits slot.old) slot.new.heard
             0 (of_waits slot.new) };

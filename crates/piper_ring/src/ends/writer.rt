@@ -114,9 +114,8 @@ impl WriteEnd {
 
     /// Evidence of what was published, for the other end.
     pub fn mark(&self) -> WriteMark
-        ensures ring { result.names ≡ self.now.ring.names }
-        ensures bytes { result.bytes ≡ self.now.sent }
-        ensures shut { result.shut ≡ self.now.shut }
+        ensures { (result.names ≡ self.now.ring.names) × (result.bytes ≡ self.now.sent)
+            × (result.shut ≡ self.now.shut) }
     {
         self.parts.seat.mark()
     }
@@ -145,8 +144,8 @@ impl WriteEnd {
     /// none, as the reader's `load_tail`.
     pub fn load_head(&mut self)
         requires { self.old.room ≡ 0 }
-        ensures fresh { self.old.told + self.old.capacity ≤ length self.new.sent + self.new.room }
-        ensures found { HasLoadedHead self.new }
+        ensures fresh { (self.old.told + self.old.capacity
+            ≤ length self.new.sent + self.new.room) × HasLoadedHead self.new }
         ensures kept { HasMoreRoom self.old self.new }
     {
         let told = self.parts.told.duplicate();
@@ -158,8 +157,8 @@ impl WriteEnd {
         requires none { self.old.room ≡ 0 }
         requires ring { more.now.names ≡ self.old.ring.names }
         ensures more { more.now.count + self.old.capacity ≤ length self.new.sent + self.new.room }
-        ensures fresh { self.old.told + self.old.capacity ≤ length self.new.sent + self.new.room }
-        ensures found { HasLoadedHead self.new }
+        ensures fresh { (self.old.told + self.old.capacity
+            ≤ length self.new.sent + self.new.room) × HasLoadedHead self.new }
         ensures kept { HasMoreRoom self.old self.new }
     {
         let parts = &mut self.parts;
@@ -174,8 +173,8 @@ impl WriteEnd {
     /// closed.
     pub fn load_closed(&mut self) -> bool
         ensures end { self.new ≡ record self.old { saw = result } }
-        ensures shut { self.new.shut ≡ true → result ≡ true }
-        ensures stays { self.old.saw ≡ true → result ≡ true }
+        ensures stays { (self.new.shut ≡ true → result ≡ true)
+            × (self.old.saw ≡ true → result ≡ true) }
         ensures found { FoundClosed self.old.ring.names result }
     {
         let parts = &mut self.parts;
@@ -218,9 +217,8 @@ impl WriteEnd {
 
     /// `load_head`, if it knows of no room.
     pub fn refresh(&mut self)
-        ensures fresh { self.old.room ≡ 0 →
-            self.old.told + self.old.capacity ≤ length self.new.sent + self.new.room }
-        ensures found { self.old.room ≡ 0 → HasLoadedHead self.new }
+        ensures fresh { self.old.room ≡ 0 → (self.old.told + self.old.capacity
+            ≤ length self.new.sent + self.new.room) × HasLoadedHead self.new }
         ensures known { 0 < self.old.room → self.new ≡ self.old }
         ensures kept { HasMoreRoom self.old self.new }
     {
@@ -297,9 +295,8 @@ impl WriteEnd {
     /// The answer is evidence, for the reader's end, of all that was ever published, and that the
     /// pipe is closed after it.
     pub fn finish(self) -> WriteMark
-        ensures ring { result.names ≡ self.ring.names }
-        ensures bytes { result.bytes ≡ self.sent }
-        ensures shut { result.shut ≡ true }
+        ensures { (result.names ≡ self.ring.names) × (result.bytes ≡ self.sent)
+            × (result.shut ≡ true) }
     {
         let leaving = self.close();
         let mark = leaving.seat.mark();

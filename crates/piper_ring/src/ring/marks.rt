@@ -89,8 +89,7 @@ impl ReadMark {
     /// Afterwards it says what either of the two says.
     pub fn observe(&mut self, other: &ReadMark)
         requires { other.now.names ≡ self.old.names }
-        ensures ring { self.new.names ≡ self.old.names }
-        ensures count { self.new.count ≡ max self.old.count other.now.count }
+        ensures { self.new ≡ record self.old { count = max self.old.count other.now.count } }
     {}
 }
 

@@ -91,7 +91,7 @@ impl<'a> SlotWords<'a> {
     ghost use Rattle.piper_ring.specs.Loads.{FoundBack, FoundFlag, FoundWaiter};
     ghost use Rattle.piper_ring.specs.Shared.{flag_word, waker_place};
     ghost use Rattle.piper_ring.specs.Slot.{GivesBack, IsRemembered, Looks, Reclaims, Takes};
-    ghost use Rattle.piper_ring.specs.SlotValues.{IsTokenOf, SameWaiter, SameWaker, of_waits, of_wakes};
+    ghost use Rattle.piper_ring.specs.SlotValues.{IsTokenOf, of_waits, of_wakes};
 
     /// 1 if this side's waker is registered in its slot, else 0.
     pub(crate) fn is_registered(self, slot: &mut WaiterState, flag: usize) -> u64
@@ -110,7 +110,8 @@ impl<'a> SlotWords<'a> {
     pub(crate) fn cancel(self, slot: &mut WaiterState, flag: usize) -> (u64, Token)
         requires { (slot.old.names ≡ self.names) × (slot.old.owns ≡ false)
             × (flag ≡ flag_word slot.old.for_reader) }
-        ensures side { SameWaiter slot.old slot.new }
+        ensures side { slot.new ≡ record slot.old
+            { owns = slot.new.owns; tickets = slot.new.tickets; heard = slot.new.heard } }
         ensures back { Reclaims Stored (of_waits slot.old) slot.old.heard
             result.0 (of_waits slot.new) }
         ensures right { IsTokenOf (waker_place slot.old.names slot.old.for_reader)
@@ -128,7 +129,8 @@ impl<'a> SlotWords<'a> {
     pub(crate) fn reclaim(self, slot: &mut WaiterState, back: usize) -> (u64, Token)
         requires { (slot.old.names ≡ self.names) × (slot.old.owns ≡ false)
             × (back ≡ flag_word slot.old.for_reader + 1) }
-        ensures side { SameWaiter slot.old slot.new }
+        ensures side { slot.new ≡ record slot.old
+            { owns = slot.new.owns; tickets = slot.new.tickets; heard = slot.new.heard } }
         ensures back { Reclaims Stored (of_waits slot.old) slot.old.heard
             result.0 (of_waits slot.new) }
         ensures right { IsTokenOf (waker_place slot.old.names slot.old.for_reader)
@@ -146,7 +148,8 @@ impl<'a> SlotWords<'a> {
     pub(crate) fn load_flag(self, slot: &mut Wakes, flag: usize) -> u64
         requires { (slot.old.names ≡ self.names) × (slot.old.for_reader ≡ self.for_reader)
             × (slot.old.holds ≡ false) × (flag ≡ flag_word slot.old.for_reader) }
-        ensures side { SameWaker slot.old slot.new }
+        ensures side { slot.new ≡ record slot.old
+            { holds = slot.new.holds; taken = slot.new.taken; stored = slot.new.stored } }
         ensures looked { Looks Stored (of_wakes slot.old) self.entry.stored
             result (of_wakes slot.new) }
         ensures found { FoundWaiter slot.old.names result }
@@ -161,7 +164,8 @@ impl<'a> SlotWords<'a> {
     pub(crate) fn take_waker(self, slot: &mut Wakes, flag: usize) -> (u64, Token)
         requires { (slot.old.names ≡ self.names) × (slot.old.for_reader ≡ self.for_reader)
             × (slot.old.holds ≡ false) × (flag ≡ flag_word slot.old.for_reader) }
-        ensures side { SameWaker slot.old slot.new }
+        ensures side { slot.new ≡ record slot.old
+            { holds = slot.new.holds; taken = slot.new.taken; stored = slot.new.stored } }
         ensures taken { Takes Stored (of_wakes slot.old) self.entry.stored
             result.0 (of_wakes slot.new) }
         ensures right { IsTokenOf (waker_place slot.old.names slot.old.for_reader)
@@ -179,7 +183,8 @@ impl<'a> SlotWords<'a> {
         requires { (slot.old.names ≡ self.names) × (slot.old.for_reader ≡ self.for_reader)
             × (slot.old.holds ≡ true) × (back ≡ flag_word slot.old.for_reader + 1)
             × IsTokenOf (waker_place slot.old.names slot.old.for_reader) true false right }
-        ensures side { SameWaker slot.old slot.new }
+        ensures side { slot.new ≡ record slot.old
+            { holds = slot.new.holds; taken = slot.new.taken; stored = slot.new.stored } }
         ensures gave { GivesBack Stored (of_wakes slot.old) self.entry.stored
             0 (of_wakes slot.new) }
     {
@@ -203,7 +208,7 @@ impl<'a> SlotWords<'a> {
 
 impl WriteSeat {
     ghost use Rattle.piper_ring.specs.Slot.{PublishesWaker};
-    ghost use Rattle.piper_ring.specs.SlotValues.{IsTokenOf, SameWaiter, of_waits};
+    ghost use Rattle.piper_ring.specs.SlotValues.{IsTokenOf, of_waits};
 
     /// The words of both slots, with evidence of what the writer published.
     #[inline(always)]
@@ -228,7 +233,8 @@ impl WriteSeat {
     ) -> (ReadMark, ClosedMark)
         requires { (slot.old.names ≡ self.now.names) × (slot.old.for_reader ≡ false)
             × (slot.old.owns ≡ true) × IsTokenOf self.now.names.writer_place true true right }
-        ensures side { SameWaiter slot.old slot.new }
+        ensures side { slot.new ≡ record slot.old
+            { owns = slot.new.owns; tickets = slot.new.tickets; heard = slot.new.heard } }
         ensures marks { (result.0.names ≡ self.now.names) × (result.1.names ≡ self.now.names) }
         ensures heard { (slot.new.heard.count ≡ result.0.count)
             × (slot.new.heard.closed ≡ result.1.seen) }
@@ -248,7 +254,7 @@ impl WriteSeat {
 
 impl ReadSeat {
     ghost use Rattle.piper_ring.specs.Slot.{PublishesWaker};
-    ghost use Rattle.piper_ring.specs.SlotValues.{IsTokenOf, SameWaiter, of_waits};
+    ghost use Rattle.piper_ring.specs.SlotValues.{IsTokenOf, of_waits};
 
     /// The words of both slots, with evidence of what the reader consumed, and that the ring is
     /// closed, if `saw` says so.
@@ -271,7 +277,8 @@ impl ReadSeat {
     pub(crate) fn publish_waker(&self, slot: &mut WaiterState, right: Token) -> WriteMark
         requires { (slot.old.names ≡ self.now.names) × (slot.old.for_reader ≡ true)
             × (slot.old.owns ≡ true) × IsTokenOf self.now.names.reader_place true true right }
-        ensures side { SameWaiter slot.old slot.new }
+        ensures side { slot.new ≡ record slot.old
+            { owns = slot.new.owns; tickets = slot.new.tickets; heard = slot.new.heard } }
         ensures mark { result.names ≡ self.now.names }
         ensures heard { (slot.new.heard.bytes ≡ result.bytes)
             × (slot.new.heard.closed ≡ result.shut) }

@@ -3,17 +3,15 @@ use Rattle.std.proofs.Common.{ℕ, List, [], length}
 use Rattle.piper_c.proofs.Kit.{◌∷◌, refl, named, Val, vptr, SProp, emp, fact, fact_i, ftrue, flft, ‵, ◌⊛◌, ◌$◌, ◌∵◌, !, qed, by, keep, split, fjoin, feq_i, use0, stop, fld, hop, from, addr, returns, enter, alloc_all, pass_all, free_all, look_at, look_in_at, sets, sub, whole, tables, SliceRefOf, u8, yes, owns, block_ptr, types_at, plain, slice_val, shr_slice_vals, shr_slice_Tells, nothing, Stays, stay_dropped, walk_of, Goes-dropped, proved, leaves}
 use types.Kit.{raw}
 use Rattle.piper_c.specs.Address.{BeginsAt, as_begins_at}
-use Rattle.piper_c.specs.contracts.lending.address.{ended, clauses}
-use Rattle.piper_c.specs.contracts.lending.address.Key.{name as #self}
-use Rattle.piper_c.proofs.lending.address.Statement.{statement}
-use Rattle.piper_c.proofs.lending.address.Code as code
+use Rattle.piper_c.specs.contracts.lending.address as called
+use Rattle.piper_c.proofs.lending.address as own
 
-pub address_spec : {M : Type 1} → statement M
+pub address_spec : {M : Type 1} → own.Statement.statement M
 address_spec 𝓤 𝓛 𝓜 𝓡 wired =
-    let H = 𝓛.H in let 𝓣 = tables 𝓤 H 𝓜 𝓡 𝓡.env in let En = ended in let fn = code.function in let c = clauses 𝓛 𝓜.mem 𝓡.returns in
+    let H = 𝓛.H in let 𝓣 = tables 𝓤 H 𝓜 𝓡 𝓡.env in let En = called.ended in let fn = own.Code.function in let c = called.clauses 𝓛 𝓜.mem 𝓡.returns in
     let slice = SliceRefOf (0 ∷ []) tt (plain (λ _. u8)) (λ _. tt) in
     let hs : Stays En.signature.params En.kept = (stay_dropped slice yes, tt) in
-    proved 𝓛 En hs c 𝓜 𝓡 (Goes-dropped 𝓛 1 slice yes (λ κs x f. refl), tt) #self fn (code.unfolded 𝓤 H 𝓜 𝓡 wired)
+    proved 𝓛 En hs c 𝓜 𝓡 (Goes-dropped 𝓛 1 slice yes (λ κs x f. refl), tt) called.Key.name fn (own.Code.unfolded 𝓤 H 𝓜 𝓡 wired)
     (λ κs. (shr_slice_vals, tt)) (λ κs. (shr_slice_Tells (named 0) κs.0 u8, tt)) (λ κs qs bounds a gh are.
     let b : ℕ = a.0.ref_ptr.0 in let o : ℕ = a.0.ref_ptr.1 in let n : ℕ = length a.0.now in
     let y : (walk_of 𝓛 En hs c).Ghost = ((κs, qs, bounds, a, (slice_val (b, o) n ∷ [], tt)), gh) in let Post : Val → SProp 𝓤 = (walk_of 𝓛 En hs c).post y in

@@ -1,7 +1,7 @@
 -- C gets what the side's own poll found, and the words that it gave back.
-use Rattle.piper_c.proofs.Told.{reader_told}
+use Rattle.piper_c.proofs.Told.{is_told}
 use Rattle.piper_c.proofs.reader.piper_reader_poll.Goals as goal
 
 pub returns-clause-polled : goal.returns-clause-polled
 returns-clause-polled c some =
-    reader_told _ _ _ _ _ _ c.new.result c.poll-outcome.result c.poll-outcome.ensures.words c.poll-outcome.ensures.found c.poll-outcome.ensures.looked (cc) (cc) c.new.ensures c.code-2.ensures c.hand_out.ensures.words c.hand_out-2.ensures.words
+    is_told _ _ _ _ _ _ _ _ _ c.new.result c.poll-polled.result c.poll-polled.ensures.words c.poll-polled.ensures.found c.poll-polled.ensures.looked (cc) (cc) c.new.ensures c.told.ensures

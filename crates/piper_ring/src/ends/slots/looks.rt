@@ -33,8 +33,8 @@ impl<T> Side<ReadEnd, T> {
         ensures none { IsFalse result →
             (length self.new.end.known ≡ 0) × ReaderIsUpToDate self.new.end }
         ensures looked { ReaderLooked self.old.end self.new.end }
-        ensures all { KeepsAll self.old.end self.new.end }
-        ensures stays { IsEnded self.old.end → IsEnded self.new.end }
+        ensures stays { KeepsAll self.old.end self.new.end
+            × (IsEnded self.old.end → IsEnded self.new.end) }
         ensures rest { (self.new.slots ≡ self.old.slots) × (self.new.cells ≡ self.old.cells) }
     {
         let none = self.end.knows_none();
@@ -57,8 +57,8 @@ impl<T> Side<ReadEnd, T> {
             ≤ length (self.new.end.taken ++ self.new.end.known))
             × (self.old.slots.heard.closed ≡ true → self.new.end.saw ≡ true) }
         ensures looked { ReaderLooked self.old.end self.new.end }
-        ensures all { KeepsAll self.old.end self.new.end }
-        ensures stays { IsEnded self.old.end → IsEnded self.new.end }
+        ensures stays { KeepsAll self.old.end self.new.end
+            × (IsEnded self.old.end → IsEnded self.new.end) }
         ensures rest { (self.new.slots ≡ self.old.slots) × (self.new.cells ≡ self.old.cells) }
     {
         let is_closed = self.load_closed();
@@ -81,8 +81,8 @@ impl<T> Side<ReadEnd, T> {
             self.old.log self.new.log }
         ensures found { ReaderSees result self.new.end }
         ensures looked { ReaderLooked self.old.end self.new.end }
-        ensures all { KeepsAll self.old.end self.new.end }
-        ensures stays { IsEnded self.old.end → IsEnded self.new.end }
+        ensures stays { KeepsAll self.old.end self.new.end
+            × (IsEnded self.old.end → IsEnded self.new.end) }
         ensures rest { (self.new.slots ≡ self.old.slots) × (self.new.cells ≡ self.old.cells) }
     {
         if self.look_first(purpose) {

@@ -193,8 +193,7 @@ impl<T> Side<ReadEnd, T> {
         ensures capacity { (writer.old.end.capacity ≡ self.old.end.capacity)
             × (0 < self.old.end.capacity) }
         ensures kept { (self.new.slots ≡ self.old.slots) × (self.new.cells ≡ self.old.cells)
-            × (self.new.log ≡ self.old.log) }
-        ensures other { (writer.new.slots ≡ writer.old.slots)
+            × (self.new.log ≡ self.old.log) × (writer.new.slots ≡ writer.old.slots)
             × (writer.new.cells ≡ writer.old.cells) × (writer.new.log ≡ writer.old.log) }
     {
         // A ring holds at least one byte.

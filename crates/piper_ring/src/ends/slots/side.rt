@@ -169,10 +169,9 @@ impl<E: SlotEnd, T> Side<E, T> {
         ensures back { IfOk result (CameBack self.old.slots.owns) }
         ensures out { IfOk result (WasTakenBack self.old.slots.names
             self.old.slots.owns self.old.slots.tickets) }
-        ensures away { IfErr result (λ _.
-            (self.old.slots.owns ≡ false) × IsAway self.old.slots.names) }
-        ensures none { IfErr result (λ _.
-            self.new.slots ≡ record self.old.slots { maybe_registered = false }) }
+        ensures away { IfErr result (λ _. (self.old.slots.owns ≡ false)
+            × IsAway self.old.slots.names
+            × (self.new.slots ≡ record self.old.slots { maybe_registered = false })) }
         ensures rest { (self.new.end ≡ self.old.end) × (self.new.cells ≡ self.old.cells)
             × (self.new.log ≡ self.old.log) }
     {

@@ -98,8 +98,8 @@ impl<T> Side<WriteEnd, T> {
         requires turn { next self.old.log ≡ Action.LoadClosed }
         ensures log { self.new.log ≡ looked (self.old.end.room == 0) result self.old.log }
         ensures end { self.new.end ≡ record self.old.end { saw = result } }
-        ensures shut { self.new.end.shut ≡ true → result ≡ true }
-        ensures stays { self.old.end.saw ≡ true → result ≡ true }
+        ensures stays { (self.new.end.shut ≡ true → result ≡ true)
+            × (self.old.end.saw ≡ true → result ≡ true) }
         ensures rest { (self.new.slots ≡ self.old.slots) × (self.new.cells ≡ self.old.cells) }
     {
         let none = self.end.knows_none();
@@ -131,8 +131,8 @@ impl<T> Side<WriteEnd, T> {
         requires turn { next self.old.log ≡ Action.LoadClosed }
         ensures log { self.new.log ≡ made (Found.Flag result) self.old.log }
         ensures end { self.new.end ≡ record self.old.end { saw = result } }
-        ensures shut { self.new.end.shut ≡ true → result ≡ true }
-        ensures stays { self.old.end.saw ≡ true → result ≡ true }
+        ensures stays { (self.new.end.shut ≡ true → result ≡ true)
+            × (self.old.end.saw ≡ true → result ≡ true) }
         ensures found { FoundClosed self.old.end.ring.names result }
         ensures rest { (self.new.slots ≡ self.old.slots) × (self.new.cells ≡ self.old.cells) }
     {

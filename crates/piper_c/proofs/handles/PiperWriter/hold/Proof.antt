@@ -1,6 +1,6 @@
 -- `hold` keeps what the box owned: it takes the box apart. Assumes `Logic`.
 use Rattle.std.proofs.Common.{List, []}
-use Rattle.piper_c.proofs.Kit.{◌≡◌, ◌∷◌, ◌++◌, refl, sym, ap, ◌∙◌, subst, Some, None, bare, Val, vstruct, of_list, full_share, SProp, ent, emp, id⊢, fst∗, never, Lft, ftrue, fsep, flft, WpFn, sem, ‵, ◌⊛◌, some, later, await, pick, ◌$◌, ◌∵◌, !, qed, by, move, keep, drop, split, join, fsplit, fjoin, fpick, feq_l, suffices, use0, use1, stop, fld, of_opd, no_more, and_then, returns, enter, alloc_all, pass_all, free_all, look_at, get, get_in, sets, lands_as, agg, sub, whole, lft_new, ◌⊑◌, fact, fact_i, tables, RawPtr, yes, lone, RattleType, owns, types_at, plain, Ptr, block_ptr, null_ptr, ptr_val, in_a_block, nothing, only, Tuple, calls_at, triple_of, Stays, stay_dropped, walk_of, Goes-dropped, handle_tells, box_owns, box_out, box_in, fm, proved_at, leaves, ghosts, dict, passed, heap_token}
+use Rattle.piper_c.proofs.Kit.{◌≡◌, ◌∷◌, ◌++◌, refl, sym, ap, ◌∙◌, subst, Some, None, bare, Val, vstruct, of_list, full_share, SProp, ent, emp, id⊢, fst∗, never, Lft, ftrue, fsep, flft, WpFn, sem, ‵, ◌⊛◌, some, later, await, pick, ◌$◌, ◌∵◌, !, qed, by, move, keep, drop, split, join, fsplit, fjoin, fpick, feq_l, suffices, use0, use1, stop, fld, of_opd, no_more, and_then, returns, enter, alloc_all, pass_all, free_all, look_at, get, get_in, sets, lands_as, agg, sub, whole, lft_new, ◌⊑◌, fact, fact_i, tables, RawPtr, yes, lone, RattleType, owns, types_at, plain, Ptr, block_ptr, null_ptr, ptr_val, in_a_block, nothing, only, Tuple, calls_at, triple_of, Stays, stay_dropped, walk_of, Goes-dropped, handle_tells, box_owns, box_out, box_in, fm, proved_at, leaves, ghosts, dict, passed, heap_token, pointer_val, PointerData, pointer_made}
 use types.Kit.{raw}
 use Rattle.std_alloc.proofs.BoxSteps.Form as Form
 use Rattle.std_alloc.specs.contracts.boxed.Box as Box
@@ -11,23 +11,21 @@ use Rattle.std_heap.proofs.Global.TheLaws as Owns
 use Rattle.piper_c.specs.contracts.halves.WriteHalf as Half
 use Rattle.piper_c.proofs.halves.WriteHalf.TheLaws.{the_within}
 use Rattle.piper_c.specs.contracts.handles.PiperWriter as Handle
-use Rattle.piper_c.proofs.WriterValues.{handle_val, Data, made, Side, side_laws, Owner, owner_laws, drops_side, drops_owner, boxed, side_glue, owner_glue}
-use Rattle.piper_c.specs.contracts.handles.PiperWriter.hold.{ended, clauses}
-use Rattle.piper_c.specs.contracts.handles.PiperWriter.hold.Key.{name as #self}
-use Rattle.piper_c.proofs.handles.PiperWriter.hold.Statement.{statement}
-use Rattle.piper_c.proofs.handles.PiperWriter.hold.Code as code
+use Rattle.piper_c.proofs.Owner.{Owner, owner_laws, drops_owner, owner_glue}
+use Rattle.piper_c.proofs.WriterValues.{Side, side_laws, drops_side, boxed, side_glue}
+use Rattle.piper_c.proofs.handles.PiperWriter.hold as own
 
-pub hold_spec : {M : Type 1} → statement M
+pub hold_spec : {M : Type 1} → own.Statement.statement M
 hold_spec {M = M} 𝓤 𝓛 𝓜 𝓡 wired =
-    let H = 𝓛.H in let 𝓣 = tables 𝓤 H 𝓜 𝓡 𝓡.env in let En = ended in let fn = code.function in let c = clauses 𝓛 𝓜.mem 𝓡.returns in
+    let H = 𝓛.H in let 𝓣 = tables 𝓤 H 𝓜 𝓡 𝓡.env in let En = Handle.hold.ended in let fn = own.Code.function in let c = Handle.hold.clauses 𝓛 𝓜.mem 𝓡.returns in
     let R : RattleType = Half.the_row in let half = plain (λ _. Box.the_row R Heap.the_row ghosts) in
-    let frees = passed 𝓡.env (code.calls-std_heap::GlobalAllocator::allocate 𝓡.env wired) (code.calls-std_heap::GlobalAllocator::deallocate 𝓡.env wired) (code.calls-std_heap::GlobalAllocator::grow 𝓡.env wired) (code.calls-std_heap::GlobalAllocator::shrink 𝓡.env wired) M 𝓤 𝓛 𝓜 𝓡 in
-    let idle = owner_glue 𝓤 𝓛 𝓜 𝓡 (code.calls-piper_c::Destruct++none::drop 𝓡.env wired) in
-    let known = met 𝓤 𝓛 𝓜 𝓡 (code.calls-std_alloc::boxed::Box::into_raw_with_allocator 𝓡.env wired) Side Owner side_laws owner_laws ghosts dict drops_owner drops_side frees idle
-    (side_glue 𝓤 𝓛 𝓜 𝓡 (code.calls-piper_c::piper_c++halves++WriteHalf+Destruct::drop 𝓡.env wired)) in
+    let frees = passed 𝓡.env (own.Code.calls-std_heap::GlobalAllocator::allocate 𝓡.env wired) (own.Code.calls-std_heap::GlobalAllocator::deallocate 𝓡.env wired) (own.Code.calls-std_heap::GlobalAllocator::grow 𝓡.env wired) (own.Code.calls-std_heap::GlobalAllocator::shrink 𝓡.env wired) M 𝓤 𝓛 𝓜 𝓡 in
+    let idle = owner_glue 𝓤 𝓛 𝓜 𝓡 (own.Code.calls-piper_c::Destruct++none::drop 𝓡.env wired) in
+    let known = met 𝓤 𝓛 𝓜 𝓡 (own.Code.calls-std_alloc::boxed::Box::into_raw_with_allocator 𝓡.env wired) Side Owner side_laws owner_laws ghosts dict drops_owner drops_side frees idle
+    (side_glue 𝓤 𝓛 𝓜 𝓡 (own.Code.calls-piper_c::piper_c++halves++WriteHalf+Destruct::drop 𝓡.env wired)) in
     let Apart = triple_of 𝓛 (callee.signature Side Owner ghosts dict drops_owner drops_side) (callee.spec Side Owner ghosts dict drops_owner drops_side 𝓛 𝓜.mem 𝓡.returns) in
     let hs : Stays En.signature.params En.kept = (stay_dropped half yes, tt) in
-    proved_at 𝓛 En hs c 𝓜 𝓡 (Goes-dropped 𝓛 0 half yes (λ κs x f. refl), tt) #self fn (code.unfolded 𝓤 H 𝓜 𝓡 wired) (λ z are.
+    proved_at 𝓛 En hs c 𝓜 𝓡 (Goes-dropped 𝓛 0 half yes (λ κs x f. refl), tt) Handle.hold.Key.name fn (own.Code.unfolded 𝓤 H 𝓜 𝓡 wired) (λ z are.
     let v = z.0.3.0 in let x = v.value in let Post : Val → SProp 𝓤 = (walk_of 𝓛 En hs c).post z in let Run : List Val → SProp 𝓤 = λ ws. WpFn 𝓤 H 𝓣.C 𝓣.Λ fn ws Post in
     qed 𝓛 ((‵ ftrue ⊛ ‵ (owns (types_at En.signature.params z.0.0) z.0.3 z.0.4)) ∷ raw ((c z.0.0 z.0.3).requires z.1) ∷ []) ∵ split ! $ move ! (1 ∷ []) $ fsplit ! $
     box_out boxed ! v z.0.4.0 (λ b o h e ws fits. let w : Val = Form.word boxed h b o in let typed = Form.box_typed boxed h b o fits in
@@ -52,6 +50,6 @@ hold_spec {M = M} 𝓤 𝓛 𝓜 𝓡 wired =
     sets ! (of_opd ! (get_in ! (fld ! refl (stop !)) (sub ! 0 refl (whole !)))) refl (tt, tt) $ sets ! (of_opd ! (get_in ! (fld ! refl (stop !)) (sub ! 1 refl (whole !)))) refl fits' $
     sets ! (of_opd ! (get ! refl)) refl (tt, tt) $ sets ! (agg ! (and_then ! (get ! refl) (no_more !))) refl (tt, (tt, tt)) $ returns ! (look_at ! 0 refl) $ free_all ! refl $
     -- [the heap's handle; nothing; the box; nothing; the tokens; the `requires`]
-    move ! (2 ∷ []) $ use0 𝓛 (‵ (Data.own_val (p, tt) (handle_val p ∷ []))) (made 𝓛 p) $ fjoin ! $
+    move ! (2 ∷ []) $ use0 𝓛 (‵ (PointerData.own_val (p, tt) (pointer_val p ∷ []))) (pointer_made 𝓛 p) $ fjoin ! $
     let Said : Type 0 = (new.half ≡ Some x) × (new.lent ≡ None) in use0 𝓛 (raw (fact 𝓤 Said)) (fact_i 𝓤 Said (emp 𝓤) (refl, refl)) $ nothing ! $ nothing ! $ fjoin ! $
-    keep ! (6 ∷ 0 ∷ 2 ∷ 1 ∷ []) $ by ! (leaves 𝓛 En hs c z (handle_val p) new (tt, tt) (tt, tt)))))))))))))))
+    keep ! (6 ∷ 0 ∷ 2 ∷ 1 ∷ []) $ by ! (leaves 𝓛 En hs c z (pointer_val p) new (tt, tt) (tt, tt)))))))))))))))

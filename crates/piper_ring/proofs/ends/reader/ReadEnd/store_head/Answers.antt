@@ -1,6 +1,5 @@
 -- The end keeps its view as the front of the known bytes goes over to what was taken.
-use Rattle.piper_ring.proofs.Kit.{◌≡◌, ℕ, ◌+◌, ◌-◌, ◌≤◌, ◌<◌, ◌^◌, ◌++◌, List, length, take, arith, ap, ◌∙◌, sym, subst, length-take-le, length-drop, IsPrefix, position_of, ReaderIndices, Names, ReadView, read_view_of, in_one_piece, ring_of}
-use Rattle.std.proofs.Common.{drop}
+use Rattle.piper_ring.proofs.Kit.{◌≡◌, ℕ, ◌+◌, ◌-◌, ◌≤◌, ◌<◌, ◌^◌, ◌++◌, List, length, take, arith, ap, ◌∙◌, sym, subst, length-take-le, length-drop, IsPrefix, position_of, ReaderIndices, Names, ReadView, read_view_of, in_one_piece, ring_of, drop_list}
 use Rattle.piper_ring.specs.ReadView.{read_view}
 use Rattle.piper_ring.proofs.Indices.{further}
 use Rattle.piper_ring.proofs.ReaderFacts.{known_apart, within_known}
@@ -46,4 +45,4 @@ returns c = let e = c.self.inside.parts in let i = c.self.invariant in let s = c
     let taken : take c.store_head.new.self.head c.store_head.new.self.have ≡ take head e.seat.have ++ take n K = (λ j. take (top j) ((s j).have)) ∙ taken_more e.seat.have K head n i.whole.0 i.whole.1 in
     let cap : c.consume.new.self.capacity ≡ e.indices.capacity = ap (λ (r : ReaderIndices). r.capacity) c.consume.ensures.after in
     (λ j. read_view (ring_of (s j).words (s j).at (s j).names) (cap j) (taken j) ((d.rest j).bytes) (length e.told.bytes) e.told.shut e.saw.shut e.heard.bytes)
-    ∙ ap (λ (r : ReadView). record r { taken = r.taken ++ take n r.known; known = drop n r.known }) c.self.view_is
+    ∙ ap (λ (r : ReadView). record r { taken = r.taken ++ take n r.known; known = drop_list n r.known }) c.self.view_is

@@ -1,6 +1,5 @@
 -- The end keeps its view as the front of what is lent goes over to what was sent.
-use Rattle.piper_ring.proofs.Kit.{◌≡◌, ℕ, ◌+◌, ◌-◌, ◌^◌, ◌<◌, ◌≤◌, List, length, take, arith, ap, ◌∙◌, sym, subst, length-append, length-take-le, length-drop, position_of, WriterIndices, Names, WriteView}
-use Rattle.std.proofs.Common.{drop}
+use Rattle.piper_ring.proofs.Kit.{◌≡◌, ℕ, ◌+◌, ◌-◌, ◌^◌, ◌<◌, ◌≤◌, List, length, take, arith, ap, ◌∙◌, sym, subst, length-append, length-take-le, length-drop, position_of, WriterIndices, Names, WriteView, drop_list}
 use Rattle.std.proofs.Math.Seq.{take-nil, drop-nil}
 use Rattle.piper_ring.proofs.Indices.{further}
 use Rattle.piper_ring.proofs.ends.writer.WriteEnd.store_tail.Goals as goal
@@ -41,5 +40,5 @@ invariant_of-self c = let e = c.self.inside.parts in let i = c.self.invariant in
       lending = omega arith;
       heard = (i.heard.0 ∙ sym (λ j. (t j).names), i.heard.1 ∙ sym (λ j. (t j).names));
       closed = ap (λ (w : WriterIndices). w.is_shut) after ∙ i.closed ∙ sym (λ j. (t j).shut);
-      lends_none = λ shut. (λ j. (d.rest j).bytes) ∙ ap (drop n) (i.lends_none (sym (λ j. (t j).shut) ∙ shut)) ∙ drop-nil n;
+      lends_none = λ shut. (λ j. (d.rest j).bytes) ∙ ap (drop_list n) (i.lends_none (sym (λ j. (t j).shut) ∙ shut)) ∙ drop-nil n;
     }

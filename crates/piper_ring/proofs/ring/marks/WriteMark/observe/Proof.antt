@@ -1,28 +1,22 @@
 -- `observe` joins what two marks say. Assumes `Logic`.
-use Rattle.piper_ring.proofs.Kit.{◌≡◌, ℕ, List, [], ◌∷◌, length, max, refl, named, Val, vptr, SProp, emp, ftrue, flft, fhide, ‵, raw, ◌⊛◌, some, given, ◌$◌, ◌∵◌, !, qed, by, move, keep, drop, split, split3, join, fsplit, fsplit3, fjoin, fjoin3, pick, learn, use0, use1, use2, rewrite, feq_i, of_opd, returns, enter, alloc_all, pass_all, free_all, look_at, sets, env, mut_vals, mut_Tells, opens, closes, stay_ref, Goes-ref, vunit, unit_lit, fact, fact_i, tables, yes, RattleType, owns, types_at, plain, RefOf, shr_vals, shr_Tells, hidden_shr, unhide, nothing, lent_out, Stays, stay_dropped, walk_of, Goes-dropped, proved, leaves, Names, announced, flag, Stream, Reaches}
-use denote.Builtin.{RawPtr}
-use Rattle.core.specs.contracts.marker.PhantomData as marker
-use Rattle.piper_ring.proofs.Fields.{SentData}
+use Rattle.piper_ring.proofs.Kit.{◌≡◌, ℕ, List, [], ◌∷◌, length, max, refl, named, Val, vptr, SProp, emp, ftrue, flft, fhide, ‵, raw, ◌⊛◌, some, given, ◌$◌, ◌∵◌, !, qed, by, move, keep, drop, split, split3, join, fsplit, fsplit3, fjoin, fjoin3, pick, learn, use0, use1, use2, rewrite, feq_i, of_opd, returns, enter, alloc_all, pass_all, free_all, look_at, sets, env, mut_vals, mut_Tells, opens, closes, stay_ref, Goes-ref, vunit, unit_lit, fact, fact_i, tables, yes, RattleType, owns, types_at, plain, RefOf, shr_vals, shr_Tells, hidden_shr, unhide, nothing, lent_out, Stays, stay_dropped, walk_of, Goes-dropped, proved, leaves, Names, announced, flag, Stream, Reaches, GhostData, ghost_coded}
 use Rattle.piper_ring.proofs.Reaching.{Joined}
 use Rattle.piper_ring.proofs.Evidence.{both}
 use Rattle.piper_ring.specs.contracts.ring.marks.WriteMark as Mark
-use Rattle.piper_ring.specs.contracts.ring.marks.WriteMark.observe.{ended, clauses}
-use Rattle.piper_ring.specs.contracts.ring.marks.WriteMark.observe.Key.{name as #self}
-use Rattle.piper_ring.proofs.ring.marks.WriteMark.observe.Statement.{statement}
-use Rattle.piper_ring.proofs.ring.marks.WriteMark.observe.Code as code
+use Rattle.piper_ring.proofs.ring.marks.WriteMark.observe as own
 
-pub observe_spec : {M : Type 1} → statement M
+pub observe_spec : {M : Type 1} → own.Statement.statement M
 observe_spec 𝓤 𝓛 𝓜 𝓡 wired =
-    let H = 𝓛.H in let 𝓣 = tables 𝓤 H 𝓜 𝓡 𝓡.env in let En = ended in let fn = code.function in let c = clauses 𝓛 𝓜.mem 𝓡.returns in
+    let H = 𝓛.H in let 𝓣 = tables 𝓤 H 𝓜 𝓡 𝓡.env in let En = Mark.observe.ended in let fn = own.Code.function in let c = Mark.observe.clauses 𝓛 𝓜.mem 𝓡.returns in
     let Row : RattleType = Mark.the_row in let self = plain (λ _. Row) in let ref = RefOf (1 ∷ []) tt (plain (λ _. Row)) (λ _. tt) in
     let hs : Stays En.signature.params En.kept = (stay_ref (0 ∷ []) tt self, (stay_dropped ref yes, tt)) in
-    proved 𝓛 En hs c 𝓜 𝓡 (Goes-ref 𝓛 2 0 tt self, (Goes-dropped 𝓛 2 ref yes (λ κs x f. refl), tt)) #self fn (code.unfolded 𝓤 H 𝓜 𝓡 wired)
+    proved 𝓛 En hs c 𝓜 𝓡 (Goes-ref 𝓛 2 0 tt self, (Goes-dropped 𝓛 2 ref yes (λ κs x f. refl), tt)) Mark.observe.Key.name fn (own.Code.unfolded 𝓤 H 𝓜 𝓡 wired)
     (λ κs. (mut_vals, (shr_vals, tt))) (λ κs. (mut_Tells (named 0) κs.0 Row, (shr_Tells (named 1) κs.1.0 Row, tt))) (λ κs qs bounds a gh are.
     let b : ℕ = a.0.ref_ptr.0 in let o : ℕ = a.0.ref_ptr.1 in let h = a.0.now in let b' : ℕ = a.1.0.ref_ptr.0 in let o' : ℕ = a.1.0.ref_ptr.1 in let g = a.1.0.now in let z : Names = h.names in let old : Stream = (h.bytes, h.shut) in let got : Stream = (g.bytes, g.shut) in
     let y : (walk_of 𝓛 En hs c).Ghost = ((κs, qs, bounds, a, (vptr b o ∷ [], (vptr b' o' ∷ [], tt))), gh) in let Post : Val → SProp 𝓤 = (walk_of 𝓛 En hs c).post y in
     qed 𝓛 (((‵ (flft κs.0 qs.0) ⊛ ‵ (flft κs.1.0 qs.1.0) ⊛ ‵ ftrue) ⊛ ‵ (owns (types_at En.signature.params κs) a y.0.4)) ∷ given (g.names ≡ z) (‵ ftrue) ∷ []) ∵
     keep ! (1 ∷ 0 ∷ []) $ learn ! (λ asked. drop ! $ split ! $ split3 ! $ move ! (3 ∷ []) $ fsplit3 ! $ fsplit3 ! $ move ! (3 ∷ []) $ fsplit ! $ drop ! $
-    use1 𝓛 (‵ (hidden_shr SentData κs.1.0 (record {}, tt) b' o') ⊛ ‵ (fhide (announced g.names g.bytes g.shut))) (lent_out 𝓛 Mark.struct (Mark.the_codes (marker.the_row RawPtr).coded) Mark.the_heap Mark.the_lent κs.1.0 g b' o') $
+    use1 𝓛 (‵ (hidden_shr GhostData κs.1.0 (record {}, tt) b' o') ⊛ ‵ (fhide (announced g.names g.bytes g.shut))) (lent_out 𝓛 Mark.struct (Mark.the_codes ghost_coded) Mark.the_heap Mark.the_lent κs.1.0 g b' o') $
     split ! $ drop ! $ unhide ! $ rewrite ! 0 (λ (n : Names). ‵ (announced n g.bytes g.shut)) asked refl $ keep ! (2 ∷ 3 ∷ 5 ∷ 0 ∷ 6 ∷ []) $
     enter ! 𝓣.C 𝓣.Λ fn (vptr b o ∷ vptr b' o' ∷ []) Post $ alloc_all ! (λ l. pass_all ! refl ((tt, tt), ((tt, tt), tt)) $ let Ev = env fn.locals l in
     opens ! tt Row b o (λ vs. move ! (1 ∷ []) $ fsplit ! $ move ! (1 ∷ 6 ∷ []) $

@@ -1,5 +1,5 @@
 -- `claim` asks the heap, and keeps what it hands over. Assumes `Logic`.
-use Rattle.piper_ring.proofs.Kit.{flt_i, feq_i, List, fsplit, ◌≡◌, ℕ, ◌<◌, ◌^◌, [], ◌∷◌, refl, lit<, w64, Ty, named, Val, vint, vptr, vstruct, vnil, of_list, WT, SProp, emp, Share, ftrue, flft, ‵, raw, ◌⊛◌, some, given, later, await, pick, at_ret, ◌$◌, ◌∵◌, !, qed, by, move, keep, drop, split, split3, join, fjoin, fpack, learn, use0, use1, use2, stop, fld, lit, of_opd, no_more, and_then, first, exec, returns, enter, alloc_all, pass_all, free_all, look_at, get, get_in, sets, sets_last, env, agg, whole, fact, fact_i, tables, RefOf, usize, yes, Is, RattleType, owns, Ptr, block_ptr, uint_vals, uint_Tells, shr_vals, shr_Tells, types_at, plain, nothing, Struct, Stays, stay_dropped, walk_of, Goes-dropped, after as from_on, block_if_ok, fm, proved, leaves, heap_token}
+use Rattle.piper_ring.proofs.Kit.{flt_i, feq_i, List, fsplit, ◌≡◌, ℕ, ◌<◌, ◌^◌, [], ◌∷◌, refl, lit<, w64, Ty, named, Val, vint, vptr, vstruct, vnil, of_list, WT, SProp, emp, Share, ftrue, flft, ‵, raw, ◌⊛◌, some, given, later, await, pick, at_ret, ◌$◌, ◌∵◌, !, qed, by, move, keep, drop, split, split3, join, fjoin, fpack, learn, use0, use1, use2, stop, fld, lit, of_opd, no_more, and_then, first, exec, returns, enter, alloc_all, pass_all, free_all, look_at, get, get_in, sets, sets_last, env, agg, whole, fact, fact_i, tables, RefOf, usize, yes, Is, RattleType, owns, Ptr, block_ptr, uint_vals, uint_Tells, shr_vals, shr_Tells, types_at, plain, nothing, Struct, Stays, stay_dropped, walk_of, Goes-dropped, after as from_on, block_if_ok, fm, proved, leaves, heap_token, pointer_val, PointerData, pointer_made}
 use Rattle.std.proofs.Common.{IfOk, IfErr, Ok, Err}
 use mir.Syntax.{Body}
 use prog.Wp.{Wp, after_seq, at_return}
@@ -20,20 +20,16 @@ use Rattle.rtrb.proofs.Values.{ok_of, err_of}
 use Rattle.piper_protocol.specs.Reported.{HasFailed, as_failed}
 use Rattle.piper_protocol.specs.contracts.memory.OutOfMemory as Want
 use Rattle.piper_ring.specs.Block.{IsClaim, purpose}
-use Rattle.piper_ring.proofs.Fields.{seat_val, MemoryData, memory_made}
 use Rattle.piper_ring.proofs.Heap.{Asks, asking, may_ask, was_answered, answered}
 use Rattle.piper_ring.specs.contracts.ring.memory.Memory as Memory
-use Rattle.piper_ring.specs.contracts.ring.memory.Memory.claim.{ended, clauses}
-use Rattle.piper_ring.specs.contracts.ring.memory.Memory.claim.Key.{name as #self}
-use Rattle.piper_ring.proofs.ring.memory.Memory.claim.Statement.{statement}
-use Rattle.piper_ring.proofs.ring.memory.Memory.claim.Code as code
+use Rattle.piper_ring.proofs.ring.memory.Memory.claim as own
 
-pub claim_spec : {M : Type 1} → statement M
+pub claim_spec : {M : Type 1} → own.Statement.statement M
 claim_spec 𝓤 𝓛 𝓜 𝓡 wired =
-    let H = 𝓛.H in let 𝓣 = tables 𝓤 H 𝓜 𝓡 𝓡.env in let En = ended in let fn = code.function in let c = clauses 𝓛 𝓜.mem 𝓡.returns in
+    let H = 𝓛.H in let 𝓣 = tables 𝓤 H 𝓜 𝓡 𝓡.env in let En = Memory.claim.ended in let fn = own.Code.function in let c = Memory.claim.clauses 𝓛 𝓜.mem 𝓡.returns in
     let heap = RefOf (0 ∷ []) tt (plain (λ _. Heap.the_row)) (λ _. tt) in let number = plain (λ _. usize) in let Result : RattleType = Either.the_row Memory.the_row Want.the_row in
     let hs : Stays En.signature.params En.kept = (stay_dropped heap yes, (stay_dropped number yes, tt)) in
-    proved 𝓛 En hs c 𝓜 𝓡 (Goes-dropped 𝓛 1 heap yes (λ κs x f. refl), (Goes-dropped 𝓛 1 number yes (λ κs x f. refl), tt)) #self fn (code.unfolded 𝓤 H 𝓜 𝓡 wired)
+    proved 𝓛 En hs c 𝓜 𝓡 (Goes-dropped 𝓛 1 heap yes (λ κs x f. refl), (Goes-dropped 𝓛 1 number yes (λ κs x f. refl), tt)) Memory.claim.Key.name fn (own.Code.unfolded 𝓤 H 𝓜 𝓡 wired)
     (λ κs. (shr_vals, (uint_vals w64, tt))) (λ κs. (shr_Tells (named 0) κs.0 Heap.the_row, (uint_Tells w64, tt))) (λ κs qs bounds a gh are.
     let h = a.0 in let hp : ℕ × ℕ = h.ref_ptr in let n : ℕ = a.1.0 in let w : ℕ = 8 in let κ = κs.0 in let q : Share = qs.0 in let τ : Ty = purpose n in
     let y : (walk_of 𝓛 En hs c).Ghost = ((κs, qs, bounds, a, (vptr hp.0 hp.1 ∷ [], (vint w64 n ∷ [], tt))), gh) in let Post : Val → SProp 𝓤 = (walk_of 𝓛 En hs c).post y in
@@ -44,11 +40,11 @@ claim_spec 𝓤 𝓛 𝓜 𝓡 wired =
     alloc_all ! (λ l. pass_all ! refl ((tt, tt), ((tt, record { fits = are.1.0.1 }), tt)) $ let Ev = env fn.locals l in
     let cases : Body = head (from_on 1 fn.body) in
     let Rest : Next 𝓤 H = any_q (after_seq 𝓤 H (Wp 𝓤 H 𝓣.C 𝓣.Λ Ev (from_on 2 fn.body) (at_return 𝓤 H Ev Post)) (at_return 𝓤 H Ev Post)) in
-    calls_at ! (fm 𝓛 𝓜 𝓡) (Asks 𝓛 𝓜 𝓡) (allocates.met 𝓤 𝓛 𝓜 𝓡 (code.calls-std_heap::GlobalAllocator::allocate 𝓡.env wired)) t (and_then ! (get ! refl) (and_then ! (get ! refl) (and_then ! (lit ! tt) (no_more !)))) (λ v.
+    calls_at ! (fm 𝓛 𝓜 𝓡) (Asks 𝓛 𝓜 𝓡) (allocates.met 𝓤 𝓛 𝓜 𝓡 (own.Code.calls-std_heap::GlobalAllocator::allocate 𝓡.env wired)) t (and_then ! (get ! refl) (and_then ! (get ! refl) (and_then ! (lit ! tt) (no_more !)))) (λ v.
     use1 𝓛 (later (some (λ (r : Answer.Denot). ‵ (Answer.own_val r (v ∷ [])) ⊛ ‵ (block_if_ok heap_token τ r) ⊛ ‵ (flft κ q)))) (was_answered 𝓛 𝓜 𝓡 κ q h n w τ v) $ await ! tt $ pick ! (λ r. split3 ! $ answered ! τ v r
-    (λ b o e. let p : Ptr = block_ptr b o in let new : Memory.the_row.Denot = record { start = p; size = n } in let u : Val = seat_val p in
+    (λ b o e. let p : Ptr = block_ptr b o in let new : Memory.the_row.Denot = record { start = p; size = n } in let u : Val = pointer_val p in
     let out : Val = live 0 (of_list (u ∷ [])) in let fine : WT out = (record { fits = lit< tt }, ((tt, tt), tt)) in
-    nothing ! $ fpack ! (n < 2 ^ 63) (λ _. ftrue) asked.1 $ fjoin ! $ use0 𝓛 (‵ (MemoryData.own_val (p, tt) (u ∷ []))) (memory_made 𝓛 p) $ fjoin ! $
+    nothing ! $ fpack ! (n < 2 ^ 63) (λ _. ftrue) asked.1 $ fjoin ! $ use0 𝓛 (‵ (PointerData.own_val (p, tt) (u ∷ []))) (pointer_made 𝓛 p) $ fjoin ! $
     use1 𝓛 (‵ (Result.own_val (Ok new) (out ∷ []))) (ok_of 𝓛 Memory.the_row Want.the_row new u) $
     lands_as ! e refl (tt, (record { fits = lit< tt }, (tt, tt))) $ first ! $ switches_on ! (get_tag ! (vrt ! refl (fld ! refl (stop !))) (whole !)) $ exec ! 𝓣.C 𝓣.Λ Ev (arm_body 1 cases) Rest $
     sets ! (of_opd ! (get_in ! (vrt ! refl (fld ! refl (stop !))) (in_variant ! 0 0 refl refl (whole !)))) refl (tt, tt) $

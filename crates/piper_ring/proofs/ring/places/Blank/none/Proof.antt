@@ -1,20 +1,16 @@
 -- `none` makes the owner of no places. Assumes `Logic`.
-use Rattle.piper_ring.proofs.Kit.{◌≡◌, ℕ, ◌+◌, List, [], ◌∷◌, refl, w64, named, Val, vint, vptr, SProp, emp, full_share, ftrue, flft, ‵, raw, ◌⊛◌, ◌$◌, ◌∵◌, !, qed, by, move, keep, split, join, fsplit, fsplit3, fjoin, fjoin3, fpick, fpack, use0, rewrite, feq_i, drop as forget, no_more, and_then, returns, enter, alloc_all, pass_all, free_all, look_at, get, sets, env, agg, fact, fact_i, tables, yes, RattleType, owns, types_at, plain, usize, Is, shows, cell_at, uint_vals, uint_Tells, mut_vals, mut_Tells, nothing, peeks, opens, closes, Stays, stay_ref, stay_dropped, walk_of, Goes-ref, Goes-dropped, proved, leaves}
+use Rattle.piper_ring.proofs.Kit.{◌≡◌, ℕ, ◌+◌, List, [], ◌∷◌, refl, w64, named, Val, vint, vptr, SProp, emp, full_share, ftrue, flft, ‵, raw, ◌⊛◌, ◌$◌, ◌∵◌, !, qed, by, move, keep, split, join, fsplit, fsplit3, fjoin, fjoin3, fpick, fpack, use0, rewrite, feq_i, drop as forget, no_more, and_then, returns, enter, alloc_all, pass_all, free_all, look_at, get, sets, env, agg, fact, fact_i, tables, yes, RattleType, owns, types_at, plain, usize, Is, shows, cell_at, uint_vals, uint_Tells, mut_vals, mut_Tells, nothing, peeks, opens, closes, Stays, stay_ref, stay_dropped, walk_of, Goes-ref, Goes-dropped, proved, leaves, ghost_val, GhostData, ghost_made, ghost_told}
 use Rattle.piper_ring.specs.Places.{Placed}
-use Rattle.piper_ring.proofs.Fields.{ghost_val, PlacesData, places_made, BlankData, blank_told, blank_made}
 use Rattle.piper_ring.specs.contracts.ring.places.Places as Places
 use Rattle.piper_ring.specs.contracts.ring.places.Blank as Blank
-use Rattle.piper_ring.specs.contracts.ring.places.Blank.none.{ended, clauses}
-use Rattle.piper_ring.specs.contracts.ring.places.Blank.none.Key.{name as #self}
-use Rattle.piper_ring.proofs.ring.places.Blank.none.Statement.{statement}
-use Rattle.piper_ring.proofs.ring.places.Blank.none.Code as code
+use Rattle.piper_ring.proofs.ring.places.Blank.none as own
 
-pub none_spec : {M : Type 1} → statement M
+pub none_spec : {M : Type 1} → own.Statement.statement M
 none_spec 𝓤 𝓛 𝓜 𝓡 wired =
-    let H = 𝓛.H in let 𝓣 = tables 𝓤 H 𝓜 𝓡 𝓡.env in let En = ended in let fn = code.function in let c = clauses 𝓛 𝓜.mem 𝓡.returns in
+    let H = 𝓛.H in let 𝓣 = tables 𝓤 H 𝓜 𝓡 𝓡.env in let En = Blank.none.ended in let fn = own.Code.function in let c = Blank.none.clauses 𝓛 𝓜.mem 𝓡.returns in
     let Row : RattleType = Blank.the_row in let self = plain (λ _. Row) in let KRow : RattleType = Places.the_row in
     let hs : Stays En.signature.params En.kept = (stay_ref (0 ∷ []) tt self, (stay_dropped (plain (λ _. usize)) yes, tt)) in
-    proved 𝓛 En hs c 𝓜 𝓡 (Goes-ref 𝓛 1 0 tt self, (Goes-dropped 𝓛 1 (plain (λ _. usize)) yes (λ κs x f. refl), tt)) #self fn (code.unfolded 𝓤 H 𝓜 𝓡 wired)
+    proved 𝓛 En hs c 𝓜 𝓡 (Goes-ref 𝓛 1 0 tt self, (Goes-dropped 𝓛 1 (plain (λ _. usize)) yes (λ κs x f. refl), tt)) Blank.none.Key.name fn (own.Code.unfolded 𝓤 H 𝓜 𝓡 wired)
     (λ κs. (mut_vals, (uint_vals w64, tt))) (λ κs. (mut_Tells (named 0) κs.0 Row, (uint_Tells w64, tt))) (λ κs qs bounds a gh are.
     let b : ℕ = a.0.ref_ptr.0 in let o : ℕ = a.0.ref_ptr.1 in let h = a.0.now in let n : ℕ = a.1.0 in let κ = κs.0 in let us : List Val = ghost_val ∷ [] in
     let new : KRow.Denot = record { mark = record {}; at = h.at; capacity = h.capacity; first = h.first + n; bytes = [] } in
@@ -22,11 +18,11 @@ none_spec 𝓤 𝓛 𝓜 𝓡 wired =
     qed 𝓛 (((‵ (flft κ qs.0) ⊛ ‵ ftrue) ⊛ ‵ (owns (types_at En.signature.params κs) a y.0.4)) ∷ ‵ ftrue ∷ []) ∵
     split ! $ split ! $ move ! (2 ∷ []) $ fsplit ! $ fsplit3 ! $ keep ! (1 ∷ 2 ∷ 4 ∷ []) $
     enter ! 𝓣.C 𝓣.Λ fn (vptr b o ∷ vint w64 n ∷ []) Post $ alloc_all ! (λ l. pass_all ! refl ((tt, tt), ((tt, record { fits = are.1.0.1 }), tt)) $ let Ev = env fn.locals l in
-    opens ! tt Row b o (λ vs. move ! (1 ∷ []) $ fsplit ! $ peeks ! BlankData (Is BlankData) (shows 𝓛 BlankData) (record {}, tt) vs (λ is-so. let ev : vs ≡ us = blank_told vs is-so in
+    opens ! tt Row b o (λ vs. move ! (1 ∷ []) $ fsplit ! $ peeks ! GhostData (Is GhostData) (shows 𝓛 GhostData) (record {}, tt) vs (λ is-so. let ev : vs ≡ us = ghost_told vs is-so in
     forget ! $ rewrite ! 1 (λ (ws : List Val). ‵ (cell_at full_share Row.mir ws b o)) ev refl $ fsplit ! $ fpick ! (λ fine. forget ! $
     sets ! (agg ! (no_more !)) refl (tt, tt) $ sets ! (agg ! (and_then ! (get ! refl) (no_more !))) refl (tt, (tt, tt)) $
-    nothing ! $ fpack ! (Placed h.at h.capacity) (λ _. ftrue) fine $ fjoin ! $ use0 𝓛 (‵ (BlankData.own_val (record {}, tt) us)) (blank_made 𝓛) $ fjoin ! $
-    nothing ! $ nothing ! $ fpack ! (Placed h.at h.capacity) (λ _. ftrue) fine $ fjoin ! $ use0 𝓛 (‵ (PlacesData.own_val (record {}, tt) us)) (places_made 𝓛) $ fjoin ! $ move ! (2 ∷ 1 ∷ 3 ∷ 4 ∷ 5 ∷ []) $ closes ! tt Row h us b o $ feq_i ! (List Val) (vptr b o ∷ []) (vptr b o ∷ []) refl $ fjoin3 ! $
+    nothing ! $ fpack ! (Placed h.at h.capacity) (λ _. ftrue) fine $ fjoin ! $ use0 𝓛 (‵ (GhostData.own_val (record {}, tt) us)) (ghost_made 𝓛) $ fjoin ! $
+    nothing ! $ nothing ! $ fpack ! (Placed h.at h.capacity) (λ _. ftrue) fine $ fjoin ! $ use0 𝓛 (‵ (GhostData.own_val (record {}, tt) us)) (ghost_made 𝓛) $ fjoin ! $ move ! (2 ∷ 1 ∷ 3 ∷ 4 ∷ 5 ∷ []) $ closes ! tt Row h us b o $ feq_i ! (List Val) (vptr b o ∷ []) (vptr b o ∷ []) refl $ fjoin3 ! $
     nothing ! $ nothing ! $ fjoin ! $ move ! (1 ∷ 0 ∷ []) $ fjoin ! $ nothing ! $ move ! (2 ∷ 0 ∷ []) $ join ! $
     use0 𝓛 (raw (fact 𝓤 (h ≡ h))) (fact_i 𝓤 (h ≡ h) (emp 𝓤) refl) $ use0 𝓛 (raw (fact 𝓤 (new ≡ new))) (fact_i 𝓤 (new ≡ new) (emp 𝓤) refl) $ join ! $
     returns ! (look_at ! 0 refl) $ free_all ! refl $ keep ! (1 ∷ 2 ∷ 3 ∷ 0 ∷ []) $ by ! (leaves 𝓛 En hs c y ghost_val new (h, (tt, tt)) (tt, (tt, tt))))))))

@@ -1,6 +1,5 @@
 -- It may move to another thread.
-use denote.Param.Send.{IsSend, sendable}
-use denote.Builtin.{u8}
+use Rattle.piper_ring.proofs.Kit.{IsSend, sendable, u8}
 use Rattle.piper_ring.specs.contracts.ring.places.Places.{the_row}
 use Rattle.piper_ring.proofs.PlacesLaws.{places-Keyless}
 

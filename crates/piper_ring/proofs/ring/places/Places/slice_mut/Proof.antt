@@ -1,9 +1,7 @@
 -- `slice_mut` lends the bytes, and their owner follows what is written. Assumes `Logic`.
-use Rattle.piper_ring.proofs.Kit.{◌≡◌, ℕ, ◌+◌, ◌*◌, ◌^◌, ◌<◌, ◌≤◌, List, [], ◌∷◌, length, sym, refl, ◌∙◌, arith, w64, named, Val, vint, vptr, Ura, SProp, ent, sep, id⊢, Fml, GName, ftrue, fsep, flft, fat, full_share, Logic, sem, ‵, raw, ◌⊛◌, some, given, later, await, pick, split3, at_ret, ◌$◌, ◌∵◌, !, qed, move, keep, split, join, fsplit, fsplit3, fjoin, fpick, fpack, learn, use1, rewrite, frame, suffices, done, drop as forget, stop, fld, of_opd, and_then, no_more, bin, first, blocks, exec, returns, enter, alloc_all, pass_all, free_all, look_at, get, get_in, sets, sets_last, is, take_at, give_at, env, agg, sub, whole, tables, yes, RattleType, owns, types_at, plain, Ptr, block_ptr, block_of, count_of, at_block, u8, usize, uint_vals, uint_Tells, mut_vals, mut_Tells, mem, cell_at, nothing, opens, Struct, shape, layout, Stays, stay_dropped, walk_of, Goes-dropped, tail, word-Good, proved, slot_of as offset_of, run, byte}
-use Rattle.std.proofs.Common.{drop}
+use Rattle.piper_ring.proofs.Kit.{◌≡◌, ℕ, ◌+◌, ◌*◌, ◌^◌, ◌<◌, ◌≤◌, List, [], ◌∷◌, length, sym, refl, ◌∙◌, arith, w64, named, Val, vint, vptr, Ura, SProp, ent, sep, id⊢, Fml, GName, ftrue, fsep, flft, fat, full_share, Logic, sem, ‵, raw, ◌⊛◌, some, given, later, await, pick, split3, at_ret, ◌$◌, ◌∵◌, !, qed, move, keep, split, join, fsplit, fsplit3, fjoin, fpick, fpack, learn, use1, rewrite, frame, suffices, done, drop as forget, stop, fld, of_opd, and_then, no_more, bin, first, blocks, exec, returns, enter, alloc_all, pass_all, free_all, look_at, get, get_in, sets, sets_last, is, take_at, give_at, env, agg, sub, whole, tables, yes, RattleType, owns, types_at, plain, Ptr, block_ptr, block_of, count_of, at_block, u8, usize, uint_vals, uint_Tells, mut_vals, mut_Tells, mem, cell_at, nothing, opens, layout, Stays, stay_dropped, walk_of, Goes-dropped, tail, word-Good, proved, slot_of as offset_of, run, byte, GhostData, drop_list, no}
 use types.SemTy.{cells}
 use types.Kit.{group}
-use denote.Exit.{no}
 use denote.Signature.{mut_ref_to}
 use denote.Ref.{MutBor}
 use denote.Array.{Array}
@@ -19,16 +17,10 @@ use Rattle.piper_ring.specs.contracts.ring.places.Places as Places
 use Rattle.piper_ring.specs.contracts.ring.places.Base as Base
 use Rattle.piper_ring.proofs.ring.places.Base.TheLaws.{lowers}
 use Rattle.piper_ring.proofs.PlacesParts.{to_cells, of_cells}
-use Rattle.piper_ring.specs.contracts.ring.places.Places.slice_mut.{ended, clauses}
-use Rattle.piper_ring.specs.contracts.ring.places.Places.slice_mut.Key.{name as #self}
-use Rattle.piper_ring.proofs.ring.places.Places.slice_mut.Statement.{statement}
-use Rattle.piper_ring.proofs.ring.places.Places.slice_mut.Code as code
+use Rattle.piper_ring.proofs.ring.places.Places.slice_mut as own
 
 abbrev Row : RattleType
 Row = Places.the_row
-
-abbrev Data : RattleType
-Data = Struct (shape Places.the_type)
 
 module _ {M : Type 1} {𝓤 : Ura M} (𝓛 : Logic 𝓤) (d : Row.Denot) (vs : List Val) (rb ro from : ℕ) where
   abbrev at : Ptr
@@ -36,23 +28,23 @@ module _ {M : Type 1} {𝓤 : Ura M} (𝓛 : Logic 𝓤) (d : Row.Denot) (vs : L
 
   -- all but the bytes
   abbrev Rest : Fml
-  Rest = fsep (Data.own_val (record {}, tt) vs) (cell_at full_share Row.mir vs rb ro)
+  Rest = fsep (GhostData.own_val (record {}, tt) vs) (cell_at full_share Row.mir vs rb ro)
 
   back : Placed at d.capacity → from ≡ offset_of d.capacity d.first → from + length d.bytes ≤ d.capacity → (ws : List ℕ) → length ws ≡ length d.bytes
       → ent 𝓤 (sep 𝓤 (sem 𝓛 (cells (mem u8) ws (block_of at) (from + count_of at))) (sem 𝓛 Rest)) (sem 𝓛 ((mem Row).own_at (with_bytes d d.bytes ws) rb ro))
   unfolding denote.Memory.part_of
-  back fine is near ws same = let all : written d.bytes ws ≡ ws = take_front ws (drop (length ws) d.bytes) (length d.bytes) same in
+  back fine is near ws same = let all : written d.bytes ws ≡ ws = take_front ws (drop_list (length ws) d.bytes) (length d.bytes) same in
       qed 𝓛 (‵ (cells (mem u8) ws (block_of at) (from + count_of at)) ∷ ‵ Rest ∷ []) ∵
       use1 𝓛 (‵ (run (byte at d.capacity) d.first ws)) (of_cells 𝓛 at d.capacity ws d.first from (from + count_of at) (λ _. is) (omega arith) refl) $ move ! (1 ∷ []) $ fsplit ! $ move ! (2 ∷ []) $
       rewrite ! 0 (λ (l : List ℕ). ‵ (run (byte at d.capacity) d.first l)) (sym all) refl $
       nothing ! $ fpack ! (Placed at d.capacity) (λ _. ftrue) fine $ fjoin ! $ move ! (1 ∷ 0 ∷ []) $ fjoin ! $ move ! (1 ∷ 0 ∷ []) $ fjoin ! $
       fpack ! (List Val) (λ us. fsep (cell_at full_share Row.mir us rb ro) (Row.own_val (with_bytes d d.bytes ws) us)) vs $ done !
 
-pub slice_mut_spec : {M : Type 1} → statement M
+pub slice_mut_spec : {M : Type 1} → own.Statement.statement M
 slice_mut_spec 𝓤 𝓛 𝓜 𝓡 wired =
-    let H = 𝓛.H in let 𝓣 = tables 𝓤 H 𝓜 𝓡 𝓡.env in let En = ended in let fn = code.function in let c = clauses 𝓛 𝓜.mem 𝓡.returns in
+    let H = 𝓛.H in let 𝓣 = tables 𝓤 H 𝓜 𝓡 𝓡.env in let En = Places.slice_mut.ended in let fn = own.Code.function in let c = Places.slice_mut.clauses 𝓛 𝓜.mem 𝓡.returns in
     let hs : Stays En.signature.params En.kept = (stay_dropped (mut_ref_to (0 ∷ []) tt (plain (λ _. Row))) no, (stay_dropped (plain (λ _. Base.the_row)) yes, (stay_dropped (plain (λ _. usize)) yes, (stay_dropped (plain (λ _. usize)) yes, tt)))) in
-    proved 𝓛 En hs c 𝓜 𝓡 (Goes-spent_ref 𝓛 1 (0 ∷ []) tt (plain (λ _. Row)), (Goes-dropped 𝓛 1 (plain (λ _. Base.the_row)) yes (λ κs x f. refl), (Goes-dropped 𝓛 1 (plain (λ _. usize)) yes (λ κs x f. refl), (Goes-dropped 𝓛 1 (plain (λ _. usize)) yes (λ κs x f. refl), tt)))) #self fn (code.unfolded 𝓤 H 𝓜 𝓡 wired)
+    proved 𝓛 En hs c 𝓜 𝓡 (Goes-spent_ref 𝓛 1 (0 ∷ []) tt (plain (λ _. Row)), (Goes-dropped 𝓛 1 (plain (λ _. Base.the_row)) yes (λ κs x f. refl), (Goes-dropped 𝓛 1 (plain (λ _. usize)) yes (λ κs x f. refl), (Goes-dropped 𝓛 1 (plain (λ _. usize)) yes (λ κs x f. refl), tt)))) Places.slice_mut.Key.name fn (own.Code.unfolded 𝓤 H 𝓜 𝓡 wired)
     (λ κs. (mut_vals, ((λ d. lowers.lowered d ∷ []), (uint_vals w64, (uint_vals w64, tt))))) (λ κs. (mut_Tells (named 0) κs.0 Row, (lowers.val_is, (uint_Tells w64, (uint_Tells w64, tt))))) (λ κs qs bounds a gh are.
     let rb : ℕ = a.0.ref_ptr.0 in let ro : ℕ = a.0.ref_ptr.1 in let γ : GName = a.0.ghost_name in let d = a.0.now in let at : Ptr = d.at in let κ = κs.0 in let q = qs.0 in let base = a.1.0 in let from : ℕ = a.1.1.0 in let len : ℕ = a.1.1.1.0 in
     let bv : Val = lowers.lowered base in let new : List ℕ → Row.Denot = with_bytes d d.bytes in let u = Row.coded.code d in

@@ -1,33 +1,26 @@
 -- `mark` copies evidence out of a share of what the writer knows. Assumes `Logic`.
-use Rattle.piper_ring.proofs.Kit.{arith, ◌≡◌, ℕ, [], ◌∷◌, refl, named, Val, vptr, SProp, emp, Share, ftrue, flft, fhide, ‵, raw, ◌⊛◌, ◌$◌, ◌∵◌, !, qed, by, move, keep, drop, split, join, fsplit, fjoin, use0, use1, no_more, and_then, returns, enter, alloc_all, pass_all, free_all, look_at, get, sets, env, agg, shr_bor-open, obor_close, fact, fact_i, tables, yes, RattleType, owns, types_at, plain, Ptr, RefOf, shr_vals, shr_Tells, hidden_shr, unhide, nothing, Struct, shape, lent_out, Stays, stay_dropped, walk_of, Goes-dropped, proved, leaves, flag, Names, took, reader_lends, latest, numbers, latest_shows}
-use Rattle.piper_ring.proofs.Fields.{ghost_val, TookData, took_made}
+use Rattle.piper_ring.proofs.Kit.{arith, ◌≡◌, ℕ, [], ◌∷◌, refl, named, Val, vptr, SProp, emp, Share, ftrue, flft, fhide, ‵, raw, ◌⊛◌, ◌$◌, ◌∵◌, !, qed, by, move, keep, drop, split, join, fsplit, fjoin, use0, use1, no_more, and_then, returns, enter, alloc_all, pass_all, free_all, look_at, get, sets, env, agg, shr_bor-open, obor_close, fact, fact_i, tables, yes, owns, types_at, plain, Ptr, RefOf, shr_vals, shr_Tells, hidden_shr, unhide, nothing, lent_out, Stays, stay_dropped, walk_of, Goes-dropped, proved, leaves, flag, Names, took, reader_lends, latest, numbers, latest_shows, PointerData, ghost_val, GhostData, ghost_made}
 use Rattle.piper_ring.proofs.Rights.{reader_halves}
 use Rattle.piper_ring.specs.contracts.ring.seats.ReadSeat as Seat
-use Rattle.piper_ring.specs.contracts.ring.seats.ReadSeat.mark.{ended, clauses}
-use Rattle.piper_ring.specs.contracts.ring.seats.ReadSeat.mark.Key.{name as #self}
-use Rattle.piper_ring.proofs.ring.seats.ReadSeat.mark.Statement.{statement}
-use Rattle.piper_ring.proofs.ring.seats.ReadSeat.mark.Code as code
+use Rattle.piper_ring.proofs.ring.seats.ReadSeat.mark as own
 
-abbrev Data : RattleType
-Data = Struct (shape Seat.the_type)
-
-pub mark_spec : {M : Type 1} → statement M
+pub mark_spec : {M : Type 1} → own.Statement.statement M
 mark_spec 𝓤 𝓛 𝓜 𝓡 wired =
-    let H = 𝓛.H in let 𝓣 = tables 𝓤 H 𝓜 𝓡 𝓡.env in let En = ended in let fn = code.function in let c = clauses 𝓛 𝓜.mem 𝓡.returns in
+    let H = 𝓛.H in let 𝓣 = tables 𝓤 H 𝓜 𝓡 𝓡.env in let En = Seat.mark.ended in let fn = own.Code.function in let c = Seat.mark.clauses 𝓛 𝓜.mem 𝓡.returns in
     let self = RefOf (0 ∷ []) tt (plain (λ _. Seat.the_row)) (λ _. tt) in
     let hs : Stays En.signature.params En.kept = (stay_dropped self yes, tt) in
-    proved 𝓛 En hs c 𝓜 𝓡 (Goes-dropped 𝓛 1 self yes (λ κs x f. refl), tt) #self fn (code.unfolded 𝓤 H 𝓜 𝓡 wired)
+    proved 𝓛 En hs c 𝓜 𝓡 (Goes-dropped 𝓛 1 self yes (λ κs x f. refl), tt) Seat.mark.Key.name fn (own.Code.unfolded 𝓤 H 𝓜 𝓡 wired)
     (λ κs. (shr_vals, tt)) (λ κs. (shr_Tells (named 0) κs.0 Seat.the_row, tt)) (λ κs qs bounds a gh are.
     let b : ℕ = a.0.ref_ptr.0 in let o : ℕ = a.0.ref_ptr.1 in let h = a.0.now in let w : Ptr = h.words in let p : Ptr = h.at in let z : Names = h.names in let κ = κs.0 in let q : Share = qs.0 in
     let y : (walk_of 𝓛 En hs c).Ghost = ((κs, qs, bounds, a, (vptr b o ∷ [], tt)), gh) in let Post : Val → SProp 𝓤 = (walk_of 𝓛 En hs c).post y in
     qed 𝓛 (((‵ (flft κ q) ⊛ ‵ ftrue) ⊛ ‵ (owns (types_at En.signature.params κs) a y.0.4)) ∷ ‵ ftrue ∷ []) ∵
     split ! $ split ! $ move ! (2 ∷ []) $ fsplit ! $ fsplit ! $ drop ! $
-    use1 𝓛 (‵ (hidden_shr Data κ (w, tt) b o) ⊛ ‵ (fhide (reader_lends w p z h.head h.seen h.leaving κ))) (lent_out 𝓛 Seat.struct Seat.the_codes Seat.the_heap Seat.the_lent κ h b o) $
+    use1 𝓛 (‵ (hidden_shr PointerData κ (w, tt) b o) ⊛ ‵ (fhide (reader_lends w p z h.head h.seen h.leaving κ))) (lent_out 𝓛 Seat.struct Seat.the_codes Seat.the_heap Seat.the_lent κ h b o) $
     split ! $ drop ! $ unhide ! $ fsplit ! $ drop ! $ keep ! (0 ∷ 2 ∷ []) $
     enter ! 𝓣.C 𝓣.Λ fn (vptr b o ∷ []) Post $ alloc_all ! (λ l. pass_all ! refl ((tt, tt), tt) $ let Ev = env fn.locals l in
     shr_bor-open ! tt (reader_halves 𝓛 w p z h.head h.seen (flag h.leaving)) (λ s. move ! (1 ∷ []) $ fsplit ! $ fsplit ! $ use1 𝓛 (‵ (latest numbers s z.head h.head) ⊛ ‵ (took z h.head)) (latest_shows numbers 𝓛 s z.head h.head h.head (omega arith)) $ split ! $
     move ! (0 ∷ 2 ∷ []) $ fjoin ! $ move ! (0 ∷ 2 ∷ []) $ fjoin ! $ move ! (2 ∷ 0 ∷ []) $ obor_close ! tt $ drop ! $ nothing ! $ move ! (1 ∷ 0 ∷ []) $ join ! $ move ! (1 ∷ []) $
     sets ! (agg ! (no_more !)) refl (tt, tt) $ sets ! (agg ! (and_then ! (get ! refl) (no_more !))) refl (tt, (tt, tt)) $
-    use0 𝓛 (‵ (TookData.own_val (record {}, tt) (ghost_val ∷ []))) (took_made 𝓛) $ fjoin ! $
+    use0 𝓛 (‵ (GhostData.own_val (record {}, tt) (ghost_val ∷ []))) (ghost_made 𝓛) $ fjoin ! $
     let Told : Type 0 = (z ≡ z) × (h.head ≡ h.head) in use0 𝓛 (raw (fact 𝓤 Told)) (fact_i 𝓤 Told (emp 𝓤) (refl, refl)) $ nothing ! $ nothing ! $ fjoin ! $
     returns ! (look_at ! 0 refl) $ free_all ! refl $ keep ! (3 ∷ 0 ∷ 2 ∷ 1 ∷ []) $ by ! (leaves 𝓛 En hs c y ghost_val (record { mark = record {}; names = z; count = h.head }) (tt, tt) (tt, tt)))))

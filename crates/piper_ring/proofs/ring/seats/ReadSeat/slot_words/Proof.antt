@@ -1,37 +1,29 @@
 -- `slot_words` copies evidence out of a share of what the reader knows, and hands the share on. Assumes
 -- `Logic`.
-use Rattle.piper_ring.proofs.Kit.{◌≡◌, ℕ, ◌+◌, [], ◌∷◌, refl, named, Val, vptr, SProp, emp, Share, Fml, ftrue, flft, fhide, ‵, raw, ◌⊛◌, ◌$◌, ◌∵◌, !, qed, by, move, keep, drop, split, join, fsplit, fjoin, fjoin3, fpick, fpack, use0, use1, rewrite, stop, fld, load, look, of_opd, no_more, and_then, returns, enter, alloc_all, pass_all, free_all, look_at, get, through, sets, env, agg, shr_bor-open, obor_close, fact, fact_i, tables, yes, RattleType, owns, types_at, plain, named_lft, Ptr, block_ptr, block_of, count_of, at_block, RefOf, shr_vals, shr_Tells, hidden_shr, hide, unhide, nothing, Struct, shape, lent_out, Stays, stay_dropped, walk_of, Goes-dropped, pointer_in, pointer_out, guard_good, proved, leaves, Names, Placed, common, Known, lent_by, evidence, Stored, as_stored, false, flag, given, learn, split3, fsplit3, use2, raised, by_reader, reader_knows, reader_lends, RawPtr}
+use Rattle.piper_ring.proofs.Kit.{◌≡◌, ℕ, ◌+◌, [], ◌∷◌, refl, named, Val, vptr, SProp, emp, Share, Fml, ftrue, flft, fhide, ‵, raw, ◌⊛◌, ◌$◌, ◌∵◌, !, qed, by, move, keep, drop, split, join, fsplit, fjoin, fjoin3, fpick, fpack, use0, use1, rewrite, stop, fld, load, look, of_opd, no_more, and_then, returns, enter, alloc_all, pass_all, free_all, look_at, get, through, sets, env, agg, shr_bor-open, obor_close, fact, fact_i, tables, yes, owns, types_at, plain, named_lft, Ptr, block_ptr, block_of, count_of, at_block, RefOf, shr_vals, shr_Tells, hidden_shr, hide, unhide, nothing, lent_out, Stays, stay_dropped, walk_of, Goes-dropped, pointer_in, pointer_out, guard_good, proved, leaves, Names, Placed, common, Known, lent_by, evidence, Stored, as_stored, false, flag, given, learn, split3, fsplit3, use2, raised, by_reader, reader_knows, reader_lends, PointerData, lent_val, LentData, lent_made, GhostData, ghost_coded}
 use base.Fml.{fshr_bor}
 use denote.SharingLaws.{one_shr_laws}
-use Rattle.piper_ring.proofs.Fields.{lent_val, LentData, lent_made, SawData}
-use Rattle.core.specs.contracts.marker.PhantomData as marker
 use Rattle.piper_ring.proofs.Rights.{reader_halves}
 use Rattle.piper_ring.proofs.Slots.{reader_stored}
 use Rattle.piper_ring.specs.contracts.ring.marks.ClosedMark as ClosedMark
 use Rattle.piper_ring.specs.contracts.ring.seats.ReadSeat as Seat
-use Rattle.piper_ring.specs.contracts.ring.seats.ReadSeat.slot_words.{ended, clauses}
-use Rattle.piper_ring.specs.contracts.ring.seats.ReadSeat.slot_words.Key.{name as #self}
-use Rattle.piper_ring.proofs.ring.seats.ReadSeat.slot_words.Statement.{statement}
-use Rattle.piper_ring.proofs.ring.seats.ReadSeat.slot_words.Code as code
+use Rattle.piper_ring.proofs.ring.seats.ReadSeat.slot_words as own
 
-abbrev Data : RattleType
-Data = Struct (shape Seat.the_type)
-
-pub slot_words_spec : {M : Type 1} → statement M
+pub slot_words_spec : {M : Type 1} → own.Statement.statement M
 slot_words_spec 𝓤 𝓛 𝓜 𝓡 wired =
-    let H = 𝓛.H in let 𝓣 = tables 𝓤 H 𝓜 𝓡 𝓡.env in let En = ended in let fn = code.function in let c = clauses 𝓛 𝓜.mem 𝓡.returns in
+    let H = 𝓛.H in let 𝓣 = tables 𝓤 H 𝓜 𝓡 𝓡.env in let En = Seat.slot_words.ended in let fn = own.Code.function in let c = Seat.slot_words.clauses 𝓛 𝓜.mem 𝓡.returns in
     let self = RefOf (0 ∷ []) tt (plain (λ _. Seat.the_row)) (λ _. tt) in let saw = RefOf (1 ∷ []) tt (plain (λ _. ClosedMark.the_row)) (λ _. tt) in
     let hs : Stays En.signature.params En.kept = (stay_dropped self yes, (stay_dropped saw yes, tt)) in
-    proved 𝓛 En hs c 𝓜 𝓡 (Goes-dropped 𝓛 2 self yes (λ κs x f. refl), (Goes-dropped 𝓛 2 saw yes (λ κs x f. refl), tt)) #self fn (code.unfolded 𝓤 H 𝓜 𝓡 wired)
+    proved 𝓛 En hs c 𝓜 𝓡 (Goes-dropped 𝓛 2 self yes (λ κs x f. refl), (Goes-dropped 𝓛 2 saw yes (λ κs x f. refl), tt)) Seat.slot_words.Key.name fn (own.Code.unfolded 𝓤 H 𝓜 𝓡 wired)
     (λ κs. (shr_vals, (shr_vals, tt))) (λ κs. (shr_Tells (named 0) κs.0 Seat.the_row, (shr_Tells (named 1) κs.1.0 ClosedMark.the_row, tt))) (λ κs qs bounds a gh are.
     let b : ℕ = a.0.ref_ptr.0 in let o : ℕ = a.0.ref_ptr.1 in let h = a.0.now in let w : Ptr = h.words in let p : Ptr = h.at in let z : Names = h.names in let κ = κs.0 in let q : Share = qs.0 in let b2 : ℕ = a.1.0.ref_ptr.0 in let o2 : ℕ = a.1.0.ref_ptr.1 in let j = a.1.0.now in
     let Φ : Share → Fml = λ s. reader_knows w p z s h.head h.seen (flag h.leaving) in let x : Stored = as_stored [] h.head j.seen in
     let y : (walk_of 𝓛 En hs c).Ghost = ((κs, qs, bounds, a, (vptr b o ∷ [], (vptr b2 o2 ∷ [], tt))), gh) in let Post : Val → SProp 𝓤 = (walk_of 𝓛 En hs c).post y in
     qed 𝓛 (((‵ (flft κ q) ⊛ ‵ (flft κs.1.0 qs.1.0) ⊛ ‵ ftrue) ⊛ ‵ (owns (types_at En.signature.params κs) a y.0.4)) ∷ given (j.names ≡ z) (‵ ftrue) ∷ []) ∵
     keep ! (1 ∷ 0 ∷ []) $ learn ! (λ asked. drop ! $ split ! $ split3 ! $ move ! (3 ∷ []) $ fsplit3 ! $ move ! (1 ∷ []) $ fsplit ! $ drop ! $
-    use1 𝓛 (‵ (hidden_shr SawData κs.1.0 (record {}, tt) b2 o2) ⊛ ‵ (fhide (raised j.names.closed j.seen))) (lent_out 𝓛 ClosedMark.struct (ClosedMark.the_codes (marker.the_row RawPtr).coded) ClosedMark.the_heap ClosedMark.the_lent κs.1.0 j b2 o2) $
+    use1 𝓛 (‵ (hidden_shr GhostData κs.1.0 (record {}, tt) b2 o2) ⊛ ‵ (fhide (raised j.names.closed j.seen))) (lent_out 𝓛 ClosedMark.struct (ClosedMark.the_codes ghost_coded) ClosedMark.the_heap ClosedMark.the_lent κs.1.0 j b2 o2) $
     split ! $ drop ! $ unhide ! $ rewrite ! 0 (λ (m : Names). ‵ (raised m.closed j.seen)) asked refl $ keep ! (1 ∷ 3 ∷ 0 ∷ 4 ∷ []) $ fsplit ! $ drop ! $
-    use1 𝓛 (‵ (hidden_shr Data κ (w, tt) b o) ⊛ ‵ (fhide (reader_lends w p z h.head h.seen h.leaving κ))) (lent_out 𝓛 Seat.struct Seat.the_codes Seat.the_heap Seat.the_lent κ h b o) $
+    use1 𝓛 (‵ (hidden_shr PointerData κ (w, tt) b o) ⊛ ‵ (fhide (reader_lends w p z h.head h.seen h.leaving κ))) (lent_out 𝓛 Seat.struct Seat.the_codes Seat.the_heap Seat.the_lent κ h b o) $
     split ! $ unhide ! $ fsplit ! $ fsplit ! $ keep ! (0 ∷ 3 ∷ 4 ∷ 5 ∷ 6 ∷ []) $ hide ! $ move ! (1 ∷ []) $ unhide ! $ fsplit ! $ fsplit ! $ fpick ! (λ at. drop ! $ nothing ! $ fpack ! (Placed w p z) (λ _. ftrue) at $ fjoin ! $
     let bw : ℕ = block_of w in let ow : ℕ = count_of w in let w' : Ptr = block_ptr bw ow in let isw : w ≡ w' = at_block w at.0 in
     enter ! 𝓣.C 𝓣.Λ fn (vptr b o ∷ vptr b2 o2 ∷ []) Post $ alloc_all ! (λ l. pass_all ! refl ((tt, tt), ((tt, tt), tt)) $ let Ev = env fn.locals l in move ! (2 ∷ 3 ∷ []) $ pointer_in ! tt w bw ow isw b (o + 0) (λ r.

@@ -1,5 +1,5 @@
 -- It may move to another thread.
-use denote.Param.Send.{IsSend}
+use Rattle.piper_ring.proofs.Kit.{IsSend}
 use Rattle.piper_ring.specs.contracts.ring.seats.WriteSeat.{the_row}
 use Rattle.piper_ring.proofs.Crosses.{writer_owns-Keyless}
 

@@ -1,32 +1,28 @@
 -- `give_back` is one store, beside a share of what the end knows that lends the words, and evidence of
 -- what it stored. Assumes `Logic`.
-use Rattle.piper_ring.proofs.Kit.{◌∙◌, lit<, arith, ◌≡◌, ℕ, ◌+◌, ◌*◌, ◌<◌, ◌^◌, List, [], ◌∷◌, sym, refl, ap, subst, w64, named, Val, vint, vptr, SProp, emp, via, Share, Fml, ftrue, flft, ‵, raw, ◌⊛◌, given, mean, at_ret, ◌$◌, ◌∵◌, !, qed, by, move, keep, drop, split, split3, join, fsplit, fsplit3, fjoin, fjoin3, fpick, fpack, learn, use0, rewrite, feq_i, stop, fld, lit, of_opd, bin, no_more, and_then, first, blocks, exec, Calls-last, returns, enter, alloc_all, pass_all, free_all, look_at, get, get_in, sub, whole, is, sets, lands_last, env, agg, shr_bor-open, obor_close, fact, fact_i, tables, yes, no, RattleType, owns, types_at, plain, named_lft, Ptr, block_ptr, ptr_val, block_of, count_of, at_block, usize, uint_vals, uint_Tells, mut_vals, mut_Tells, nothing, opens, closes, Stays, stay_dropped, stay_ref, walk_of, Goes-dropped, Goes-ref, after as from_on, guard_good, proved, leaves, seq_cst, fm, Names, Placed, Bool, Stored, flag_word, true, false, use3, stored, has_stored, stores, unit_lit, vunit, Wakes, GivesBack, evidence, wakes_in, of_wakes, SameWaker, waker_place, right, right_val, right_told}
-use Rattle.piper_ring.proofs.Fields.{lent_val, lent_told}
+use Rattle.piper_ring.proofs.Kit.{◌∙◌, lit<, arith, ◌≡◌, ℕ, ◌+◌, ◌*◌, ◌<◌, ◌^◌, List, [], ◌∷◌, sym, refl, ap, subst, w64, named, Val, vint, vptr, SProp, emp, via, Share, Fml, ftrue, flft, ‵, raw, ◌⊛◌, given, mean, at_ret, ◌$◌, ◌∵◌, !, qed, by, move, keep, drop, split, split3, join, fsplit, fsplit3, fjoin, fjoin3, fpick, fpack, learn, use0, rewrite, feq_i, stop, fld, lit, of_opd, bin, no_more, and_then, first, blocks, exec, Calls-last, returns, enter, alloc_all, pass_all, free_all, look_at, get, get_in, sub, whole, is, sets, lands_last, env, agg, shr_bor-open, obor_close, fact, fact_i, tables, yes, no, RattleType, owns, types_at, plain, named_lft, Ptr, block_ptr, ptr_val, block_of, count_of, at_block, usize, uint_vals, uint_Tells, mut_vals, mut_Tells, nothing, opens, closes, Stays, stay_dropped, stay_ref, walk_of, Goes-dropped, Goes-ref, after as from_on, guard_good, proved, leaves, seq_cst, fm, Names, Placed, Bool, Stored, flag_word, true, false, use3, stored, has_stored, stores, unit_lit, vunit, Wakes, GivesBack, evidence, wakes_in, of_wakes, waker_place, right, ghost_val, ghost_told, lent_val, lent_told}
 use Rattle.piper_ring.proofs.Rights.{known_halves}
 use Rattle.piper_ring.proofs.Slots.{back_fits, Woke, give_back}
 use Rattle.piper_cells.specs.contracts.token_cell.Token as Token
 use Rattle.piper_ring.specs.contracts.ring.slots.Wakes as Slot
 use Rattle.piper_ring.specs.contracts.ring.slots.SlotWords as SlotWords
-use Rattle.piper_ring.specs.contracts.ring.slots.SlotWords.give_back.{ended, clauses}
-use Rattle.piper_ring.specs.contracts.ring.slots.SlotWords.give_back.Key.{name as #self}
-use Rattle.piper_ring.proofs.ring.slots.SlotWords.give_back.Statement.{statement}
-use Rattle.piper_ring.proofs.ring.slots.SlotWords.give_back.Code as code
+use Rattle.piper_ring.proofs.ring.slots.SlotWords.give_back as own
 
-pub give_back_spec : {M : Type 1} → statement M
+pub give_back_spec : {M : Type 1} → own.Statement.statement M
 give_back_spec 𝓤 𝓛 𝓜 𝓡 wired =
-    let H = 𝓛.H in let 𝓣 = tables 𝓤 H 𝓜 𝓡 𝓡.env in let En = ended in let fn = code.function in let c = clauses 𝓛 𝓜.mem 𝓡.returns in
+    let H = 𝓛.H in let 𝓣 = tables 𝓤 H 𝓜 𝓡 𝓡.env in let En = SlotWords.give_back.ended in let fn = own.Code.function in let c = SlotWords.give_back.clauses 𝓛 𝓜.mem 𝓡.returns in
     let self = plain (λ κs. SlotWords.the_row (named_lft 2 0 tt κs)) in let SRow : RattleType = Slot.the_row in let slot_ref = plain (λ _. SRow) in let token = plain (λ _. Token.the_row) in let index = plain (λ _. usize) in
     let hs : Stays En.signature.params En.kept = (stay_dropped self no, (stay_ref (1 ∷ []) tt slot_ref, (stay_dropped token yes, (stay_dropped index yes, tt)))) in
-    proved 𝓛 En hs c 𝓜 𝓡 (Goes-dropped 𝓛 2 self no (λ κs x f. refl), (Goes-ref 𝓛 2 1 tt slot_ref, (Goes-dropped 𝓛 2 token yes (λ κs x f. refl), (Goes-dropped 𝓛 2 index yes (λ κs x f. refl), tt)))) #self fn (code.unfolded 𝓤 H 𝓜 𝓡 wired)
-    (λ κs. ((λ x. lent_val x.words ∷ []), (mut_vals, ((λ x. right_val ∷ []), (uint_vals w64, tt))))) (λ κs. ((λ x vs so. lent_told (named_lft 2 0 tt κs) x.words vs so.0), (mut_Tells (named 1) κs.1.0 SRow, ((λ x vs so. right_told vs so.0), (uint_Tells w64, tt))))) (λ κs qs bounds a gh are.
+    proved 𝓛 En hs c 𝓜 𝓡 (Goes-dropped 𝓛 2 self no (λ κs x f. refl), (Goes-ref 𝓛 2 1 tt slot_ref, (Goes-dropped 𝓛 2 token yes (λ κs x f. refl), (Goes-dropped 𝓛 2 index yes (λ κs x f. refl), tt)))) SlotWords.give_back.Key.name fn (own.Code.unfolded 𝓤 H 𝓜 𝓡 wired)
+    (λ κs. ((λ x. lent_val x.words ∷ []), (mut_vals, ((λ x. ghost_val ∷ []), (uint_vals w64, tt))))) (λ κs. ((λ x vs so. lent_told (named_lft 2 0 tt κs) x.words vs so.0), (mut_Tells (named 1) κs.1.0 SRow, ((λ x vs so. ghost_told vs so.0), (uint_Tells w64, tt))))) (λ κs qs bounds a gh are.
     let h = a.0 in let w : Ptr = h.words in let p : Ptr = h.at in let z : Names = h.names in let κ = κs.0 in let q : Share = qs.0 in let t : Token.the_row.Denot = a.1.1.0 in let i : ℕ = a.1.1.1.0 in
     let b : ℕ = a.1.0.ref_ptr.0 in let o : ℕ = a.1.0.ref_ptr.1 in let k = a.1.0.now in let r : Bool = k.for_reader in let view : Wakes Stored = of_wakes k in let x : Stored = h.stored in
-    let y : (walk_of 𝓛 En hs c).Ghost = ((κs, qs, bounds, a, (lent_val w ∷ [], (vptr b o ∷ [], (right_val ∷ [], (vint w64 i ∷ [], tt))))), gh) in let Post : Val → SProp 𝓤 = (walk_of 𝓛 En hs c).post y in
+    let y : (walk_of 𝓛 En hs c).Ghost = ((κs, qs, bounds, a, (lent_val w ∷ [], (vptr b o ∷ [], (ghost_val ∷ [], (vint w64 i ∷ [], tt))))), gh) in let Post : Val → SProp 𝓤 = (walk_of 𝓛 En hs c).post y in
     let Asked : Type 0 = (k.names ≡ z) × (r ≡ h.for_reader) × (k.holds ≡ true) × (i ≡ flag_word r + 1) × ((t.name ≡ waker_place k.names r) × (t.there ≡ true) × (t.filled ≡ false)) in
     qed 𝓛 (((‵ (flft κ q) ⊛ ‵ (flft κs.1.0 qs.1.0) ⊛ ‵ ftrue) ⊛ ‵ (owns (types_at En.signature.params κs) a y.0.4)) ∷ given Asked (‵ ftrue) ∷ []) ∵
     keep ! (1 ∷ 0 ∷ []) $ learn ! (λ asked. drop ! $ split ! $ split3 ! $ move ! (3 ∷ []) $ fsplit3 ! $ fsplit ! $ drop ! $ fsplit3 ! $ fsplit ! $ fpick ! (λ at. drop ! $ nothing ! $ fpack ! (Placed w p z) (λ _. ftrue) at $ fjoin ! $ move ! (1 ∷ []) $ fpick ! (λ who.
     move ! (3 ∷ []) $ fsplit3 ! $ keep ! (1 ∷ 2 ∷ 8 ∷ 3 ∷ 4 ∷ 7 ∷ 5 ∷ 6 ∷ []) $ let bw : ℕ = block_of w in let ow : ℕ = count_of w in let e : ℕ = 8 + flag_word r * 8 + ow in let far : i * 8 ≡ 8 + flag_word r * 8 = let at_back : i ≡ flag_word r + 1 = asked.3 in omega arith in
-    enter ! 𝓣.C 𝓣.Λ fn (lent_val w ∷ vptr b o ∷ right_val ∷ vint w64 i ∷ []) Post $ alloc_all ! (λ l. pass_all ! refl (guard_good [] [] w, ((tt, tt), ((tt, (tt, tt)), ((tt, record { fits = are.1.1.1.0.1 }), tt)))) $ let Ev = env fn.locals l in
+    enter ! 𝓣.C 𝓣.Λ fn (lent_val w ∷ vptr b o ∷ ghost_val ∷ vint w64 i ∷ []) Post $ alloc_all ! (λ l. pass_all ! refl (guard_good [] [] w, ((tt, tt), ((tt, (tt, tt)), ((tt, record { fits = are.1.1.1.0.1 }), tt)))) $ let Ev = env fn.locals l in
     opens ! tt SRow b o (λ vs. move ! (1 ∷ []) $ fsplit ! $ sets ! (is ! (of_opd ! (get_in ! (fld ! refl (stop !)) (sub ! 0 refl (whole !)))) (ap ptr_val (at_block w at.0))) refl (tt, tt) $ first ! $ blocks ! $
     sets ! (is ! (bin ! (get ! refl) (lit ! tt) (record { fits = subst (λ (m : ℕ). m < 2 ^ 64) (sym far) (back_fits r) })) (ap (vint w64) far)) refl (tt, record { fits = back_fits r }) $ sets ! (bin ! (get ! refl) (get ! refl) tt) refl (tt, tt) $
     move ! (6 ∷ 8 ∷ []) $ shr_bor-open ! tt (known_halves 𝓛 w p z who) (λ s. move ! (10 ∷ []) $ fsplit ! $ fsplit ! $ drop ! $
@@ -34,11 +30,11 @@ give_back_spec 𝓤 𝓛 𝓜 𝓡 wired =
     rewrite ! 5 (λ (m : Names). ‵ (wakes_in m r view.0 view.1.0 view.1.1)) {x = z} {y = k.names} asked.0 refl $ move ! (5 ∷ 0 ∷ []) $ fjoin ! $ move ! (10 ∷ []) $ rewrite ! 0 (λ (m : Bool). ‵ (evidence z m x)) {x = r} {y = h.for_reader} (sym asked.1) refl $
     move ! (1 ∷ 0 ∷ []) $ join ! $ move ! (1 ∷ []) $ drop ! $ move ! (8 ∷ 2 ∷ 0 ∷ []) $
     let out : ℕ → Fml = Woke 𝓛 w p z s who r view x (λ m u _. GivesBack Stored view x m u) in
-    use3 𝓛 (raw (𝓣.C _ (vptr bw e ∷ vint w64 1 ∷ seq_cst ∷ []) (λ u. mean 𝓛 (stored (out 0) u)))) (via 𝓤 _ (give_back 𝓛 w p z s who r view x asked.2) (stores 𝓛 𝓜 𝓡 (code.calls-core::raw_atomic::store 𝓡.env wired) (block_ptr bw e) 1 (lit< tt) (out 0))) $
+    use3 𝓛 (raw (𝓣.C _ (vptr bw e ∷ vint w64 1 ∷ seq_cst ∷ []) (λ u. mean 𝓛 (stored (out 0) u)))) (via 𝓤 _ (give_back 𝓛 w p z s who r view x asked.2) (stores 𝓛 𝓜 𝓡 (own.Code.calls-core::raw_atomic::store 𝓡.env wired) (block_ptr bw e) 1 (lit< tt) (out 0))) $
     sets ! (agg ! (and_then ! (lit ! tt) (no_more !))) refl (tt, (record { fits = lit< tt }, tt)) $ Calls-last ! (fm 𝓛 𝓜 𝓡) (stored (out 0)) (and_then ! (get ! refl) (and_then ! (lit ! tt) (and_then ! (get ! refl) (no_more !)))) (λ u. has_stored ! (out 0) (
     lands_last ! refl (tt, tt) $ exec ! 𝓣.C 𝓣.Λ Ev (from_on 2 fn.body) (at_ret Ev Post) $ sets ! (of_opd ! (unit_lit !)) refl (tt, tt) $
     fpick ! (λ got. let v : Wakes Stored = got.0 in fsplit3 ! $ fpick ! (λ told. drop ! $ move ! (2 ∷ 1 ∷ []) $ obor_close ! tt $ drop ! $ move ! (1 ∷ []) $ fsplit ! $ move ! (1 ∷ []) $ drop ! $ let k' : SRow.Denot = record k { holds = v.0; taken = v.1.0; stored = v.1.1 } in
     rewrite ! 0 (λ (m : Names). ‵ (wakes_in m r v.0 v.1.0 v.1.1)) {x = k.names} {y = z} (sym asked.0) refl $ move ! (2 ∷ 0 ∷ []) $ fjoin ! $ move ! (2 ∷ 0 ∷ 3 ∷ 4 ∷ 5 ∷ []) $ closes ! tt SRow k' vs b o $
     feq_i ! (List Val) (vptr b o ∷ []) (vptr b o ∷ []) refl $ fjoin3 ! $ nothing ! $ nothing ! $ fjoin ! $ nothing ! $ fjoin ! $ move ! (1 ∷ 0 ∷ []) $ fjoin ! $ nothing ! $ fjoin ! $ nothing ! $ move ! (2 ∷ 0 ∷ []) $ join ! $ move ! (2 ∷ 0 ∷ []) $ join ! $
-    use0 𝓛 (raw (fact 𝓤 (GivesBack Stored view x 0 v))) (fact_i 𝓤 (GivesBack Stored view x 0 v) (emp 𝓤) told) $ use0 𝓛 (raw (fact 𝓤 (SameWaker k k'))) (fact_i 𝓤 (SameWaker k k') (emp 𝓤) (refl, refl)) $ join ! $ feq_i ! (List Val) (vunit ∷ []) (vunit ∷ []) refl $
+    use0 𝓛 (raw (fact 𝓤 (GivesBack Stored view x 0 v))) (fact_i 𝓤 (GivesBack Stored view x 0 v) (emp 𝓤) told) $ let Same : Type 0 = k' ≡ record k { holds = k'.holds; taken = k'.taken; stored = k'.stored } in use0 𝓛 (raw (fact 𝓤 Same)) (fact_i 𝓤 Same (emp 𝓤) refl) $ join ! $ feq_i ! (List Val) (vunit ∷ []) (vunit ∷ []) refl $
     returns ! (look_at ! 0 refl) $ free_all ! refl $ keep ! (2 ∷ 3 ∷ 0 ∷ 1 ∷ []) $ by ! (leaves 𝓛 En hs c y vunit tt (tt, (k', (tt, (tt, tt)))) (tt, (tt, (tt, (tt, tt))))))))))))))))

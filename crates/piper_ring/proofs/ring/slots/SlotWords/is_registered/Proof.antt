@@ -1,23 +1,19 @@
 -- `is_registered` is one load, beside a share of what the end knows that lends the words. Assumes
 -- `Logic`.
-use Rattle.piper_ring.proofs.Kit.{flt_i, lit<, ◌≡◌, ℕ, ◌+◌, ◌*◌, ◌<◌, ◌^◌, List, [], ◌∷◌, sym, refl, ap, subst, w64, named, Val, vint, vptr, SProp, emp, via, Share, Fml, ftrue, flft, ‵, raw, ◌⊛◌, given, mean, at_ret, ◌$◌, ◌∵◌, !, qed, by, move, keep, drop, split, split3, join, fsplit, fsplit3, fjoin, fjoin3, fpick, fpack, learn, use0, rewrite, feq_i, stop, fld, lit, of_opd, bin, no_more, and_then, first, blocks, exec, Calls-last, returns, enter, alloc_all, pass_all, free_all, look_at, get, get_in, sub, whole, is, sets, lands_last, env, agg, shr_bor-open, obor_close, fact, fact_i, tables, yes, no, RattleType, owns, types_at, plain, named_lft, Ptr, block_ptr, ptr_val, block_of, count_of, at_block, usize, uint_vals, uint_Tells, mut_vals, mut_Tells, nothing, opens, closes, Stays, stay_dropped, stay_ref, walk_of, Goes-dropped, Goes-ref, after as from_on, guard_good, proved, leaves, seq_cst, fm, Names, Placed, Bool, Stored, flag_word, ◌≤◌, use3, found, finds, loads, Waits, waits_in, of_waits}
-use Rattle.piper_ring.proofs.Fields.{lent_val, lent_told}
+use Rattle.piper_ring.proofs.Kit.{flt_i, lit<, ◌≡◌, ℕ, ◌+◌, ◌*◌, ◌<◌, ◌^◌, List, [], ◌∷◌, sym, refl, ap, subst, w64, named, Val, vint, vptr, SProp, emp, via, Share, Fml, ftrue, flft, ‵, raw, ◌⊛◌, given, mean, at_ret, ◌$◌, ◌∵◌, !, qed, by, move, keep, drop, split, split3, join, fsplit, fsplit3, fjoin, fjoin3, fpick, fpack, learn, use0, rewrite, feq_i, stop, fld, lit, of_opd, bin, no_more, and_then, first, blocks, exec, Calls-last, returns, enter, alloc_all, pass_all, free_all, look_at, get, get_in, sub, whole, is, sets, lands_last, env, agg, shr_bor-open, obor_close, fact, fact_i, tables, yes, no, RattleType, owns, types_at, plain, named_lft, Ptr, block_ptr, ptr_val, block_of, count_of, at_block, usize, uint_vals, uint_Tells, mut_vals, mut_Tells, nothing, opens, closes, Stays, stay_dropped, stay_ref, walk_of, Goes-dropped, Goes-ref, after as from_on, guard_good, proved, leaves, seq_cst, fm, Names, Placed, Bool, Stored, flag_word, ◌≤◌, use3, found, finds, loads, Waits, waits_in, of_waits, lent_val, lent_told}
 use Rattle.piper_ring.proofs.Rights.{known_halves}
 use Rattle.piper_ring.proofs.Slots.{flag_fits, Waited, StaysSo, is_registered}
 use Rattle.piper_ring.specs.Loads.{FoundFlag, as_flag}
 use Rattle.piper_ring.specs.contracts.ring.slots.WaiterState as Slot
 use Rattle.piper_ring.specs.contracts.ring.slots.SlotWords as SlotWords
-use Rattle.piper_ring.specs.contracts.ring.slots.SlotWords.is_registered.{ended, clauses}
-use Rattle.piper_ring.specs.contracts.ring.slots.SlotWords.is_registered.Key.{name as #self}
-use Rattle.piper_ring.proofs.ring.slots.SlotWords.is_registered.Statement.{statement}
-use Rattle.piper_ring.proofs.ring.slots.SlotWords.is_registered.Code as code
+use Rattle.piper_ring.proofs.ring.slots.SlotWords.is_registered as own
 
-pub is_registered_spec : {M : Type 1} → statement M
+pub is_registered_spec : {M : Type 1} → own.Statement.statement M
 is_registered_spec 𝓤 𝓛 𝓜 𝓡 wired =
-    let H = 𝓛.H in let 𝓣 = tables 𝓤 H 𝓜 𝓡 𝓡.env in let En = ended in let fn = code.function in let c = clauses 𝓛 𝓜.mem 𝓡.returns in
+    let H = 𝓛.H in let 𝓣 = tables 𝓤 H 𝓜 𝓡 𝓡.env in let En = SlotWords.is_registered.ended in let fn = own.Code.function in let c = SlotWords.is_registered.clauses 𝓛 𝓜.mem 𝓡.returns in
     let self = plain (λ κs. SlotWords.the_row (named_lft 2 0 tt κs)) in let SRow : RattleType = Slot.the_row in let slot_ref = plain (λ _. SRow) in let index = plain (λ _. usize) in
     let hs : Stays En.signature.params En.kept = (stay_dropped self no, (stay_ref (1 ∷ []) tt slot_ref, (stay_dropped index yes, tt))) in
-    proved 𝓛 En hs c 𝓜 𝓡 (Goes-dropped 𝓛 2 self no (λ κs x f. refl), (Goes-ref 𝓛 2 1 tt slot_ref, (Goes-dropped 𝓛 2 index yes (λ κs x f. refl), tt))) #self fn (code.unfolded 𝓤 H 𝓜 𝓡 wired)
+    proved 𝓛 En hs c 𝓜 𝓡 (Goes-dropped 𝓛 2 self no (λ κs x f. refl), (Goes-ref 𝓛 2 1 tt slot_ref, (Goes-dropped 𝓛 2 index yes (λ κs x f. refl), tt))) SlotWords.is_registered.Key.name fn (own.Code.unfolded 𝓤 H 𝓜 𝓡 wired)
     (λ κs. ((λ x. lent_val x.words ∷ []), (mut_vals, (uint_vals w64, tt)))) (λ κs. ((λ x vs so. lent_told (named_lft 2 0 tt κs) x.words vs so.0), (mut_Tells (named 1) κs.1.0 SRow, (uint_Tells w64, tt)))) (λ κs qs bounds a gh are.
     let h = a.0 in let w : Ptr = h.words in let p : Ptr = h.at in let z : Names = h.names in let κ = κs.0 in let q : Share = qs.0 in let i : ℕ = a.1.1.0 in
     let b : ℕ = a.1.0.ref_ptr.0 in let o : ℕ = a.1.0.ref_ptr.1 in let k = a.1.0.now in let r : Bool = k.for_reader in let view : Waits Stored = of_waits k in
@@ -30,7 +26,7 @@ is_registered_spec 𝓤 𝓛 𝓜 𝓡 wired =
     sets ! (is ! (bin ! (get ! refl) (lit ! tt) (record { fits = subst (λ (m : ℕ). m < 2 ^ 64) (sym far) (flag_fits r) })) (ap (vint w64) far)) refl (tt, record { fits = flag_fits r }) $ sets ! (bin ! (get ! refl) (get ! refl) tt) refl (tt, tt) $
     move ! (6 ∷ 8 ∷ []) $ shr_bor-open ! tt (known_halves 𝓛 w p z who) (λ s. move ! (8 ∷ 1 ∷ 3 ∷ []) $ rewrite ! 2 (λ (m : Names). ‵ (waits_in m r view.0 view.1.0 view.1.1)) {x = z} {y = k.names} asked.0 refl $
     let out : ℕ → Fml = Waited 𝓛 w p z s who r view (StaysSo view) in
-    use3 𝓛 (raw (𝓣.C _ (vptr bw e ∷ seq_cst ∷ []) (λ u. mean 𝓛 (found out u)))) (via 𝓤 _ (is_registered 𝓛 w p z s who r view) (loads 𝓛 𝓜 𝓡 (code.calls-core::raw_atomic::load 𝓡.env wired) (block_ptr bw e) out)) $
+    use3 𝓛 (raw (𝓣.C _ (vptr bw e ∷ seq_cst ∷ []) (λ u. mean 𝓛 (found out u)))) (via 𝓤 _ (is_registered 𝓛 w p z s who r view) (loads 𝓛 𝓜 𝓡 (own.Code.calls-core::raw_atomic::load 𝓡.env wired) (block_ptr bw e) out)) $
     sets ! (agg ! (and_then ! (lit ! tt) (no_more !))) refl (tt, (record { fits = lit< tt }, tt)) $ Calls-last ! (fm 𝓛 𝓜 𝓡) (found out) (and_then ! (get ! refl) (and_then ! (get ! refl) (no_more !))) (λ u. finds ! out (λ n fits.
     lands_last ! refl (tt, record { fits = fits }) $ exec ! 𝓣.C 𝓣.Λ Ev (from_on 2 fn.body) (at_ret Ev Post) $ sets ! (of_opd ! (get ! refl)) refl (tt, record { fits = fits }) $
     fpick ! (λ got. let v : Waits Stored = got.1.0 in fsplit3 ! $ fpick ! (λ told. drop ! $ drop ! $ fsplit ! $ move ! (2 ∷ 1 ∷ []) $ obor_close ! tt $ drop ! $ move ! (1 ∷ []) $ fsplit ! $ move ! (1 ∷ []) $ drop ! $ let k' : SRow.Denot = record k { owns = v.0; tickets = v.1.0; heard = v.1.1 } in

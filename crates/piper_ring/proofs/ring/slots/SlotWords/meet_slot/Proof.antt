@@ -1,22 +1,18 @@
 -- `meet_slot` is no step of the program. Assumes `Logic`.
-use Rattle.piper_ring.proofs.Kit.{◌≡◌, ℕ, List, [], ◌∷◌, sym, refl, named, Val, vptr, vunit, SProp, emp, Share, Fml, ftrue, flft, ‵, raw, ◌⊛◌, given, ◌$◌, ◌∵◌, !, qed, by, move, keep, drop, split, split3, join, fsplit, fsplit3, fjoin, fjoin3, fpick, fpack, learn, use0, use2, rewrite, feq_i, unit_lit, of_opd, returns, enter, alloc_all, pass_all, free_all, look_at, sets, env, shr_bor-open, obor_close, fact, fact_i, tables, no, RattleType, owns, types_at, plain, named_lft, Ptr, mut_vals, mut_Tells, nothing, opens, closes, Stays, stay_dropped, stay_ref, walk_of, Goes-dropped, Goes-ref, guard_good, proved, leaves, later, await, Bool, Names, Placed, Stored, Waits, Wakes, IsRemembered, of_waits, of_wakes, waits_in, wakes_in, knows}
-use Rattle.piper_ring.proofs.Fields.{lent_val, lent_told}
+use Rattle.piper_ring.proofs.Kit.{◌≡◌, ℕ, List, [], ◌∷◌, sym, refl, named, Val, vptr, vunit, SProp, emp, Share, Fml, ftrue, flft, ‵, raw, ◌⊛◌, given, ◌$◌, ◌∵◌, !, qed, by, move, keep, drop, split, split3, join, fsplit, fsplit3, fjoin, fjoin3, fpick, fpack, learn, use0, use2, rewrite, feq_i, unit_lit, of_opd, returns, enter, alloc_all, pass_all, free_all, look_at, sets, env, shr_bor-open, obor_close, fact, fact_i, tables, no, RattleType, owns, types_at, plain, named_lft, Ptr, mut_vals, mut_Tells, nothing, opens, closes, Stays, stay_dropped, stay_ref, walk_of, Goes-dropped, Goes-ref, guard_good, proved, leaves, later, await, Bool, Names, Placed, Stored, Waits, Wakes, IsRemembered, of_waits, of_wakes, waits_in, wakes_in, knows, lent_val, lent_told}
 use Rattle.piper_ring.proofs.Rights.{known_halves}
 use Rattle.piper_ring.proofs.Slots.{meet}
 use Rattle.piper_ring.specs.contracts.ring.slots.WaiterState as One
 use Rattle.piper_ring.specs.contracts.ring.slots.Wakes as Two
 use Rattle.piper_ring.specs.contracts.ring.slots.SlotWords as SlotWords
-use Rattle.piper_ring.specs.contracts.ring.slots.SlotWords.meet_slot.{ended, clauses}
-use Rattle.piper_ring.specs.contracts.ring.slots.SlotWords.meet_slot.Key.{name as #self}
-use Rattle.piper_ring.proofs.ring.slots.SlotWords.meet_slot.Statement.{statement}
-use Rattle.piper_ring.proofs.ring.slots.SlotWords.meet_slot.Code as code
+use Rattle.piper_ring.proofs.ring.slots.SlotWords.meet_slot as own
 
-pub meet_slot_spec : {M : Type 1} → statement M
+pub meet_slot_spec : {M : Type 1} → own.Statement.statement M
 meet_slot_spec 𝓤 𝓛 𝓜 𝓡 wired =
-    let H = 𝓛.H in let 𝓣 = tables 𝓤 H 𝓜 𝓡 𝓡.env in let En = ended in let fn = code.function in let c = clauses 𝓛 𝓜.mem 𝓡.returns in
+    let H = 𝓛.H in let 𝓣 = tables 𝓤 H 𝓜 𝓡 𝓡.env in let En = SlotWords.meet_slot.ended in let fn = own.Code.function in let c = SlotWords.meet_slot.clauses 𝓛 𝓜.mem 𝓡.returns in
     let self = plain (λ κs. SlotWords.the_row (named_lft 3 0 tt κs)) in let ORow : RattleType = One.the_row in let one_ref = plain (λ _. ORow) in let TRow : RattleType = Two.the_row in let two_ref = plain (λ _. TRow) in
     let hs : Stays En.signature.params En.kept = (stay_dropped self no, (stay_ref (1 ∷ []) tt one_ref, (stay_ref (2 ∷ []) tt two_ref, tt))) in
-    proved 𝓛 En hs c 𝓜 𝓡 (Goes-dropped 𝓛 3 self no (λ κs x f. refl), (Goes-ref 𝓛 3 1 tt one_ref, (Goes-ref 𝓛 3 2 tt two_ref, tt))) #self fn (code.unfolded 𝓤 H 𝓜 𝓡 wired)
+    proved 𝓛 En hs c 𝓜 𝓡 (Goes-dropped 𝓛 3 self no (λ κs x f. refl), (Goes-ref 𝓛 3 1 tt one_ref, (Goes-ref 𝓛 3 2 tt two_ref, tt))) SlotWords.meet_slot.Key.name fn (own.Code.unfolded 𝓤 H 𝓜 𝓡 wired)
     (λ κs. ((λ x. lent_val x.words ∷ []), (mut_vals, (mut_vals, tt)))) (λ κs. ((λ x vs so. lent_told (named_lft 3 0 tt κs) x.words vs so.0), (mut_Tells (named 1) κs.1.0 ORow, (mut_Tells (named 2) κs.1.1.0 TRow, tt)))) (λ κs qs bounds a gh are.
     let h = a.0 in let w : Ptr = h.words in let p : Ptr = h.at in let z : Names = h.names in let κ = κs.0 in let q : Share = qs.0 in
     let b : ℕ = a.1.0.ref_ptr.0 in let o : ℕ = a.1.0.ref_ptr.1 in let k = a.1.0.now in let b2 : ℕ = a.1.1.0.ref_ptr.0 in let o2 : ℕ = a.1.1.0.ref_ptr.1 in let m = a.1.1.0.now in let r : Bool = k.for_reader in let view : Waits Stored = of_waits k in let other : Wakes Stored = of_wakes m in

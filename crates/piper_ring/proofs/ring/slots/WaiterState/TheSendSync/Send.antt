@@ -1,5 +1,5 @@
 -- It may move to another thread.
-use denote.Param.Send.{IsSend}
+use Rattle.piper_ring.proofs.Kit.{IsSend}
 use Rattle.piper_ring.specs.contracts.ring.slots.WaiterState.{the_row}
 
 pub send : IsSend the_row
