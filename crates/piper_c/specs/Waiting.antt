@@ -80,8 +80,8 @@ pub record HandedBack (mine : PiperWords) (names : Names) (had : Bool) (tickets 
   pub took : TookBack words names had tickets
   pub out : IsOut words mine
 
--- a poll with words of C: C got what the side's own poll with these words found, as `Finds` says, and
--- gave back, as `Gives` says. It looked, as `Looks` says
+-- a poll with words of C: C got what the side's own poll with these words found, as `Finds` says,
+-- and gave back, as `Gives` says. It looked, as `Looks` says
 pub record Told {H : Type 0} (Gives : Waiter → Polled → H → H → Type 0)
     (Finds : Outcome → H → Type 0) (Looks : H → H → Type 0)
     (mine : PiperWords) (p : PiperPolled) (a b : H) : Type 0 where
