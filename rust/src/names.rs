@@ -4,6 +4,6 @@
 
 macro_rules! own {
     () => {
-        "piper_b7898e60ed10_"
+        "piper_7ded0a1bd6e2_"
     };
 }

@@ -1,5 +1,5 @@
 -- What a stream of lines has.
-use Rattle.std.specs.Prelude.{ℕ, Bool, List, Option, Some, None, Ok, Err, ⊤}
+use Rattle.std.specs.Prelude.{◌≡◌, ℕ, Bool, false, List, Option, Some, None, Ok, Err, ⊤}
 use Rattle.futures.specs.Runs.{EndsIf}
 use Rattle.futures.specs.declared.task.Poll.{Poll}
 use Rattle.futures.specs.declared.task.Poll.TheVariants.{Ready, Pending}
@@ -31,15 +31,15 @@ YieldsLines taken known saw fails stream =
     EndsIf stream.is_ended (LineRuns taken known saw fails (end_of stream.lines) stream.limit
     (reader_of stream.lines) (kept_of stream.lines))
 
--- why a poll failed: the reader did, or memory was refused; and why one is pending: the reader has
--- nothing to give yet
+-- why a poll failed: the reader did, or memory was refused, and the stream goes on; and why one is
+-- pending: the reader has nothing to give yet
 module _ {R : Type 0} (known : R → List ℕ) (told : R → Bool)
     (fails : R → Context → PipeError → Type 0) (waits : R → Context → Type 0) where
   abbrev pub TellsLine : Poll (Option Item) → LineStream R → LineStream R → Context → Type 0
   TellsLine (Ready None) a b cx = ⊤
   TellsLine (Ready (Some (Ok line))) a b cx = ⊤
   TellsLine (Ready (Some (Err e))) a b cx =
-      IsReported e (fails (reader_of (lines_of b)) cx)
+      (ended_of b ≡ false) × IsReported e (fails (reader_of (lines_of b)) cx)
       (LacksRoom (limit_of a) (room_of (lines_of a)) (kept_of (lines_of b))
       (known (reader_of (lines_of b))))
   TellsLine Pending a b cx =

@@ -36,7 +36,7 @@ impl<R: AsyncBufRead + Drop> FrameStream<R> {
     ghost use Rattle.piper_streams.specs.FrameStream.{frames_of, frame_limit_of, is_over};
 
     /// The frames of at most `limit` bytes, whose length is four bytes, the most significant first.
-    /// It asks for no memory before a frame comes.
+    /// It asks for no memory until the first byte of a frame is known (not proved).
     pub fn new(alloc: Global, reader: R, limit: usize) -> FrameStream<R>
         ensures reader { reader_of (frames_of result) ≡ reader }
         ensures format { format_of (frames_of result) ≡ usual_header }
@@ -69,8 +69,8 @@ impl<R: AsyncBufRead + Drop> FrameStream<R> {
         }
     }
 
-    /// Gives the frames below, with what is kept: to skip a frame that is too long, or to take it
-    /// with another limit.
+    /// Gives the frames below, with what is kept: to take a frame that is too long with another
+    /// limit, or to skip it once a `poll_frame` has answered `TooLong` again.
     pub fn into_frames(self) -> Frames<R>
         ensures { result ≡ frames_of self }
     {
@@ -115,7 +115,8 @@ impl<R: AsyncBufRead + Drop> Stream for FrameStream<R> {
         ensures tells { TellsFrame R.taken R.known R.saw R.told R.fails R.waits
             result self.old self.new cx.new }
         ensures stays { ReaderStays R.told R.woken
-            (reader_of (frames_of self.old)) (reader_of (frames_of self.new)) }
+            (reader_of (frames_of self.old)) (reader_of (frames_of self.new))
+            × (format_of (frames_of self.new) ≡ format_of (frames_of self.old)) }
     {
         if self.is_ended {
             return Poll::Ready(None);

@@ -38,8 +38,8 @@ pub struct LineStream<R> {
 impl<R: AsyncBufRead + Drop> LineStream<R> {
     ghost use Rattle.piper_streams.specs.LineStream.{lines_of, limit_of, ended_of};
 
-    /// The lines of at most `limit` bytes that end with LF. It asks for no memory before a line
-    /// comes.
+    /// The lines of at most `limit` bytes that end with LF. It asks for no memory until the first
+    /// byte of a line is known (not proved).
     ///
     /// Requires: `limit`, which counts the byte that ends a line, is at least 1.
     pub fn new(alloc: Global, reader: R, limit: usize) -> LineStream<R>

@@ -112,7 +112,8 @@ impl<W: AsyncWrite + Drop> Sink<Vec<u8>> for WriteSink<W> {
     ///
     /// Pending: the writer's call is pending.
     /// Errors: the writer's own; or one of the kind `BrokenPipe`, if the pipe was seen closed and
-    /// bytes are left. In the poll that sees it closed counted bytes may be lost.
+    /// bytes are left. In the poll that sees it closed counted bytes may be lost; a later poll loses
+    /// none (not proved).
     fn poll_ready(&mut self, cx: &mut Context<'_>) -> Poll<Result<(), PipeError>>
         ensures ready { IfReady result (λ r. OnOk r (left_of self.new ≡ [])) }
         ensures history { (xs : _) → WasSent W.sent W.saw self.old xs

@@ -1,6 +1,6 @@
 //! Frames that are sent body by body.
 ghost use Rattle.std.specs.Prelude.{◌≡◌, ◌++◌, [], ◌∷◌, vec_capacity, vec_len, IfErr, OnErr, OnOk};
-ghost use Rattle.piper_lines.specs.Header.{usual_header};
+ghost use Rattle.piper_lines.specs.Header.{CanEncode, usual_header};
 ghost use Rattle.futures.specs.Poll.{IfReady, OnPending};
 ghost use Rattle.futures.specs.Task.{Covers, Keeps};
 ghost use Rattle.piper_streams.specs.Sent.{left_of, writer_of, IsClosed, IsFlushed, TellsSent};
@@ -84,7 +84,7 @@ impl<W: AsyncWrite + Drop> Sink<Vec<u8>> for FrameSink<W> {
             → FramesSent W.sent W.saw self.new xs }
         ensures registered { OnPending result
             (Covers cx.new (W.needs (writer_of (frames_below self.new)))) }
-        ensures kept { Keeps cx.old cx.new }
+        ensures kept { Keeps cx.old cx.new × (header_of self.new ≡ header_of self.old) }
         ensures tells { TellsSent result W.fails W.waits W.saw W.woken
             (frames_below self.old) (frames_below self.new) cx.new }
     {
@@ -102,8 +102,10 @@ impl<W: AsyncWrite + Drop> Sink<Vec<u8>> for FrameSink<W> {
             (IsRefused (header_of self.old) (vec_len item) (vec_capacity item)) }
         ensures history { OnOk result ((xs : _) → FramesSent W.sent W.saw self.old xs
             → FramesSent W.sent W.saw self.new (xs ++ item ∷ [])) }
+        ensures fits { OnOk result (CanEncode (header_of self.old) (vec_len item)) }
         ensures refused { OnErr result (self.new ≡ self.old) }
-        ensures writer { writer_of (frames_below self.new) ≡ writer_of (frames_below self.old) }
+        ensures writer { (writer_of (frames_below self.new) ≡ writer_of (frames_below self.old))
+            × (header_of self.new ≡ header_of self.old) }
     {
         if !self.format.can_encode(item.len()) {
             return Err(PipeError::Io(ErrorKind::InvalidInput.into()));
@@ -127,7 +129,7 @@ impl<W: AsyncWrite + Drop> Sink<Vec<u8>> for FrameSink<W> {
             → FramesSent W.sent W.saw self.new xs }
         ensures registered { OnPending result
             (Covers cx.new (W.needs (writer_of (frames_below self.new)))) }
-        ensures kept { Keeps cx.old cx.new }
+        ensures kept { Keeps cx.old cx.new × (header_of self.new ≡ header_of self.old) }
         ensures tells { TellsSent result W.fails W.waits W.saw W.woken
             (frames_below self.old) (frames_below self.new) cx.new }
     {
@@ -145,7 +147,7 @@ impl<W: AsyncWrite + Drop> Sink<Vec<u8>> for FrameSink<W> {
             → FramesSent W.sent W.saw self.new xs }
         ensures registered { OnPending result
             (Covers cx.new (W.needs (writer_of (frames_below self.new)))) }
-        ensures kept { Keeps cx.old cx.new }
+        ensures kept { Keeps cx.old cx.new × (header_of self.new ≡ header_of self.old) }
         ensures tells { TellsSent result W.fails W.waits W.saw W.woken
             (frames_below self.old) (frames_below self.new) cx.new }
     {

@@ -59,7 +59,7 @@ impl<W: AsyncWrite + Drop> LineSink<W> {
 }
 
 impl<W: AsyncWrite + Drop> Sink<Vec<u8>> for LineSink<W> {
-    ghost use Rattle.piper_streams.specs.SentLines.{LinesSent, lines_below};
+    ghost use Rattle.piper_streams.specs.SentLines.{LinesSent, ending_of, line_of, lines_below};
 
     type Error = PipeError;
 
@@ -80,7 +80,7 @@ impl<W: AsyncWrite + Drop> Sink<Vec<u8>> for LineSink<W> {
             → LinesSent W.sent W.saw self.new xs }
         ensures registered { OnPending result
             (Covers cx.new (W.needs (writer_of (lines_below self.new)))) }
-        ensures kept { Keeps cx.old cx.new }
+        ensures kept { Keeps cx.old cx.new × (ending_of self.new ≡ ending_of self.old) }
         ensures tells { TellsSent result W.fails W.waits W.saw W.woken
             (lines_below self.old) (lines_below self.new) cx.new }
     {
@@ -98,8 +98,11 @@ impl<W: AsyncWrite + Drop> Sink<Vec<u8>> for LineSink<W> {
             × (vec_capacity item ≤ vec_len item)) }
         ensures history { OnOk result ((xs : _) → LinesSent W.sent W.saw self.old xs
             → LinesSent W.sent W.saw self.new (xs ++ item ∷ [])) }
+        ensures left { OnOk result
+            (left_of (lines_below self.new) ≡ line_of (ending_of self.old) item) }
         ensures refused { OnErr result (self.new ≡ self.old) }
-        ensures writer { writer_of (lines_below self.new) ≡ writer_of (lines_below self.old) }
+        ensures writer { (writer_of (lines_below self.new) ≡ writer_of (lines_below self.old))
+            × (ending_of self.new ≡ ending_of self.old) }
     {
         let mut line = item;
         if line.push(self.end).is_err() {
@@ -118,7 +121,7 @@ impl<W: AsyncWrite + Drop> Sink<Vec<u8>> for LineSink<W> {
             → LinesSent W.sent W.saw self.new xs }
         ensures registered { OnPending result
             (Covers cx.new (W.needs (writer_of (lines_below self.new)))) }
-        ensures kept { Keeps cx.old cx.new }
+        ensures kept { Keeps cx.old cx.new × (ending_of self.new ≡ ending_of self.old) }
         ensures tells { TellsSent result W.fails W.waits W.saw W.woken
             (lines_below self.old) (lines_below self.new) cx.new }
     {
@@ -136,7 +139,7 @@ impl<W: AsyncWrite + Drop> Sink<Vec<u8>> for LineSink<W> {
             → LinesSent W.sent W.saw self.new xs }
         ensures registered { OnPending result
             (Covers cx.new (W.needs (writer_of (lines_below self.new)))) }
-        ensures kept { Keeps cx.old cx.new }
+        ensures kept { Keeps cx.old cx.new × (ending_of self.new ≡ ending_of self.old) }
         ensures tells { TellsSent result W.fails W.waits W.saw W.woken
             (lines_below self.old) (lines_below self.new) cx.new }
     {
