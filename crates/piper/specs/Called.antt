@@ -61,7 +61,8 @@ RegistersTask b cx =
     (waker : Waker) × WasPut b.names b.tickets waker × ((cx.lacks_waker ≡ true) ⊎ Wakes waker cx)
 
 -- a side was granted what it asked for: it is registered with a waker of the polled task, which didn't
--- ask for another poll itself; or the other side has the place of its waker, and the task asked
+-- ask for another poll itself, unless none could be made; or the other side has the place of its
+-- waker, and the task asked
 abbrev pub IsGranted : SlotsView → SlotsView → Context → Type 0
 IsGranted a b cx =
     (Registers a b × IsCalm a.owns cx × RegistersTask b cx)

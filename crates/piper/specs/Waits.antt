@@ -14,7 +14,8 @@ use Rattle.piper_ring.specs.declared.ends.finished.FinishedReader.{FinishedReade
 use Rattle.piper_ring.specs.declared.ends.finished.FinishedWriter.{FinishedWriter}
 
 -- the reader waits: since a it has registered in its slot, under a new ticket, and its look after
--- that found nothing to do; its task didn't ask for another poll itself
+-- that found nothing to do; its task didn't ask for another poll itself, unless none of its wakers
+-- could be made
 pub record ReaderWaits (a b : Reader) (cx : Context) : Type 0 where
   pub ticket : b.side.slots.tickets ≡ a.side.slots.tickets + 1
   pub pending : IsReaderPending b.side.end b.side.slots

@@ -20,7 +20,8 @@ use std::ops::{Deref, DerefMut};
 /// The seed of pipes for which no seed is chosen.
 pub const DEFAULT_SEED: u64 = 0;
 
-/// A reader that is dropped automatically: that closes the pipe and wakes the writer.
+/// A reader that is dropped automatically: that wakes the writer, and closes the pipe (tested, not
+/// proved).
 ///
 /// Each call of [`Reader`] except `drop` can be made on it, with the same contract: in clauses it
 /// is its reader.
@@ -36,7 +37,8 @@ impl Model for OwnedReader {
     ghost view = { λ owned. owned.reader };
 }
 
-/// A writer that is dropped automatically: that closes the pipe and wakes the reader.
+/// A writer that is dropped automatically: that wakes the reader, and closes the pipe (tested, not
+/// proved).
 ///
 /// Each call of [`Writer`] except `drop` can be made on it, with the same contract: in clauses it
 /// is its writer.
@@ -187,7 +189,8 @@ impl DerefMut for OwnedWriter {
 impl Drop for OwnedReader {
     ghost use Rattle.piper.specs.OfReader.{ring};
 
-    /// As `Reader::drop`, whose evidence is dropped.
+    /// As `Reader::drop`, whose evidence is dropped: its clause says who was woken, and not that the
+    /// pipe is closed.
     fn drop(self)
         ensures { HasDropped (ring self).names }
     {
@@ -199,7 +202,8 @@ impl Drop for OwnedReader {
 impl Drop for OwnedWriter {
     ghost use Rattle.piper.specs.OfWriter.{ring};
 
-    /// As `Writer::drop`, whose evidence is dropped.
+    /// As `Writer::drop`, whose evidence is dropped: its clause says who was woken, and not that the
+    /// pipe is closed.
     fn drop(self)
         ensures { HasDropped (ring self).names }
     {

@@ -20,8 +20,9 @@ use piper::{DEFAULT_SEED, OutOfMemory, OwnedReader, OwnedWriter, PipeError};
 use std::alloc::Global;
 use std::fmt::{self, Debug, Formatter};
 
-/// An end of a duplex stream that is dropped automatically: that closes both pipes, first the one
-/// that it writes into (the order is tested, not proved), and wakes who waits at the other end.
+/// An end of a duplex stream that is dropped automatically: that wakes who waits at the other end,
+/// and closes both pipes, first the one that it writes into (the close and the order are tested, not
+/// proved).
 ///
 /// It moves into threads, tasks and closures.
 ///

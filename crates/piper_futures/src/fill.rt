@@ -30,9 +30,10 @@ pub trait AsyncFill: AsyncWrite {
     /// poll in which it sees the close may have lost bytes that `source` gave, with any answer.
     ///
     /// Returns: `ToTheEnd` or `UntilClosed`; if both hold it may be either.
-    /// Pending: the writer's call is pending; or bytes came, and this poll asked for another. A pipe
-    /// that was seen closed is not waited for.
-    /// Errors: the writer's own, which is `Memory` for a pipe; or the error of `source` as it came.
+    /// Pending: the writer's call is pending; or bytes were published, or the pipe was seen closed,
+    /// and this poll asked for another. A pipe that was seen closed before is not waited for.
+    /// Errors: the writer's own, which is `Memory` for a pipe; or the error of `source` as it came
+    /// (proved is that a call of std failed so).
     /// Cancel safety: the next poll goes on from where this one ended.
     fn poll_fill_from<S: Read>(
         &mut self,
@@ -143,9 +144,10 @@ pub struct Filling<W, S> {
 /// Each read blocks the thread, so it belongs on a thread of its own.
 ///
 /// Returns: a future of the writer, `source`, and why it ended.
-/// Pending: the writer's call is pending; or bytes came, and this poll asked for another.
-/// Errors: the writer's own, which is `Memory` for a pipe; or the error of `source`. `left` has the
-/// writer and `source`.
+/// Pending: the writer's call is pending; or bytes were published, or the pipe was seen closed, and
+/// this poll asked for another.
+/// Errors: the writer's own, which is `Memory` for a pipe; or the error of `source` (proved is that
+/// a call of std failed so). `left` has the writer and `source`.
 /// Cancel safety: as long as the writer has not seen its pipe closed, all that was read is
 /// published, so a dropped future loses none.
 pub fn fill_from<W: AsyncFill + Drop, S: Read + Drop>(writer: W, source: S) -> Filling<W, S>

@@ -21,7 +21,8 @@ pub struct ReadOnce<R> {
 /// Waits for a byte, and puts what came at the front of `places`.
 ///
 /// Returns: a future of the reader, `places`, and how many bytes came. If there are places, 0 says
-/// that the reader saw the end. A pipe's reader waits for a byte even if there are no places.
+/// that the reader saw the end. It is not proved that `places` stays as long as it was, nor that a
+/// pipe's reader waits for a byte even if there are no places.
 /// Pending: the reader's call is pending.
 /// Errors: the reader's own. `left` has the reader, and `places` as they were.
 /// Cancel safety: a dropped future has taken no byte.

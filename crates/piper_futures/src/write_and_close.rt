@@ -23,15 +23,16 @@ pub struct WriteAllAndClose<'a, W> {
 
 /// Writes all bytes, in order, and closes the writer's pipe.
 ///
-/// Once it is ready it has dropped the writer, even if a write or the close failed: the other side
-/// of an owned writer then gets its end, while a `join` still holds what this future gave. If the
-/// writer is a `&mut` and the future fails, its pipe may still be open.
+/// Once it is ready it has dropped the writer, even if a write or the close failed. If the writer is
+/// owned, its pipe is closed then (not proved), and the other side gets its end while a `join` still
+/// holds what this future gave. If the writer is a `&mut` and the future fails, its pipe may still
+/// be open.
 ///
 /// It asks for no memory of its own. If the writer has not seen its pipe closed before it closes
 /// it, all counted bytes are published; in the poll that sees it closed some may be lost.
 ///
-/// Returns: a future of how many bytes the writer counted: fewer than all only if its pipe was
-/// closed before.
+/// Returns: a future of how many bytes the writer counted: fewer than all only if it had seen its
+/// pipe closed before (that this future had not closed it is tested, not proved).
 /// Pending: the writer's call is pending.
 /// Errors: the writer's own. `left` says how many bytes it counted.
 /// Cancel safety: a dropped future has written a front of `bytes`, and drops the writer.

@@ -38,7 +38,7 @@ use std::time::Clock;
 pub struct Sizes {
     /// How many bytes the pipe can hold: at least 1 and less than 2^63.
     pub capacity: usize,
-    /// How many bytes one read or write is asked for at most: at least 1.
+    /// How many bytes one read or write is asked for at most (not proved): at least 1.
     pub chunk: usize,
     /// How many bytes are to be in the pipe before the first is written, and again once it ran dry:
     /// at most `capacity`.
@@ -52,7 +52,7 @@ pub struct Sizes {
 ///
 /// It ends at the input's end, once all of it is written, or at the first failure of either side. A
 /// read or a write that is interrupted is made again, and so is one that would block, after a sleep
-/// of 1 to 10 milliseconds. `meter` is kept up to date meanwhile (tested, not proved).
+/// of 1 to 10 milliseconds (not proved). `meter` is kept up to date meanwhile (tested, not proved).
 ///
 /// Returns: `Ok(())`: all that the input gave is written, and the output is flushed.
 /// Errors: `Read`: all that the input gave before is written, and the output is flushed. `Write`: a

@@ -61,8 +61,9 @@ impl Writer {
 
     /// Publishes bytes from the front of `bytes`, as many as there is known room for.
     ///
-    /// Returns: how many bytes it took. 0 says that the pipe is closed, for good, if there are
-    /// `bytes`. A count of fewer than all doesn't say that the pipe is full.
+    /// Returns: how many bytes it took. All of them are published, unless this call saw the pipe
+    /// closed: then those of its last round are not. 0 says that the pipe is closed, for good, if
+    /// there are `bytes`. A count of fewer than all doesn't say that the pipe is full.
     /// Pending: there is no room and the pipe was not seen closed, even if there are no `bytes`; or
     /// the call yields.
     /// Errors: `OutOfMemory`, for the reason for which `poll` fails. No byte is published.
@@ -92,9 +93,10 @@ impl Writer {
     /// Publishes bytes from the front of `bytes`, as many as there is known room for, and doesn't
     /// wait.
     ///
-    /// Returns: how many bytes it took. 0 says that there is no room, that there are no `bytes`, or
-    /// that the pipe is closed. To tell the close, call `try_fill_with` with bytes: it is pending
-    /// if there is no room, and 0 if the pipe is closed.
+    /// Returns: how many bytes it took. All of them are published, unless this call saw the pipe
+    /// closed: then those of its last round are not. 0 says that there is no room, that there are
+    /// no `bytes`, or that the pipe is closed. To tell the close, call `try_fill_with` with bytes:
+    /// it is pending if there is no room, and 0 if the pipe is closed.
     /// Wakes: the reader, if it waits and a byte was published.
     pub fn try_fill(&mut self, bytes: &[u8]) -> usize
         ensures ran { Ran (Point.Writer (WritePoint.LookClosed (Purpose.Copy Form.Try)))

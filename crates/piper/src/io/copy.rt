@@ -29,11 +29,12 @@ pub enum Copied {
 /// Returns: `ToTheEnd` only at the reader's end; `UntilClosed` only if the writer saw its pipe
 /// closed. All bytes that were taken are published, unless the writer saw its pipe closed in this
 /// poll. If it did, the last bytes that were taken may be lost, whatever the poll returns. Once the
-/// writer saw its pipe closed, a poll takes no byte. The copy neither flushes nor closes the writer
-/// (not proved).
-/// Pending: a call of the reader or of the writer is pending; or this poll copied at least 64 bytes,
-/// and asked for another. If the reader was told of the end and the copy is pending, the writer
-/// wakes its task, or the copy has asked for another poll.
+/// writer saw its pipe closed, a poll takes no byte, and returns `UntilClosed` as soon as the reader
+/// lends one (the answer is not proved). The copy neither flushes nor closes the writer (not proved).
+/// Pending: a call of the reader or of the writer is pending: the task is registered there, or that
+/// call has asked for another poll. Or this poll copied at least 64 bytes, and asked for another. If
+/// the reader was told of the end and the copy is pending, the writer wakes its task, or the copy
+/// has asked for another poll.
 /// Errors: that of the reader or of the writer.
 pub fn poll_copy<R: AsyncBufRead, W: AsyncWrite>(
     cx: &mut Context<'_>,
