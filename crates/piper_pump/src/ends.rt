@@ -114,8 +114,7 @@ where
 
 impl<R, D, F> Outlet<'_, R, D, F>
 where
-    R: Wait + Threads + Clock + Eprint + AllocGlobal + Opens<F>,
-    R: Clone + Drop + Send + Sync + 'static,
+    R: Wait + Clock + Eprint + AllocGlobal + Opens<F>,
     D: Destination + Drop,
     F: NamedFile,
 {
@@ -291,8 +290,7 @@ where
 
 impl<R, D, F> Destination for Outlet<'_, R, D, F>
 where
-    R: Wait + Threads + Clock + Eprint + AllocGlobal + Opens<F>,
-    R: Clone + Drop + Send + Sync + 'static,
+    R: Wait + Clock + Eprint + AllocGlobal + Opens<F>,
     D: Destination + Drop,
     F: NamedFile,
 {

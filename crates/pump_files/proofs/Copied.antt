@@ -1,13 +1,12 @@
 -- A file that gets a copy is given further bytes, or none.
 use Rattle.std.proofs.Common.{◌≡◌, ℕ, true, false, List, ◌++◌, Option, Some, None, Result, Ok, Err, inl, inr, refl, sym, ap, subst, take, ◌∙◌}
-use Rattle.std.specs.Prelude.{string_bytes}
+use Rattle.std.specs.Prelude.{IfSome, string_bytes}
 use Rattle.std.specs.Io.KnownBytes.{append_known, Keeps, WriteAppends}
 use Rattle.std.proofs.KnownBytes.{Keeps-refl}
 use Rattle.std.specs.declared.io.Error.{Error}
 use Rattle.pump_files.specs.Copies.{IsCopy, SameSink}
 use Rattle.pump_files.specs.Files.{IsJust, Writes}
 use Rattle.pump_files.specs.Lines.{IsLossSaid}
-use Rattle.pump_files.specs.Losses.{IsUnsaid}
 use Rattle.pump_files.specs.declared.sinks.Sink.{Sink}
 
 just_more : (a b : Option (List ℕ)) (xs bs : List ℕ) → IsJust a xs → b ≡ append_known a bs → IsJust b (xs ++ bs)
@@ -26,7 +25,7 @@ known_keeps a b same = subst (Keeps a) (sym same) (Keeps-refl a)
 
 -- what is still to be said of it is said
 pub copied_said : {F : Type 0} (name written : F → Option (List ℕ)) (fails : F → Error → Type 0) (old new : Sink F) (m : List ℕ)
-    → new ≡ record old { unsaid = None } → ((e : Error) → IsUnsaid (string_bytes old.name) e old.unsaid → IsLossSaid (string_bytes old.name) e)
+    → new ≡ record old { unsaid = None } → IfSome old.unsaid (IsLossSaid (string_bytes old.name))
     → IsCopy name written fails m old → IsCopy name written fails m new
 copied_said {F} name written fails old new m same said copy =
     subst (λ (s : Sink F). IsCopy name written fails m s) (sym same) (record {
@@ -37,7 +36,7 @@ copied_said {F} name written fails old new m same said copy =
         before.1,
         elim before.2 [
           | inl told ↦ inl told
-          | inr left ↦ inl (said before.0 left)
+          | inr left ↦ inl (subst (λ o. IfSome o (IsLossSaid (string_bytes old.name))) left said)
         ],
       );
     })

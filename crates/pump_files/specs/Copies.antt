@@ -7,7 +7,6 @@ use Rattle.sha2.specs.Sha256.{sha256}
 use Rattle.sha2.specs.declared.Sha256.{Sha256}
 use Rattle.pump_files.specs.Files.{IsJust}
 use Rattle.pump_files.specs.Lines.{IsLossSaid, IsSumSaid}
-use Rattle.pump_files.specs.Losses.{IsUnsaid}
 use Rattle.pump_files.specs.declared.sinks.Sink.{Sink}
 use Rattle.pump_files.specs.declared.copies.Copies.{Copies}
 
@@ -21,7 +20,7 @@ pub record IsCopy {F : Type 0}
   pub named : IsJust (name sink.file) (string_bytes sink.name)
   pub got : sink.has_failed ≡ false → IsJust (written sink.file) passed
   pub failed : sink.has_failed ≡ true → (e : Error) × fails sink.file e
-      × (IsLossSaid (string_bytes sink.name) e ⊎ IsUnsaid (string_bytes sink.name) e sink.unsaid)
+      × (IsLossSaid (string_bytes sink.name) e ⊎ (sink.unsaid ≡ Some e))
 
 -- the names of a sink and of its file stay, whether it was given up, and what is still to be said
 pub record SameSink {F : Type 0} (name : F → Option (List ℕ)) (old new : Sink F) : Type 0 where

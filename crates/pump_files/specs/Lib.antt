@@ -5,7 +5,6 @@ pub mod Files
 pub mod Found
 pub mod Handle
 pub mod Lines
-pub mod Losses
 pub mod Made
 pub mod Pace
 pub mod Saying

@@ -2,7 +2,7 @@
 use Rattle.std.specs.Prelude.{◌≡◌, ℕ, Bool, true, List}
 use Rattle.std.specs.declared.io.Error.{Error}
 use Rattle.pump_files.specs.Saying.{IsSaid}
-use Rattle.pump_files.specs.declared.losses.Loss.{Loss}
+use Rattle.pump_files.specs.declared.sinks.Loss.{Loss}
 use Rattle.pump_files.specs.declared.sums.SumLine.{SumLine}
 
 -- it was said that the file of this name failed so, and gets no more

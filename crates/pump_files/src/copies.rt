@@ -11,9 +11,6 @@ use crate::saying::say;
 use crate::sinks::Sink;
 use crate::sums::SumLine;
 use sha2::{Digest, Sha256};
-use std::alloc::AllocGlobal;
-use std::marker::Send;
-use std::thread::Threads;
 use std::time::Clock;
 
 /// What is done with the bytes that the output took.
@@ -111,13 +108,7 @@ impl<'a, R: Clock + Eprint, F: NamedFile> Copies<'a, R, F> {
             None => count,
         }
     }
-}
 
-impl<R, F> Copies<'_, R, F>
-where
-    R: Clock + Threads + Eprint + AllocGlobal + Clone + Drop + Send + Sync + 'static,
-    F: NamedFile,
-{
     /// These bytes have passed. A file that can't be written is reported by its name, and gets no
     /// more; the others go on.
     pub fn keep(&mut self, bytes: &[u8])
@@ -179,7 +170,7 @@ fn keep_pace(clock: &impl Clock, pace: &mut Option<Pace>, count: usize)
 // Gives each file these bytes.
 fn give_all<R, F>(rt: &R, tees: &mut [Sink<F>], bytes: &[u8])
 where
-    R: Threads + Eprint + AllocGlobal + Clone + Drop + Send + Sync + 'static,
+    R: Eprint,
     F: NamedFile,
     ensures copies { (passed : List ℕ) → All (IsCopy F.name F.written F.fails passed) tees.old
         → All (IsCopy F.name F.written F.fails (passed ++ bytes.now)) tees.new }
@@ -193,7 +184,7 @@ where
 // Flushes each file.
 fn finish_all<R, F>(rt: &R, tees: &mut [Sink<F>])
 where
-    R: Threads + Eprint + AllocGlobal + Clone + Drop + Send + Sync + 'static,
+    R: Eprint,
     F: NamedFile,
     ensures copies { (passed : List ℕ) → All (IsCopy F.name F.written F.fails passed) tees.old
         → All (IsCopy F.name F.written F.fails passed) tees.new }

@@ -8,7 +8,6 @@ pub mod copies;
 pub mod files;
 pub mod found;
 pub mod handle;
-pub mod losses;
 pub mod made;
 pub mod names;
 pub mod pace;

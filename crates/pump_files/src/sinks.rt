@@ -1,6 +1,6 @@
 //! Files that are written. One is looked at by its name first, and opened and cut off once the input
 //! has given its first bytes.
-ghost use Rattle.std.specs.Prelude.{◌≡◌, ◌<◌, ◌++◌, ℕ, List, [], length, false, true, None, Ok, OnOk, IfOk, IfErr, string_bytes};
+ghost use Rattle.std.specs.Prelude.{◌≡◌, ◌<◌, ◌++◌, ◌⊎◌, ℕ, List, [], length, false, true, None, Some, IfSome, Ok, OnOk, IfOk, IfErr, string_bytes};
 ghost use Rattle.std.specs.Io.{WritesAtMost};
 ghost use Rattle.std.specs.Io.KnownBytes.{append_known};
 ghost use Rattle.piper_protocol.specs.Reported.{HasFailed, IsOfStd};
@@ -10,22 +10,20 @@ ghost use Rattle.pump_files.specs.Found.{IsFound};
 ghost use Rattle.pump_files.specs.AllOpen.{IsOpened};
 ghost use Rattle.pump_files.specs.Handle.{IsAnswerFor};
 ghost use Rattle.pump_files.specs.Lines.{IsLossSaid};
-ghost use Rattle.pump_files.specs.Losses.{IsUnsaid};
-ghost use Rattle.std.specs.declared.io.Error.{Error};
 ghost use Rattle.pump_files.specs.Steps.{GetsBy, IsAsLookedAt, NeedsFor, OpensBy};
 
 use crate::all_open::AllOpen;
 use crate::attributes::{Attributes, Kind};
 use crate::files::{NamedFile, Opens};
 use crate::found::Found;
-use crate::losses::Unsaid;
 use crate::made::{self, Made};
+use crate::names::Shown;
+use crate::saying::say;
 use piper_protocol::reported::reported;
-use std::alloc::{AllocGlobal, Global};
+use std::alloc::Global;
+use std::fmt::{Display, Formatter};
 use std::io::ErrorKind;
-use std::marker::Send;
-use std::thread::Threads;
-use std::{io, mem};
+use std::{fmt, io};
 
 /// What is said of a file that holds bytes, if such files are not taken.
 pub const HOLDS_BYTES: &str = "it holds bytes, which --force overwrites and --append keeps";
@@ -54,6 +52,24 @@ pub enum Step {
     Cut { all_open: AllOpen },
 }
 
+/// That a copy can't be written, and gets no more.
+#[derive(Clone, Copy)]
+pub struct Loss<'a> {
+    name: &'a str,
+    error: io::Error,
+}
+
+impl Display for Loss<'_> {
+    fn fmt<W: fmt::Write>(&self, f: &mut Formatter<W>) -> fmt::Result {
+        write!(
+            f,
+            "piper_pump: {}: {}; it gets no more",
+            Shown(self.name),
+            self.error
+        )
+    }
+}
+
 /// A file that is written.
 #[derive(Drop)]
 pub struct Sink<F: NamedFile> {
@@ -69,7 +85,7 @@ pub struct Sink<F: NamedFile> {
     /// Whether a write or a flush failed by which it was given a copy.
     pub has_failed: bool,
     /// How it failed, as long as that is still to be said.
-    pub unsaid: Option<Unsaid>,
+    pub unsaid: Option<io::Error>,
     pub file: F,
 }
 
@@ -184,11 +200,9 @@ impl<F: NamedFile> Sink<F> {
         }
     }
 
-    /// Writes all these bytes. If that fails, a thread reports so by the file's name, and the file
-    /// gets no more. If no thread is granted, or nobody reads reports now, the end reports it.
-    pub(crate) fn give<R>(&mut self, rt: &R, bytes: &[u8])
-    where
-        R: Threads + Eprint + AllocGlobal + Clone + Drop + Send + Sync + 'static,
+    /// Writes all these bytes. Where that fails, it reports so, once, by the file's name, and the
+    /// file gets no more. If nobody reads reports now, this one waits for the end.
+    pub(crate) fn give(&mut self, rt: &impl Eprint, bytes: &[u8])
         ensures copy { (passed : List ℕ) → IsCopy F.name F.written F.fails passed self.old
             → IsCopy F.name F.written F.fails (passed ++ bytes.now) self.new }
         ensures name { self.new.name ≡ self.old.name }
@@ -203,9 +217,7 @@ impl<F: NamedFile> Sink<F> {
     }
 
     /// Flushes the file, likewise. What is still to be said is said now, since all bytes have passed.
-    pub(crate) fn finish<R>(&mut self, rt: &R)
-    where
-        R: Threads + Eprint + AllocGlobal + Clone + Drop + Send + Sync + 'static,
+    pub(crate) fn finish(&mut self, rt: &impl Eprint)
         ensures copy { (passed : List ℕ) → IsCopy F.name F.written F.fails passed self.old
             → IsCopy F.name F.written F.fails passed self.new }
         ensures name { self.new.name ≡ self.old.name }
@@ -215,9 +227,7 @@ impl<F: NamedFile> Sink<F> {
         self.say_loss(rt);
     }
 
-    fn settle<R>(&mut self, rt: &R)
-    where
-        R: Threads + Eprint + AllocGlobal + Clone + Drop + Send + Sync + 'static,
+    fn settle(&mut self, rt: &impl Eprint)
         ensures copy { (passed : List ℕ) → IsCopy F.name F.written F.fails passed self.old
             → IsCopy F.name F.written F.fails passed self.new }
         ensures name { self.new.name ≡ self.old.name }
@@ -232,26 +242,27 @@ impl<F: NamedFile> Sink<F> {
         }
     }
 
-    fn give_up<R>(&mut self, rt: &R, error: io::Error)
-    where
-        R: Threads + Eprint + AllocGlobal + Clone + Drop + Send + Sync + 'static,
+    fn give_up(&mut self, rt: &impl Eprint, error: io::Error)
         ensures same { self.new ≡ record self.old { has_failed = true; unsaid = self.new.unsaid } }
-        ensures unsaid { IsUnsaid (string_bytes self.old.name) error self.new.unsaid }
+        ensures said { IsLossSaid (string_bytes self.old.name) error ⊎ (self.new.unsaid ≡ Some error) }
     {
         self.has_failed = true;
-        self.unsaid = Some(Unsaid::of(rt, self.name.as_str(), error));
+        let name = self.name.as_str();
+        if !say(rt, Loss { name, error }) {
+            self.unsaid = Some(error);
+        }
     }
 
     // Says what is still to be said.
-    fn say_loss<R: Threads + Eprint>(&mut self, rt: &R)
+    fn say_loss(&mut self, rt: &impl Eprint)
         ensures same { self.new ≡ record self.old { unsaid = None } }
-        ensures said { (e : Error) → IsUnsaid (string_bytes self.old.name) e self.old.unsaid
-            → IsLossSaid (string_bytes self.old.name) e }
+        ensures said { IfSome self.old.unsaid (IsLossSaid (string_bytes self.old.name)) }
     {
-        match mem::replace(&mut self.unsaid, None) {
-            Some(unsaid) => unsaid.say(rt, self.name.as_str()),
-            None => {}
+        if let Some(error) = self.unsaid {
+            let name = self.name.as_str();
+            let _ = say(rt, Loss { name, error });
         }
+        self.unsaid = None;
     }
 
     // Cuts off what it holds, unless what is written follows that.
