@@ -78,8 +78,19 @@ took=$((($(date +%s%N) - begun) / 1000000))
 note "100,000 bytes at 100 KiB a second took $took ms" test "$took" -ge 900 -a "$took" -le 5000
 
 try_silent 'a part of a file, in each size' 30 0 'for skip in 0 1 999 65536 65537 5000000; do for most in 0 1 65536 999999 9999999; do $pump --skip $skip --stop-after $most < file | cmp - <(tail -c +$((skip + 1)) file | head -c $most) || exit 1; done; done'
-try 'how much is done of a part' 20 0 '; 100%$' '$pump --progress --skip 1000 --stop-after 3m -i file > /dev/null'
+try 'how much is done of a part' 20 0 '; 100%; ' '$pump --progress --skip 1000 --stop-after 3m -i file > /dev/null'
 try_silent 'a part on one thread' 20 0 '$alone prlimit --nproc=1 $pump --skip 1000 --stop-after 100000 < file | cmp - <(tail -c +1001 file | head -c 100000) && exit ${PIPESTATUS[0]}'
+
+# The input without its option.
+try_silent 'a file without an option' 10 0 '$pump file | cmp - file && exit ${PIPESTATUS[0]}'
+try_silent 'standard input by its dash' 10 0 '$pump - < file | cmp - file && exit ${PIPESTATUS[0]}'
+try_silent 'a file whose name begins with a dash' 10 0 'cp file ./-n; $pump -- -n | cmp - file && exit ${PIPESTATUS[0]}'
+try 'a second file' 10 2 "unexpected argument 'file'" 'echo old > h; $pump --force -o h file file'
+try 'a file with and without its option' 10 2 "the argument '.FILE.' cannot be used with '--input <FILE>'" '$pump --force -o h file -i file'
+note 'what the file held stays' test "$(cat h)" = old
+try 'a file without an option that is not there' 10 3 '^piper_pump: no/such/file: No such' '$pump --force -o h no/such/file'
+try 'an input without an option that is the output' 10 4 'it is the input, another output' '$pump --force h -o h'
+note 'what the file held stays' test "$(cat h)" = old
 
 # What is reported.
 try_silent 'nothing is told unasked' 10 0 '(lines 1000; sleep 1; lines 1000) | $pump > /dev/null'
@@ -93,6 +104,54 @@ try 'an input that is slow' 20 0 '0% full; full 0.0 s, empty [1-9]' '(sleep 2; l
 try 'how much is done' 20 0 '; [1-9][0-9]%' '$pump --progress -i file --rate 3m > /dev/null'
 try 'how much is done of a size' 20 0 '; [45][0-9]%' '(lines 1000; sleep 1) | $pump --progress --size 2000 > /dev/null'
 
+try 'how long it took' 20 0 '^1.9 KiB in [23]\.[0-9] s, ' '(lines 1000; sleep 2; lines 1000) | $pump --progress > /dev/null'
+try 'how long the rest takes' 20 0 '; [1-9][0-9]%, [0-9.]* s left; ' '$pump --progress -i file --rate 3m > /dev/null'
+try 'a name in progress' 10 0 '^to the shelf: 4.7 MiB in ' '$pump --progress -N "to the shelf" file > /dev/null'
+try 'a name in progress that controls a terminal' 10 0 "^\$'a.033b': 4.7 MiB" "\$pump --progress --name \$'a\\033b' file > /dev/null"
+try 'progress in percent' 20 0 '^100$' '$pump -n --rate 3m file > /dev/null'
+note 'each of its lines is a number of percent that grows' awk '!/^[0-9]+$/ || $1 < last || $1 > 100 { bad = 1 } { last = $1 } END { exit bad || NR < 3 }' told
+try 'progress in bytes' 20 0 '^5000000$' 'lines 5000000 | $pump --numeric > /dev/null'
+try_silent 'a number that is told quietly' 10 0 '$pump -n --quiet file > /dev/null'
+try 'an interval' 20 0 '^1.9 KiB' '(lines 1000; sleep 2.5; lines 1000) | $pump --progress --interval 1 > /dev/null'
+count=$(wc -l < told)
+note "in two seconds and a half $count lines" test "$count" -eq 3
+for seconds in 0 3601 0.5 x ''; do
+    try "an interval of '$seconds'" 10 2 "for '--interval <N>': an interval is a number of seconds" "echo old > h; \$pump --force --progress --interval '$seconds' -i file -o h"
+    note 'what the file held stays' test "$(cat h)" = old
+done
+
+# Progress that nobody reads: all bytes pass, and it does not hold up the end.
+cat > unread.py <<'PYTHON'
+import os, subprocess, sys, threading, time
+near, far = os.pipe()
+os.set_blocking(far, False)
+try:
+    while True:
+        os.write(far, b"x" * 4096)
+except BlockingIOError:
+    pass
+os.set_blocking(far, True)
+child = subprocess.Popen([os.environ["pump"]] + sys.argv[1:], stdin=subprocess.PIPE, stdout=subprocess.PIPE, stderr=far)
+os.close(far)
+def give():
+    for _ in range(4):
+        child.stdin.write(b"22 letters and an end..\n" * 20000)
+        child.stdin.flush()
+        time.sleep(0.4)
+    child.stdin.close()
+threading.Thread(target=give, daemon=True).start()
+begun = time.monotonic()
+got = len(child.stdout.read(4 * 20000 * 24))
+took = time.monotonic() - begun
+assert got == 4 * 20000 * 24 and took < 4, (got, took)
+sys.exit(child.wait(2))
+PYTHON
+try_silent 'progress that nobody reads' 10 0 'python3 unread.py --progress'
+try_silent 'a number that nobody reads' 10 0 'python3 unread.py -n --interval 1'
+try 'a failed copy is told of at once' 10 7 '' '(lines 1000; sleep 1; test -s told1 && lines 1000) | $pump --tee /dev/full 2> told1 | cmp - <(lines 1000; lines 1000) && exit ${PIPESTATUS[1]}'
+note 'it is told of once' test "$(grep -c 'it gets no more$' told1)" -eq 1
+try 'a failed copy on one thread' 10 7 '^piper_pump: /dev/full: No space.*; it gets no more$' '$alone prlimit --nproc=1 $pump --tee /dev/full < file > /dev/null'
+
 # A terminal that is too narrow, and one of whose lines nobody reads any more.
 cat > terminal.py <<'PYTHON'
 import os, pty, subprocess, sys
@@ -102,7 +161,7 @@ os.close(far)
 child.stdin.write(b"a line\n")
 child.stdin.flush()
 drawn = os.read(near, 1000)
-assert drawn.startswith(b"\r\x1b[?7l7 B, ") and drawn.endswith(b"\x1b[?7h"), drawn
+assert drawn.startswith(b"\r\x1b[?7l7 B in ") and drawn.endswith(b"\x1b[?7h"), drawn
 child.stdin.close()
 assert child.wait() == 0
 PYTHON

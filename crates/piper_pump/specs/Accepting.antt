@@ -2,7 +2,7 @@
 use Rattle.std.specs.Prelude.{◌≡◌, ◌⊎◌, ℕ, List, Option, IsSomeAnd, codes}
 use Rattle.std.specs.List.{Any}
 use Rattle.pump_words.specs.Arguments.{IsSizeOf, text_in}
-use Rattle.pump_words.specs.Plan.{IsLevelOf, IsPercent, IsRead, IsSkipOf, IsTotalOf, WritesNone}
+use Rattle.pump_words.specs.Plan.{IsLevelOf, IsPauseOf, IsPercent, IsRead, IsSeconds, IsSkipOf, IsTotalOf, WritesNone}
 use Rattle.pump_words.specs.declared.arguments.Arguments.{Arguments}
 use Rattle.piper_pump.specs.Ended.{IsOfOption}
 use Rattle.piper_pump.specs.Streams.{IsOfClosed}
@@ -18,6 +18,7 @@ pub record HasRead (arguments : Arguments) (accepted : Accepted) : Type 0 where
   pub total : IsRead IsTotalOf (text_in arguments.texts.size) accepted.total
   pub skip : IsSkipOf (text_in arguments.texts.skip) accepted.skip
   pub most : IsRead IsTotalOf (text_in arguments.texts.stop_after) accepted.most
+  pub pause : IsPauseOf (text_in arguments.texts.interval) accepted.pause
 
 -- the text after this option writes no number in this way, which is told
 abbrev pub RefusesNumber :
@@ -38,5 +39,6 @@ IsRefusedFor arguments streams e =
     ⊎ RefusesNumber (codes "--start-at <N>") IsPercent (text_in arguments.texts.start_at) e
     ⊎ RefusesNumber (codes "--skip <N>") IsTotalOf (text_in arguments.texts.skip) e
     ⊎ RefusesNumber (codes "--stop-after <N>") IsTotalOf (text_in arguments.texts.stop_after) e
+    ⊎ RefusesNumber (codes "--interval <N>") IsSeconds (text_in arguments.texts.interval) e
     ⊎ RefusesCopy arguments e
     ⊎ IsOfClosed arguments.texts streams e

@@ -3,7 +3,7 @@ use Rattle.std.specs.Prelude.{◌≡◌, ◌⊎◌, [], ℕ, true, false, List, 
 use Rattle.std.specs.declared.io.Error.{Error}
 use Rattle.piper_transfer.specs.declared.both_sides.Sizes.{Sizes}
 use Rattle.clap.specs.Words.{Text, fault_of, first_of, one_of}
-use Rattle.pump_words.specs.Arguments.{IsSizeOf, ShowsAsAsked, capacity_text, chunk_text, pump_command, said_by}
+use Rattle.pump_words.specs.Arguments.{IsSizeOf, ShowsAsAsked, capacity_text, chunk_text, input_of, pump_command, said_by}
 use Rattle.piper_pump.specs.Asked.{HaveGot}
 use Rattle.piper_pump.specs.Ends.{Awaits, IsAwaited}
 use Rattle.piper_pump.specs.Opening.{AreFoundApart, HoldNothing, ReadsNamed, WritesNamed}
@@ -11,9 +11,10 @@ use Rattle.pump_files.specs.Pace.{HasRate}
 use Rattle.piper_pump.specs.Written.{HaveNamed}
 use Rattle.pump_files.specs.declared.attributes.Attributes.{Attributes}
 use Rattle.pump_files.specs.declared.sinks.Sink.{Sink}
-use Rattle.pump_words.specs.Plan.{IsLevelOf, IsOfStream, IsRead, IsSkipOf, IsTotalOf, KnowsTotal}
+use Rattle.pump_words.specs.Plan.{IsLevelOf, IsOfStream, IsPauseOf, IsRead, IsSkipOf, IsTotalOf, KnowsTotal}
 use Rattle.piper_pump.specs.declared.ends.Inlet.{Inlet}
 use Rattle.piper_pump.specs.declared.ends.Outlet.{Outlet}
+use Rattle.piper_pump.specs.declared.progress.Watched.{Watched}
 use Rattle.piper_pump.specs.declared.running.Plan.{Plan}
 use Rattle.piper_pump.specs.declared.section.Section.{Section}
 use Rattle.piper_pump.specs.declared.streams.Streams.{Streams}
@@ -48,6 +49,13 @@ pub record AreSizedBy (words : List Text) (sizes : Sizes) : Type 0 where
   pub capacity : IsSizeOf (capacity_text words) sizes.capacity
   pub chunk : IsSizeOf (chunk_text words) sizes.chunk
 
+-- progress is told as a number exactly if these words say so
+pub record TellsNumber (words : List Text) (watched : Watched) : Type 0 where
+  pub told : one_of (codes "numeric") (said_by words) ≡ Some (codes "true")
+      → watched.tells_number ≡ true
+  pub untold : one_of (codes "numeric") (said_by words) ≡ Some (codes "false")
+      → watched.tells_number ≡ false
+
 -- the numbers of the plan are those that these words ask for
 pub record HasNumbers (words : List Text) (streams : Streams) (plan : Plan) : Type 0 where
   pub sizes : AreSizedBy words plan.sizes
@@ -58,6 +66,8 @@ pub record HasNumbers (words : List Text) (streams : Streams) (plan : Plan) : Ty
   pub shown : ShowsAsAsked words plan.asked
   pub watched : IfSome plan.asked (λ w. (w.capacity ≡ plan.sizes.capacity) × (w.redraws ≡ streams.redraws))
   pub total : IfSome plan.asked (λ w. KnowsTotal (after (codes "size") words) w.total)
+  pub paused : IfSome plan.asked (λ w. IsPauseOf (after (codes "interval") words) w.pause)
+  pub number : IfSome plan.asked (λ w. TellsNumber words w)
 
 -- what is read and written is what these words name, or a standard stream that is open; the system was
 -- asked of each, and no two are one file; and none that is written held a byte, if those are spared
@@ -69,11 +79,11 @@ pub record HasFiles {R S D F : Type 0}
     (plan : Plan)
     (i j : Inlet S F)
     (o p : Outlet R D F) : Type 0 where
-  pub read : ReadsNamed name (after (codes "input") words) i j
+  pub read : ReadsNamed name (input_of words) i j
   pub written : WritesNamed name (after (codes "output") words) plan.places.output o.drain p.drain
-  pub has_input : IsOfStream (after (codes "input") words) → streams.has_input ≡ true
+  pub has_input : IsOfStream (input_of words) → streams.has_input ≡ true
   pub has_output : IsOfStream (after (codes "output") words) → streams.has_output ≡ true
-  pub apart : AreFoundApart answers (after (codes "input") words) (after (codes "output") words)
+  pub apart : AreFoundApart answers (input_of words) (after (codes "output") words)
       plan.places j p.copies.tees.items
   pub spared : SparesBytes words
       → HoldNothing (after (codes "output") words) plan.places.output p.copies.tees.items

@@ -12,7 +12,7 @@ use crate::ended::{Ended, Unopened, not_taken};
 use crate::streams::Streams;
 use piper_transfer::Sizes;
 use pump_words::arguments::{Arguments, Texts};
-use pump_words::plan::{named, numbers_of, refuse_dashes};
+use pump_words::plan::{named, numbers_of, pause_of, refuse_dashes};
 use std::alloc::Global;
 use std::io;
 
@@ -26,6 +26,8 @@ pub struct Accepted {
     /// How many bytes of the input are left out, and how many are read after those at most.
     pub skip: u64,
     pub most: Option<u64>,
+    /// How many milliseconds it is from one line of progress to the next.
+    pub pause: u64,
 }
 
 /// Reads the numbers after the options. A copy to `-` is refused, and a standard stream that was
@@ -48,6 +50,10 @@ pub fn accept(alloc: Global, arguments: &Arguments<'_>, streams: Streams) -> Res
         Ok(numbers) => numbers,
         Err(word) => return Err(not_taken(alloc, word)),
     };
+    let pause = match pause_of(arguments.texts) {
+        Ok(pause) => pause,
+        Err(word) => return Err(not_taken(alloc, word)),
+    };
     match refuse_dashes(arguments.tees.as_slice()) {
         Ok(()) => {}
         Err(word) => return Err(not_taken(alloc, word)),
@@ -63,6 +69,7 @@ pub fn accept(alloc: Global, arguments: &Arguments<'_>, streams: Streams) -> Res
         total: numbers.total,
         skip: numbers.skip,
         most: numbers.most,
+        pause,
     })
 }
 

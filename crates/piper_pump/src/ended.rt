@@ -171,6 +171,8 @@ impl Ended {
 pub struct EndNames {
     pub input: Option<String>,
     pub output: Option<String>,
+    /// What begins each line of progress.
+    pub progress: Option<String>,
 }
 
 impl EndNames {
@@ -179,6 +181,7 @@ impl EndNames {
         EndNames {
             input: None,
             output: None,
+            progress: None,
         }
     }
 }
@@ -190,9 +193,9 @@ pub struct Why<'a> {
     names: &'a EndNames,
 }
 
-/// What comes before an error of a file: its name.
+/// What comes before an error of a file, or before a line of progress: a name.
 #[derive(Clone, Copy)]
-struct Prefix<'a>(Option<&'a str>);
+pub(crate) struct Prefix<'a>(pub(crate) Option<&'a str>);
 
 impl Display for Prefix<'_> {
     fn fmt<W: fmt::Write>(&self, f: &mut Formatter<W>) -> fmt::Result {
@@ -203,7 +206,7 @@ impl Display for Prefix<'_> {
     }
 }
 
-fn name_in(name: &Option<String>) -> Option<&str> {
+pub(crate) fn name_in(name: &Option<String>) -> Option<&str> {
     name.as_ref().map(|name| name.as_str())
 }
 

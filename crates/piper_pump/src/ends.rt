@@ -12,16 +12,15 @@ ghost use Rattle.piper_pump.specs.Ends.{IsRefused, IsStreamFlushed, OutletFails,
 use crate::ended::Ended;
 use crate::outcome::{Failure, Outcome};
 use crate::outputs::open_outputs;
-use crate::progress::{Progress, Watched};
-use piper_transfer::{
-    Destination, Meter, Source, TransferError, flush_patiently, grants_thread, is_lasting,
-};
+use crate::progress::{Progress, Watched, begin_watch};
+use piper_transfer::{Destination, Meter, Source, TransferError, flush_patiently, is_lasting};
 use pump_files::copies::Copies;
 use pump_files::files::{NamedFile, Opens};
 use pump_files::sinks::Sink;
-use std::alloc::AllocGlobal;
+use std::alloc::{AllocGlobal, Global};
 use std::io;
-use std::sync::Wait;
+use std::marker::Send;
+use std::sync::{Arc, Wait};
 use std::thread::Threads;
 use std::time::Clock;
 
@@ -58,7 +57,7 @@ pub struct Outlet<'a, R: Wait + Clock + Eprint, D: Destination + Drop, F: NamedF
     pub copies: Copies<'a, R, F>,
     pub opening: Opening,
     /// Where a failure of the drain is reported at once.
-    pub outcome: &'a Outcome,
+    pub outcome: &'a Arc<Outcome, Global>,
     pub meter: &'a Meter,
     /// What is reported between two writes, where no thread is granted that could report it.
     pub progress: Option<Progress>,
@@ -66,21 +65,22 @@ pub struct Outlet<'a, R: Wait + Clock + Eprint, D: Destination + Drop, F: NamedF
 
 impl<R, D, F> Outlet<'_, R, D, F>
 where
-    R: Wait + Threads + Clock + Eprint,
+    R: Wait + Threads + Clock + Eprint + Clone + Drop + Send + Sync + 'static,
     D: Destination + Drop,
     F: NamedFile,
 {
-    /// What a thread that watches is to report. Where none is granted, the output reports it.
-    pub(crate) fn ask_progress(&mut self, asked: Option<Watched>) -> Option<Watched>
+    /// Has a thread report what is asked for. If none is granted, the output reports it.
+    pub(crate) fn ask_progress(&mut self, asked: Option<Watched>)
         ensures { (self.new.drain ≡ self.old.drain) × (self.new.copies ≡ self.old.copies)
             × (self.new.opening ≡ self.old.opening) }
     {
-        let watched = asked?;
-        if grants_thread(self.rt) {
-            return Some(watched);
+        let Some(watched) = asked else {
+            return;
+        };
+        if !begin_watch(self.rt, self.outcome, watched) {
+            let name = self.outcome.take_name(self.rt);
+            self.progress = Some(Progress::new(self.rt, watched, name));
         }
-        self.progress = Some(Progress::new(self.rt, watched));
-        None
     }
 
     /// Reports the last line of progress, if the output reports it, and the sum of what passed, if
@@ -105,8 +105,9 @@ where
         ensures { (self.new.drain ≡ self.old.drain) × (self.new.copies ≡ self.old.copies)
             × (self.new.opening ≡ self.old.opening) }
     {
-        if let Some(progress) = &mut self.progress {
-            progress.report(self.rt, self.meter, true);
+        match &mut self.progress {
+            Some(progress) => progress.report(self.rt, self.meter, true),
+            None => self.outcome.over.end(self.rt),
         }
     }
 }

@@ -6,8 +6,9 @@ ghost use Rattle.piper_pump.specs.Ended.{IsOfFailure};
 ghost use Rattle.piper_pump.specs.Outcome.{EndsBy, IsOfRun, IsTold, OutputFailed, ReportsRun};
 
 use crate::ended::{EndNames, Ended};
+use crate::progress::EndSignal;
 use piper_protocol::reported::reported;
-use piper_transfer::TransferError;
+use piper_transfer::{Meter, TransferError};
 use std::alloc::{AllocGlobal, Global};
 use std::process::ExitCode;
 use std::sync::{Arc, Condvar, Mutex, Wait};
@@ -56,6 +57,9 @@ pub struct Outcome {
     reported: Mutex<Told>,
     changed: Condvar,
     names: Mutex<EndNames>,
+    /// What the run has done so far, and whether that is over, for who reports its progress.
+    pub(crate) meter: Meter,
+    pub(crate) over: EndSignal,
 }
 
 impl Failure {
@@ -109,12 +113,19 @@ impl Outcome {
             reported: Mutex::new(Told::Nothing),
             changed: Condvar::new(),
             names: Mutex::new(EndNames::none()),
+            meter: Meter::new(),
+            over: EndSignal::new(),
         }
     }
 
     /// What is read and written is named so, where an error of it is said.
     pub(crate) fn name(&self, rt: &impl Wait, names: EndNames) {
         *self.names.lock(rt) = names;
+    }
+
+    /// What begins each line of progress, which is no more known here then.
+    pub(crate) fn take_name(&self, rt: &impl Wait) -> Option<String> {
+        mem::replace(&mut self.names.lock(rt).progress, None)
     }
 
     /// The same, for two threads.

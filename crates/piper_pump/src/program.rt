@@ -7,7 +7,7 @@ use crate::outcome::Outcome;
 use crate::running::run;
 use crate::section::Section;
 use crate::streams::Streams;
-use piper_transfer::{Destination, Meter, Source};
+use piper_transfer::{Destination, Source};
 use pump_files::copies::Copies;
 use pump_files::files::{NamedFile, Opens};
 use std::alloc::{AllocGlobal, Global};
@@ -45,20 +45,19 @@ pub fn run_and_report<R, F, S, D>(
 )
 where
     R: Wait + Threads + Clock + RandomSource + AllocGlobal + Files + Opens<F>,
-    R: Eprint + Clone + Drop + Send + Sync,
+    R: Eprint + Clone + Drop + Send + Sync + 'static,
     F: NamedFile + Send,
     S: Source + Send + Drop,
     D: Destination + Drop,
 {
     let mut input: Section<Inlet<S, F>> = Section::whole(Inlet::Standard(source));
-    let meter = Meter::new();
     let mut output = Outlet {
         rt: &rt,
         drain: Drain::Standard(dest),
         copies: Copies::new(&rt, Vec::new(rt.alloc())),
         opening: Opening::Awaited { takes_held: false },
         outcome: &outcome,
-        meter: &meter,
+        meter: &outcome.meter,
         progress: None,
     };
     let ended = run(&rt, line.as_slice(), &mut input, &mut output, streams);

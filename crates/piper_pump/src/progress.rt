@@ -1,69 +1,84 @@
 //! Lines on standard error that report how far a transfer is.
-ghost use Rattle.std.specs.Prelude.{◌≡◌, ◌≤◌, ◌-◌, ◌*◌, ◌/◌, ◌^◌, ◌↔◌, min, max, IsErrAnd, IsSome, IsSomeAnd, IsTrue, Result, Some};
+ghost use Rattle.std.specs.Prelude.{◌≡◌, ◌≤◌, ◌-◌, ◌*◌, ◌/◌, ◌^◌, ◌↔◌, min, max, IfSome, IsErrAnd, IsSome, IsSomeAnd, IsTrue, None, Result, Some};
 ghost use Rattle.std.specs.Duration.{as_nanos};
 ghost use Rattle.std.specs.declared.io.Error.{Error};
 ghost use Rattle.piper_protocol.specs.Reported.{IsOfStd};
 ghost use Rattle.piper_transfer.specs.Transfer.{IsLasting};
 ghost use Rattle.pump_files.specs.Pace.{IsOfClock};
 
+use crate::ended::{Prefix, name_in};
+use crate::outcome::Outcome;
+use crate::program::{Nothing, STACK};
 use piper_protocol::reported::reported;
 use piper_transfer::{Meter, is_lasting};
-use pump_words::lines::{Done, Line};
+use pump_words::lines::{Done, Fill, Line};
+use std::alloc::{AllocError, Global};
 use std::io;
-use std::sync::{Condvar, Mutex, Wait};
+use std::marker::Send;
+use std::sync::{Arc, Condvar, Mutex, Wait};
+use std::thread::{Builder, Threads};
 use std::time::{Clock, Duration, Instant};
-
-/// How many milliseconds it is from one line to the next.
-const PAUSE: u64 = 250;
 
 /// The longest time that is reported as left, in milliseconds: 99 hours. A longer one is a guess.
 const LONGEST: u128 = 356_400_000;
 
-/// Whether what is watched is over. Another thread may wait for that.
+/// For how many milliseconds the end waits for the last line.
+const GRACE: u64 = 200;
+
+/// How far the thread is that watches a transfer.
+#[derive(Clone, Copy)]
+enum Stage {
+    /// The transfer is under way.
+    Watching,
+    /// It is over.
+    Over,
+    /// Nobody watches it, or the last line was printed.
+    Told,
+}
+
+/// Whether what is watched is over, and that was reported. Other threads may wait for that.
 #[derive(Drop)]
 pub struct EndSignal {
-    is_over: Mutex<bool>,
+    stage: Mutex<Stage>,
     changed: Condvar,
 }
 
-/// What came of something that is watched, once it was reported to be over.
-pub struct Reported<T> {
-    value: T,
-}
-
 impl EndSignal {
+    /// Nobody watches yet.
     pub fn new() -> EndSignal {
         EndSignal {
-            is_over: Mutex::new(false),
+            stage: Mutex::new(Stage::Told),
             changed: Condvar::new(),
         }
     }
 
-    /// Reports that it is over, and hands on what came of it.
-    pub fn report<T>(&self, rt: &impl Wait, value: T) -> Reported<T>
-        ensures { result.value ≡ value }
-    {
-        *self.is_over.lock(rt) = true;
+    fn turn(&self, rt: &impl Wait, stage: Stage) {
+        *self.stage.lock(rt) = stage;
         self.changed.notify_all();
-        Reported { value }
+    }
+
+    /// Reports that it is over, and waits for the last line, for at most a fifth of a second: the
+    /// end does not wait for who reads standard error.
+    pub(crate) fn end(&self, rt: &(impl Wait + Clock)) {
+        let mut stage = self.stage.lock(rt);
+        if matches!(*stage, Stage::Told) {
+            return;
+        }
+        *stage = Stage::Over;
+        self.changed.notify_all();
+        let grace = Duration::from_millis(GRACE);
+        let _ = self
+            .changed
+            .wait_timeout_while(rt, stage, grace, |stage| !matches!(stage, Stage::Told));
     }
 
     // Waits until it is over, or the time is up. Returns whether it is over.
     fn wait(&self, rt: &(impl Wait + Clock), pause: Duration) -> bool {
-        let held = self.is_over.lock(rt);
-        let (held, _) = self
+        let stage = self.stage.lock(rt);
+        let (stage, _) = self
             .changed
-            .wait_timeout_while(rt, held, pause, |is_over| !*is_over);
-        *held
-    }
-}
-
-impl<T> Reported<T> {
-    pub fn into_inner(self) -> T
-        ensures { result ≡ self.value }
-    {
-        let Reported { value } = self;
-        value
+            .wait_timeout_while(rt, stage, pause, |stage| !matches!(stage, Stage::Over));
+        matches!(*stage, Stage::Over)
     }
 }
 
@@ -76,12 +91,25 @@ pub struct Watched {
     pub total: Option<u64>,
     /// Whether each line takes the place of the one before, as on a terminal.
     pub redraws: bool,
+    /// Whether a number is reported in place of a line.
+    pub tells_number: bool,
+    /// How many milliseconds it is from one line to the next.
+    pub pause: u64,
+}
+
+/// How many bytes were moved, and how many in a second.
+#[derive(Clone, Copy)]
+struct Moved {
+    bytes: u64,
+    rate: u64,
 }
 
 /// What was reported last, from which the next line goes on.
-#[derive(Clone, Copy)]
+#[derive(Drop)]
 pub struct Progress {
     watched: Watched,
+    /// What begins each line.
+    name: Option<String>,
     begun: Option<Instant>,
     reported: Option<Instant>,
     bytes: u64,
@@ -91,18 +119,39 @@ pub struct Progress {
     is_unread: bool,
 }
 
-/// Prints a line four times a second until the transfer is over, and then one of the whole. Where
-/// nobody reads them any more, it prints no more. A line that standard error does not take at once is
-/// left out: the end of the program does not wait for who reads it.
-pub fn watch<R>(rt: &R, meter: &Meter, watched: Watched, over: &EndSignal)
+/// Has a thread of its own report the transfer until it is over. It is not joined, so that a line
+/// which standard error does not take holds up nobody else. Returns whether a thread was granted.
+pub fn begin_watch<R>(rt: &R, outcome: &Arc<Outcome, Global>, watched: Watched) -> bool
+where
+    R: Wait + Threads + Clock + Eprint + Clone + Drop + Send + Sync + 'static,
+{
+    let cloned: Result<R, AllocError> = rt.clone();
+    let (Ok(runtime), Ok(theirs)) = (cloned, Arc::try_clone(outcome)) else {
+        return false;
+    };
+    outcome.over.turn(rt, Stage::Watching);
+    let started = Builder::new()
+        .stack_size(STACK)
+        .spawn_with(rt, Nothing, move || watch(&runtime, &theirs, watched));
+    if started.is_err() {
+        outcome.over.turn(rt, Stage::Told);
+        return false;
+    }
+    true
+}
+
+// Prints a line after each pause until the transfer is over, and then one of the whole. Where nobody
+// reads them any more, it prints no more.
+fn watch<R>(rt: &R, outcome: &Outcome, watched: Watched)
 where
     R: Wait + Clock + Eprint,
 {
-    let mut progress = Progress::new(rt, watched);
+    let mut progress = Progress::new(rt, watched, outcome.take_name(rt));
     for _ in rt.forever() {
-        let is_over = over.wait(rt, Duration::from_millis(PAUSE));
-        progress.report(rt, meter, is_over);
+        let is_over = outcome.over.wait(rt, Duration::from_millis(watched.pause));
+        progress.report(rt, &outcome.meter, is_over);
         if is_over || progress.is_unread {
+            outcome.over.turn(rt, Stage::Told);
             return;
         }
     }
@@ -110,7 +159,7 @@ where
 
 impl Progress {
     /// Nothing is reported yet.
-    pub fn new(clock: &impl Clock, watched: Watched) -> Progress
+    pub fn new(clock: &impl Clock, watched: Watched, name: Option<String>) -> Progress
         ensures watched { result.watched ≡ watched }
         ensures begun { IsOfClock result.begun }
         ensures reported { result.reported ≡ result.begun }
@@ -119,6 +168,7 @@ impl Progress {
         let now = reported(Instant::now(clock)).ok();
         Progress {
             watched,
+            name,
             begun: now,
             reported: now,
             bytes: 0,
@@ -127,8 +177,7 @@ impl Progress {
         }
     }
 
-    /// Prints a line if the last one was printed a quarter of a second ago, where no other thread
-    /// does that.
+    /// Prints a line if the pause since the last one is over, where no other thread does that.
     pub fn report_if_due<R: Wait + Clock + Eprint>(&mut self, rt: &R, meter: &Meter)
         ensures watched { self.new.watched ≡ self.old.watched }
         ensures begun { self.new.begun ≡ self.old.begun }
@@ -137,7 +186,7 @@ impl Progress {
             Some(reported) => reported.elapsed(rt).unwrap_or(Duration::ZERO),
             None => Duration::ZERO,
         };
-        if Duration::from_millis(PAUSE) <= since && !self.is_unread {
+        if Duration::from_millis(self.watched.pause) <= since && !self.is_unread {
             self.report(rt, meter, false);
         }
     }
@@ -157,20 +206,49 @@ impl Progress {
         } else {
             (bytes.saturating_sub(self.bytes), self.reported)
         };
-        let rate = rate(moved, elapsed(rt, since));
+        let rate = rate(moved, elapsed(rt, since, self.watched.pause));
         self.average = Some(average(self.average, rate));
-        let held = meter.input.bytes().saturating_sub(bytes);
+        let answer = if self.watched.tells_number {
+            reported(eprintln!(rt; "{}", number_of(self.watched.total, bytes)))
+        } else {
+            self.print(rt, meter, Moved { bytes, rate }, is_last)
+        };
+        self.is_unread = is_unread(&answer);
+        self.bytes = bytes;
+        self.reported = reported(Instant::now(rt)).ok();
+    }
+
+    // Prints a line, or draws it over the one before: then a terminal that is too narrow cuts it off.
+    fn print<R: Wait + Clock + Eprint>(
+        &self,
+        rt: &R,
+        meter: &Meter,
+        moved: Moved,
+        is_last: bool,
+    ) -> io::Result<()>
+        ensures { IsOfStd result }
+    {
+        let (before, after) = match (self.watched.redraws, is_last) {
+            (false, _) => ("", "\n"),
+            (true, false) => ("\r\u{1b}[?7l", "\u{1b}[K\u{1b}[?7h"),
+            (true, true) => ("\r\u{1b}[?7l", "\u{1b}[K\u{1b}[?7h\n"),
+        };
+        let name = Prefix(name_in(&self.name));
         let line = Line {
-            bytes,
-            rate,
+            bytes: moved.bytes,
+            spent: elapsed(rt, self.begun, 0),
+            rate: moved.rate,
+        };
+        let held = meter.input.bytes().saturating_sub(moved.bytes);
+        let fill = Fill {
             percent: percent(held, self.watched.capacity as u64),
             full: meter.input.waited(rt),
             empty: meter.output.waited(rt),
         };
-        let done = self.done(bytes, is_last);
-        self.is_unread = is_unread(&print(rt, &line, done, self.watched.redraws, is_last));
-        self.bytes = bytes;
-        self.reported = reported(Instant::now(rt)).ok();
+        reported(match self.done(moved.bytes, is_last) {
+            None => eprint!(rt; "{before}{name}{line}{fill}{after}"),
+            Some(done) => eprint!(rt; "{before}{name}{line}{done}{fill}{after}"),
+        })
     }
 
     // How much of all that comes has passed, and how long the rest takes; that is left out at the
@@ -193,33 +271,25 @@ impl Progress {
     }
 }
 
-fn elapsed(clock: &impl Clock, since: Option<Instant>) -> Duration {
-    let pause = Duration::from_millis(PAUSE);
+// How long ago that was, or so many milliseconds if the clock does not tell.
+fn elapsed(clock: &impl Clock, since: Option<Instant>, or: u64) -> Duration {
+    let unknown = Duration::from_millis(or);
     match since {
-        Some(since) => since.elapsed(clock).unwrap_or(pause),
-        None => pause,
+        Some(since) => since.elapsed(clock).unwrap_or(unknown),
+        None => unknown,
     }
 }
 
-// Prints a line, or draws it over the one before: then a terminal that is too narrow cuts it off.
-fn print(
-    rt: &impl Eprint,
-    line: &Line,
-    done: Option<Done>,
-    redraws: bool,
-    is_last: bool,
-) -> io::Result<()>
-    ensures { IsOfStd result }
+// What is reported as a number: how much of all that comes, in percent, or how many bytes if it is not
+// known how many come.
+fn number_of(total: Option<u64>, bytes: u64) -> u64
+    ensures known { IfSome total (λ all. result ≡ min (bytes * 100 / max all 1) 100) }
+    ensures unknown { total ≡ None → result ≡ bytes }
 {
-    let (before, after) = match (redraws, is_last) {
-        (false, _) => ("", "\n"),
-        (true, false) => ("\r\u{1b}[?7l", "\u{1b}[K\u{1b}[?7h"),
-        (true, true) => ("\r\u{1b}[?7l", "\u{1b}[K\u{1b}[?7h\n"),
-    };
-    reported(match done {
-        None => eprint!(rt; "{before}{line}{after}"),
-        Some(done) => eprint!(rt; "{before}{line}{done}{after}"),
-    })
+    match total {
+        Some(total) => percent(bytes, total),
+        None => bytes,
+    }
 }
 
 // Whether nobody reads what is printed, by what a print of it answered.

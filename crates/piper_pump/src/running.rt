@@ -2,7 +2,7 @@
 ghost use Rattle.std.specs.Prelude.{◌≡◌, ◌≢◌, [], None, OnErr, OnOk, IfOk, IfErr, IfSome, codes, false, map, string_bytes, true};
 ghost use Rattle.clap.specs.Words.{fault_of};
 ghost use Rattle.piper_transfer.specs.Transfer.{IsOfSide, Transfers, WritesAll};
-ghost use Rattle.pump_words.specs.Arguments.{IsSizeOf, ShowsAsAsked, pump_command};
+ghost use Rattle.pump_words.specs.Arguments.{IsSizeOf, ShowsAsAsked, input_of, pump_command};
 ghost use Rattle.piper_protocol.specs.Reported.{HasFailed};
 ghost use Rattle.piper_pump.specs.Asked.{HaveGot};
 ghost use Rattle.pump_files.specs.Copies.{lacks_some};
@@ -13,8 +13,8 @@ ghost use Rattle.piper_pump.specs.Ends.{OutletFails, OutletTook};
 ghost use Rattle.piper_pump.specs.Opening.{AreFoundApart, HoldNothing, ReadsNamed, WritesNamed};
 ghost use Rattle.piper_pump.specs.Outcome.{RunReturned};
 ghost use Rattle.pump_files.specs.Pace.{HasRate};
-ghost use Rattle.pump_words.specs.Plan.{IsLevelOf, IsOfStream, IsRead, IsSkipOf, IsTotalOf, KnowsTotal};
-ghost use Rattle.piper_pump.specs.Planned.{AreSizedBy, IsPlanned, IsWrittenBy, SparesBytes, TakesBytes, after};
+ghost use Rattle.pump_words.specs.Plan.{IsLevelOf, IsOfStream, IsPauseOf, IsRead, IsSkipOf, IsTotalOf, KnowsTotal};
+ghost use Rattle.piper_pump.specs.Planned.{AreSizedBy, IsPlanned, IsWrittenBy, SparesBytes, TakesBytes, TellsNumber, after};
 ghost use Rattle.piper_pump.specs.Running.{EndsWithTransfer, Runs};
 ghost use Rattle.piper_pump.specs.Written.{HaveNamed};
 
@@ -22,7 +22,7 @@ use crate::accepting::accept;
 use crate::ended::{EndNames, Ended};
 use crate::ends::{Inlet, Outlet};
 use crate::opening::{Places, open_files};
-use crate::progress::{EndSignal, Watched, watch};
+use crate::progress::Watched;
 use crate::section::Section;
 use crate::sizing::size_of_part;
 use crate::streams::Streams;
@@ -37,7 +37,7 @@ use std::fs::Files;
 use std::marker::Send;
 use std::random::RandomSource;
 use std::sync::Wait;
-use std::thread::{Threads, join_mut};
+use std::thread::Threads;
 use std::time::Clock;
 
 /// What is done, once the files that the words name are found.
@@ -70,7 +70,7 @@ pub fn run<R, F, S, D>(
 ) -> Ended
 where
     R: Wait + Threads + Clock + RandomSource + AllocGlobal + Files + Opens<F>,
-    R: Eprint + Clone + Drop + Send + Sync,
+    R: Eprint + Clone + Drop + Send + Sync + 'static,
     F: NamedFile + Send,
     S: Source + Send + Drop,
     D: Destination + Drop,
@@ -99,8 +99,8 @@ where
         Err(ended) => return ended,
     };
     input.limit(plan.skip, plan.most);
-    let watched = output.ask_progress(plan.asked);
-    let moved = move_all(rt, input, output, plan.sizes, watched);
+    output.ask_progress(plan.asked);
+    let moved = move_all(rt, input, output, plan.sizes);
     output.report_rest(&moved);
     output.ended(moved)
 }
@@ -111,11 +111,10 @@ fn move_all<R, F, S, D>(
     input: &mut Section<Inlet<S, F>>,
     output: &mut Outlet<'_, R, D, F>,
     sizes: Sizes,
-    watched: Option<Watched>,
 ) -> Result<(), TransferError>
 where
     R: Wait + Threads + Clock + RandomSource + AllocGlobal + Files + Opens<F>,
-    R: Eprint + Clone + Drop + Send + Sync,
+    R: Eprint + Clone + Drop + Send + Sync + 'static,
     F: NamedFile + Send,
     S: Source + Send + Drop,
     D: Destination + Drop,
@@ -131,7 +130,7 @@ where
         (IsFull D.full F.full output.new.drain)) }
 {
     let meter = output.meter;
-    match pump(rt, input, output, sizes, meter, watched) {
+    match transfer(rt, input, output, sizes, meter) {
         Ok(()) if output.opening.is_awaited() => output.conclude(),
         moved => moved,
     }
@@ -170,17 +169,21 @@ where
         (w.capacity ≡ plan.sizes.capacity) × (w.redraws ≡ streams.redraws))) }
     ensures total { IfOk result (λ plan. IfSome plan.asked (λ w.
         KnowsTotal (after (codes "size") (map string_bytes words.now)) w.total)) }
+    ensures paused { IfOk result (λ plan. IfSome plan.asked (λ w.
+        IsPauseOf (after (codes "interval") (map string_bytes words.now)) w.pause)) }
+    ensures number { IfOk result (λ plan. IfSome plan.asked (λ w.
+        TellsNumber (map string_bytes words.now) w)) }
     ensures input { OnOk result (ReadsNamed F.name
-        (after (codes "input") (map string_bytes words.now)) input.old input.new) }
+        (input_of (map string_bytes words.now)) input.old input.new) }
     ensures output { IfOk result (λ plan. WritesNamed F.name
         (after (codes "output") (map string_bytes words.now)) plan.places.output
         output.old.drain output.new.drain) }
-    ensures has_input { OnOk result (IsOfStream (after (codes "input")
+    ensures has_input { OnOk result (IsOfStream (input_of
         (map string_bytes words.now)) → streams.has_input ≡ true) }
     ensures has_output { OnOk result (IsOfStream (after (codes "output")
         (map string_bytes words.now)) → streams.has_output ≡ true) }
     ensures apart { IfOk result (λ plan. AreFoundApart F.answers
-        (after (codes "input") (map string_bytes words.now))
+        (input_of (map string_bytes words.now))
         (after (codes "output") (map string_bytes words.now))
         plan.places input.new output.new.copies.tees.items) }
     ensures spared { SparesBytes (map string_bytes words.now) → IfOk result (λ plan.
@@ -207,6 +210,7 @@ where
     let names = EndNames {
         input: copy_of(rt.alloc(), named(arguments.texts.input)),
         output: copy_of(rt.alloc(), named(arguments.texts.output)),
+        progress: copy_of(rt.alloc(), arguments.texts.name),
     };
     output.outcome.name(rt, names);
     let watched = Watched {
@@ -215,15 +219,21 @@ where
             .total
             .or(size_of_part(rt, input, numbers.skip, numbers.most)),
         redraws: streams.redraws,
+        tells_number: arguments.tells_number,
+        pause: numbers.pause,
     };
-    let shows_progress = arguments.shows_progress && !arguments.is_quiet;
+    let is_wanted = arguments.shows_progress || arguments.tells_number;
     Ok(Plan {
         places,
         sizes: numbers.sizes,
         rate: numbers.rate,
         skip: numbers.skip,
         most: numbers.most,
-        asked: if shows_progress { Some(watched) } else { None },
+        asked: if is_wanted && !arguments.is_quiet {
+            Some(watched)
+        } else {
+            None
+        },
     })
 }
 
@@ -250,37 +260,4 @@ fn lacking_memory() -> Ended
 // The name again, if memory is granted for it.
 fn copy_of(alloc: Global, name: Option<&str>) -> Option<String> {
     String::from_str(alloc, name?).ok()
-}
-
-/// Moves all bytes, and reports meanwhile how far it is where that is asked for. Told or not, the
-/// bytes and the answer are those of the transfer.
-pub(crate) fn pump<R, S, D>(
-    rt: &R,
-    source: &mut S,
-    dest: &mut D,
-    sizes: Sizes,
-    meter: &Meter,
-    watched: Option<Watched>,
-) -> Result<(), TransferError>
-where
-    R: Wait + Threads + Clock + RandomSource + AllocGlobal + Eprint + Clone + Drop + Send + Sync,
-    S: Source + Send,
-    D: Destination,
-    ensures moved { Transfers result (S.remaining source.old) (S.remaining source.new)
-        D.contents D.took dest.old dest.new }
-    ensures flushed { WritesAll result → D.flushed dest.new }
-    ensures reported { IfErr result
-        (IsOfSide (S.fails source.new) (D.fails dest.new) (D.full dest.new)) }
-{
-    let Some(watched) = watched else {
-        return transfer(rt, source, dest, sizes, meter);
-    };
-    let over = EndSignal::new();
-    let done = &over;
-    let (_, moved) = join_mut(
-        rt,
-        &mut || watch(rt, meter, watched, done),
-        &mut || done.report(rt, transfer(rt, source, dest, sizes, meter)),
-    );
-    moved.into_inner()
 }

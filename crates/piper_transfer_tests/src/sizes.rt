@@ -2,8 +2,8 @@
 use crate::compare::same;
 use piper_transfer::TransferError;
 use pump_words::arguments::{Texts, read_words};
-use pump_words::lines::Line;
-use pump_words::plan::numbers_of;
+use pump_words::lines::{Fill, Line};
+use pump_words::plan::{numbers_of, pause_of};
 use pump_words::size::{NotASize, parse_size};
 use std::alloc::AllocGlobal;
 use std::fmt::Display;
@@ -95,16 +95,16 @@ fn errors_say_what_failed(rt: HostRuntime) {
 fn a_line_of_progress_tells_each_number_at_its_place(rt: HostRuntime) {
     let line = Line {
         bytes: 1_536,
+        spent: Duration::from_millis(2_300),
         rate: 10,
+    };
+    says(&rt, &line, "1.5 KiB in 2.3 s, 10 B/s");
+    let fill = Fill {
         percent: 50,
         full: Duration::from_millis(1_500),
         empty: Duration::from_secs(120),
     };
-    says(
-        &rt,
-        &line,
-        "1.5 KiB, 10 B/s, 50% full; full 1.5 s, empty 2 min",
-    );
+    says(&rt, &fill, "; 50% full; full 1.5 s, empty 2 min");
 }
 
 const NONE: Texts<'static> = Texts {
@@ -115,6 +115,8 @@ const NONE: Texts<'static> = Texts {
     output: None,
     skip: None,
     stop_after: None,
+    name: None,
+    interval: None,
 };
 
 fn refused<H: Abort + AllocGlobal>(rt: &H, texts: Texts<'_>, option: &str, range: &str) {
@@ -162,6 +164,27 @@ fn a_number_that_is_refused_is_told_with_those_that_are_taken(rt: HostRuntime) {
         "--start-at <N>",
         "a level is a number of percent from 0 to 100",
     );
+}
+
+#[test]
+fn an_interval_is_whole_seconds(rt: HostRuntime) {
+    let texts = [
+        ("1", Some(1_000)),
+        ("3600", Some(3_600_000)),
+        ("0", None),
+        ("3601", None),
+        ("0.5", None),
+        ("1s", None),
+        ("", None),
+    ];
+    for (text, pause) in texts {
+        let asked = Texts {
+            interval: Some(text),
+            ..NONE
+        };
+        same(&rt, (text, pause_of(asked).ok()), (text, pause));
+    }
+    same(&rt, pause_of(NONE).ok(), Some(250));
 }
 
 #[test]

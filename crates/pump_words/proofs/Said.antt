@@ -1,6 +1,6 @@
 -- What `clap` found is what the words say.
 use Rattle.std.proofs.Common.{◌≡◌, ◌∙◌, [], ◌<◌, ◌≤◌, ap, refl, sym, subst, true, ℕ, List, Option, Some, None, Result, Ok, Err, IfErr}
-use Rattle.std.specs.Prelude.{IfOk, option_map, unwrap_or}
+use Rattle.std.specs.Prelude.{IfOk, IsSome, codes, option_map, unwrap_or}
 use Rattle.std.specs.Borrow.{Bor}
 use Rattle.clap.specs.Words.{AddsArg, App, HasMatchesOf, Rule, app_of, fault_of, with_rule, Text, first_of, first_value, found_of, is_simple, is_simple_and_free, one_of, one_text, rows_of}
 use Rattle.clap.specs.declared.builder.arg.Arg.{Arg}
@@ -9,7 +9,7 @@ use Rattle.clap.specs.declared.parser.matches.ArgMatches.{ArgMatches}
 use Rattle.clap.proofs.WalkLemmas.{first_value-rows, one_text-rows}
 use Rattle.pump_words.specs.Size.{WritesSize, greatest}
 use Rattle.pump_words.specs.declared.size.NotASize.{NotASize}
-use Rattle.pump_words.specs.Arguments.{AddsRule, IsSize, IsText, pump_command, said_by, size_text, text_or}
+use Rattle.pump_words.specs.Arguments.{AddsRule, HasBoth, IsSize, IsText, first_text, input_of, pump_command, said_by, size_text, text_or}
 
 -- its rules ask for nothing but what `clap` gives as a function of the words
 command_is_simple : is_simple pump_command ≡ true
@@ -77,3 +77,30 @@ pub text_found : (words : List Text) (m : ArgMatches) (option : Text) (found : O
     → option_map (λ s. s.now) found ≡ first_value (found_of m) option → IsText option words found
 text_found words m option found said finds =
     finds ∙ first_value-rows (found_of m) option ∙ ap (first_of option) said
+
+-- what was found is what the words have after an option, or without one
+finds : (words : List Text) (m : ArgMatches) (option : Text) → rows_of (found_of m) ≡ said_by words
+    → first_value (found_of m) option ≡ first_of option (said_by words)
+finds words m option said = first_value-rows (found_of m) option ∙ ap (first_of option) said
+
+pub first_said : (words : List Text) (m : ArgMatches) → rows_of (found_of m) ≡ said_by words
+    → first_text (first_value (found_of m) (codes "input")) (first_value (found_of m) (codes "file")) ≡ input_of words
+first_said words m said =
+    ap (λ (t : Option Text). first_text t (first_value (found_of m) (codes "file"))) (finds words m (codes "input") said)
+    ∙ ap (λ (t : Option Text). first_text (first_of (codes "input") (said_by words)) t) (finds words m (codes "file") said)
+
+pub both_said : (words : List Text) (m : ArgMatches) → rows_of (found_of m) ≡ said_by words
+    → HasBoth (first_value (found_of m) (codes "input")) (first_value (found_of m) (codes "file"))
+    → HasBoth (first_of (codes "input") (said_by words)) (first_of (codes "file") (said_by words))
+both_said words m said both = (
+  subst (λ (t : Option Text). IsSome t) (finds words m (codes "input") said) both.0,
+  subst (λ (t : Option Text). IsSome t) (finds words m (codes "file") said) both.1,
+)
+
+pub one_said : (words : List Text) (m : ArgMatches) → rows_of (found_of m) ≡ said_by words
+    → ¬ HasBoth (first_value (found_of m) (codes "input")) (first_value (found_of m) (codes "file"))
+    → ¬ HasBoth (first_of (codes "input") (said_by words)) (first_of (codes "file") (said_by words))
+one_said words m said one both = one (
+  subst (λ (t : Option Text). IsSome t) (sym (finds words m (codes "input") said)) both.0,
+  subst (λ (t : Option Text). IsSome t) (sym (finds words m (codes "file") said)) both.1,
+)

@@ -1,5 +1,5 @@
 -- What the words on the command line ask for. `clap` says what each argument then has.
-use Rattle.std.specs.Prelude.{◌≡◌, ◌<◌, ◌≤◌, ℕ, true, false, List, [], ◌∷◌, Option, Some, IsSome, IsNone, codes, map, option_map, unwrap_or}
+use Rattle.std.specs.Prelude.{◌≡◌, ◌<◌, ◌≤◌, ℕ, true, false, List, [], ◌∷◌, Option, Some, None, IsSome, IsNone, codes, map, option_map, unwrap_or}
 use Rattle.clap.specs.Words.{AddsArg, App, Row, Rule, Text, all_of, app_of, fault_of, first_of, one_of, matches_of, takes}
 use Rattle.clap.specs.Simple.{on_top, with_rule}
 use denote.Ref.{Bor}
@@ -26,11 +26,26 @@ size_rule name = record (new_rule name) {
   value_names = 1;
 }
 
--- an option of this name and this letter, with a file after it, as `-i FILE`
+-- an option of this name and this letter, with a file or a name after it, as `-i FILE`
 abbrev pub file_rule : Text → ℕ → Rule
 file_rule name letter = record (new_rule name) {
   long = Some name;
   short = Some letter;
+  action = Some Set;
+  value_names = 1;
+}
+
+-- a flag of this name and this letter, as `-n`
+abbrev pub short_flag_rule : Text → ℕ → Rule
+short_flag_rule name letter = record (new_rule name) {
+  long = Some name;
+  short = Some letter;
+  action = Some SetTrue;
+}
+
+-- the file that is read, without an option
+abbrev pub lone_rule : Rule
+lone_rule = record (new_rule (codes "file")) {
   action = Some Set;
   value_names = 1;
 }
@@ -63,7 +78,13 @@ size_rules =
 abbrev pub file_rules : List Rule
 file_rules =
     file_rule (codes "input") 105 ∷ file_rule (codes "output") 111
-    ∷ tee_rule ∷ flag_rule (codes "force") ∷ flag_rule (codes "fsync") ∷ []
+    ∷ tee_rule ∷ flag_rule (codes "force") ∷ flag_rule (codes "fsync") ∷ lone_rule ∷ []
+
+-- how progress is told
+abbrev pub progress_rules : List Rule
+progress_rules =
+    file_rule (codes "name") 78 ∷ short_flag_rule (codes "numeric") 110
+    ∷ size_rule (codes "interval") ∷ []
 
 -- a command that has a version
 abbrev pub versioned : App → App
@@ -76,8 +97,10 @@ pump_rules =
     ∷ size_rule (codes "capacity") ∷ size_rule (codes "chunk")
     ∷ size_rule (codes "rate") ∷ size_rule (codes "size") ∷ size_rule (codes "start-at")
     ∷ file_rule (codes "input") 105 ∷ file_rule (codes "output") 111
-    ∷ tee_rule ∷ flag_rule (codes "force") ∷ flag_rule (codes "fsync")
-    ∷ size_rule (codes "skip") ∷ size_rule (codes "stop-after") ∷ flag_rule (codes "append") ∷ []
+    ∷ tee_rule ∷ flag_rule (codes "force") ∷ flag_rule (codes "fsync") ∷ lone_rule
+    ∷ size_rule (codes "skip") ∷ size_rule (codes "stop-after") ∷ flag_rule (codes "append")
+    ∷ file_rule (codes "name") 78 ∷ short_flag_rule (codes "numeric") 110
+    ∷ size_rule (codes "interval") ∷ []
 
 abbrev pub pump_command : App
 pump_command = on_top (λ s. record s { rules = pump_rules }) (versioned (new_app (codes "piper_pump")))
@@ -120,6 +143,19 @@ text_in text = option_map (λ s. s.now) text
 abbrev pub IsText : Text → List Text → Option (Bor Text) → Type 0
 IsText option words text = text_in text ≡ first_of option (said_by words)
 
+-- the first of two texts that is there
+abbrev pub first_text : Option Text → Option Text → Option Text
+first_text (Some text) second = Some text
+first_text None second = second
+
+-- both texts are there
+abbrev pub HasBoth : Option Text → Option Text → Type 0
+HasBoth first second = IsSome first × IsSome second
+
+-- the name of the file that is read: after its option, or without one
+abbrev pub input_of : List Text → Option Text
+input_of words = first_text (first_of (codes "input") (said_by words)) (first_of (codes "file") (said_by words))
+
 -- what these words ask for
 pub record AskFor (words : List Text) (arguments : Arguments) : Type 0 where
   pub capacity : IsSizeOf (capacity_text words) arguments.amounts.capacity
@@ -138,7 +174,8 @@ pub record AskFor (words : List Text) (arguments : Arguments) : Type 0 where
   pub rate : IsText (codes "rate") words arguments.texts.rate
   pub size : IsText (codes "size") words arguments.texts.size
   pub start_at : IsText (codes "start-at") words arguments.texts.start_at
-  pub input : IsText (codes "input") words arguments.texts.input
+  pub input : text_in arguments.texts.input ≡ input_of words
+  pub one_input : ¬ HasBoth (first_of (codes "input") (said_by words)) (first_of (codes "file") (said_by words))
   pub output : IsText (codes "output") words arguments.texts.output
   pub no_sum : one_of (codes "sha256") (said_by words) ≡ Some (codes "false")
       → arguments.shows_sum ≡ false
@@ -157,16 +194,27 @@ pub record AskFor (words : List Text) (arguments : Arguments) : Type 0 where
       → arguments.appends ≡ true
   pub no_append : one_of (codes "append") (said_by words) ≡ Some (codes "false")
       → arguments.appends ≡ false
+  pub name : IsText (codes "name") words arguments.texts.name
+  pub interval : IsText (codes "interval") words arguments.texts.interval
+  pub number : one_of (codes "numeric") (said_by words) ≡ Some (codes "true")
+      → arguments.tells_number ≡ true
+  pub no_number : one_of (codes "numeric") (said_by words) ≡ Some (codes "false")
+      → arguments.tells_number ≡ false
 
 -- these words ask for something: `clap` takes them, and what represents a size writes one
 pub record AreTaken (words : List Text) : Type 0 where
   pub taken : takes pump_command words ≡ true
   pub capacity : IsSize (capacity_text words)
   pub chunk : IsSize (chunk_text words)
+  pub one_input : ¬ HasBoth (first_of (codes "input") (said_by words)) (first_of (codes "file") (said_by words))
 
--- progress is reported where these words ask for it, and are not to be quiet; else it is not
+-- progress is reported if these words ask for it or for a number, and are not to be quiet; else it is
+-- not
 pub record ShowsAsAsked {W : Type 0} (words : List Text) (reported : Option W) : Type 0 where
   pub shown : one_of (codes "progress") (said_by words) ≡ Some (codes "true")
       → one_of (codes "quiet") (said_by words) ≡ Some (codes "false") → IsSome reported
-  pub silent : one_of (codes "progress") (said_by words) ≡ Some (codes "false") → IsNone reported
+  pub number : one_of (codes "numeric") (said_by words) ≡ Some (codes "true")
+      → one_of (codes "quiet") (said_by words) ≡ Some (codes "false") → IsSome reported
+  pub silent : one_of (codes "progress") (said_by words) ≡ Some (codes "false")
+      → one_of (codes "numeric") (said_by words) ≡ Some (codes "false") → IsNone reported
   pub quiet : one_of (codes "quiet") (said_by words) ≡ Some (codes "true") → IsNone reported

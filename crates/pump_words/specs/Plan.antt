@@ -1,5 +1,5 @@
 -- The numbers after the options, and the streams that are used.
-use Rattle.std.specs.Prelude.{◌≡◌, ◌≤◌, ◌*◌, ◌/◌, ◌⊎◌, ℕ, List, Option, Some, None, IsSomeAnd, codes, min, ⊤}
+use Rattle.std.specs.Prelude.{◌≡◌, ◌<◌, ◌≤◌, ◌*◌, ◌/◌, ◌⊎◌, ℕ, List, Option, Some, None, IsSomeAnd, codes, min, ⊤}
 use Rattle.std.specs.Str.Parse.{IsNumeral, digits_value, without_leading_plus}
 use Rattle.pump_words.specs.Arguments.{IsSizeOf}
 use Rattle.pump_words.specs.declared.plan.Untaken.{Untaken}
@@ -41,6 +41,16 @@ IsSkipOf (Some text) n = IsTotalOf text n
 abbrev pub IsPercent : List ℕ → ℕ → Type 0
 IsPercent text n = IsNumeral 10 (without_leading_plus text)
     × (n ≡ digits_value 10 (without_leading_plus text)) × (n ≤ 100)
+
+-- the text writes so many seconds, from 1 to 3,600: in digits, with or without a plus before them
+abbrev pub IsSeconds : List ℕ → ℕ → Type 0
+IsSeconds text n = IsNumeral 10 (without_leading_plus text)
+    × (n ≡ digits_value 10 (without_leading_plus text)) × (0 < n) × (n ≤ 3_600)
+
+-- so many milliseconds are as many seconds as the text writes, or a quarter of one if there is no text
+abbrev pub IsPauseOf : Option (List ℕ) → ℕ → Type 0
+IsPauseOf None pause = pause ≡ 250
+IsPauseOf (Some text) pause = (n : ℕ) × IsSeconds text n × (pause ≡ n * 1_000)
 
 -- so many percent of the capacity
 abbrev pub level_of : ℕ → ℕ → ℕ

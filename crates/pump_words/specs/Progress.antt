@@ -3,6 +3,7 @@ use Rattle.std.specs.Prelude.{ℕ, ◌*◌, ◌/◌, ◌%◌, List, ◌++◌, Op
 use Rattle.std.specs.Duration.{as_nanos}
 use Rattle.std.specs.declared.time.Duration.{Duration}
 use Rattle.pump_words.specs.declared.lines.Done.{Done}
+use Rattle.pump_words.specs.declared.lines.Fill.{Fill}
 use Rattle.pump_words.specs.declared.lines.Line.{Line}
 
 -- how many of this unit n is, in decimal digits with the tenths after a point: `20.5`
@@ -35,14 +36,19 @@ seconds_text nanoseconds =
     then decimal (nanoseconds / 1_000_000_000 / 60) ++ codes " min"
     else in_tenths 1_000_000_000 nanoseconds ++ codes " s"
 
--- how much was moved, how fast, how full the pipe is, and how long it was full and empty
+-- how much was moved, how long that took, and how fast it is
 abbrev pub line_text : Line → List ℕ
 line_text line =
-    amount_text line.bytes ++ codes ", "
-    ++ amount_text line.rate ++ codes "/s, "
-    ++ decimal line.percent ++ codes "% full; full "
-    ++ seconds_text (as_nanos line.full) ++ codes ", empty "
-    ++ seconds_text (as_nanos line.empty)
+    amount_text line.bytes ++ codes " in "
+    ++ seconds_text (as_nanos line.spent) ++ codes ", "
+    ++ amount_text line.rate ++ codes "/s"
+
+-- how full the pipe is, and how long it was full and empty
+abbrev pub fill_text : Fill → List ℕ
+fill_text fill =
+    codes "; " ++ decimal fill.percent ++ codes "% full; full "
+    ++ seconds_text (as_nanos fill.full) ++ codes ", empty "
+    ++ seconds_text (as_nanos fill.empty)
 
 -- what is after a number of percent: how long the rest takes, if that is reported
 abbrev pub left_text : Option Duration → List ℕ

@@ -1,8 +1,9 @@
 //! What the words on the command line ask for.
-ghost use Rattle.std.specs.Prelude.{◌≡◌, [], IfOk, IfErr, codes, map, option_map, string_bytes, unwrap_or};
+ghost use Rattle.std.specs.Prelude.{◌≡◌, [], IfOk, IfErr, OnOk, codes, map, option_map, string_bytes, unwrap_or};
 ghost use Rattle.clap.specs.Words.{app_of, first_value, found_of, kind_of, matched_of, raw_values};
 ghost use Rattle.pump_words.specs.Arguments.{AddsRule, file_rule, flag_rule, pump_command, size_rule, tee_rule};
 ghost use Rattle.pump_words.specs.Arguments.{AskFor, AreTaken, IsSize, IsSizeOf, file_rules, size_rules, text_or, with_rules};
+ghost use Rattle.pump_words.specs.Arguments.{HasBoth, first_text, lone_rule, progress_rules, short_flag_rule};
 
 use crate::amounts::Amounts;
 use crate::size::parse_size;
@@ -22,11 +23,16 @@ const STATUSES: &str = "Exit status:
 
 What it holds is lost where a signal ends it: at most its capacity";
 
+/// What is told of an input that is named twice.
+const TWO_INPUTS: &str = "the argument '[FILE]' cannot be used with '--input <FILE>'";
+
 /// What the program is asked to do.
 #[derive(Drop)]
 pub struct Arguments<'a> {
     pub amounts: Amounts,
     pub shows_progress: bool,
+    /// Whether progress is told as a number, which asks for it, too.
+    pub tells_number: bool,
     pub is_quiet: bool,
     pub shows_sum: bool,
     /// Whether the bytes that files hold are overwritten.
@@ -50,6 +56,8 @@ pub struct Texts<'a> {
     pub output: Option<&'a str>,
     pub skip: Option<&'a str>,
     pub stop_after: Option<&'a str>,
+    pub name: Option<&'a str>,
+    pub interval: Option<&'a str>,
 }
 
 /// What the words ask for. Those that ask for something are refused only for want of memory.
@@ -60,6 +68,7 @@ pub fn read_words<'a>(alloc: Global, words: &'a [String]) -> Result<Arguments<'a
 {
     let mut command = command(alloc)?;
     let matches = command.try_get_matches_from_mut(words)?;
+    refuse_two_inputs(&mut command, &matches)?;
     let capacity = size(alloc, &mut command, &matches, "capacity", "1M")?;
     let chunk = size(alloc, &mut command, &matches, "chunk", "64K")?;
     let tees = tees(alloc, &matches)?;
@@ -71,6 +80,7 @@ pub fn read_words<'a>(alloc: Global, words: &'a [String]) -> Result<Arguments<'a
         overwrites: matches.get_flag("force"),
         syncs: matches.get_flag("fsync"),
         appends: matches.get_flag("append"),
+        tells_number: matches.get_flag("numeric"),
         texts: texts_of(&matches),
         tees,
     })
@@ -84,22 +94,53 @@ fn texts_of<'a>(matches: &ArgMatches<'a>) -> Texts<'a>
     ensures start_at { option_map (λ s. s.now) result.start_at
         ≡ first_value (found_of matches.now) (codes "start-at") }
     ensures input { option_map (λ s. s.now) result.input
-        ≡ first_value (found_of matches.now) (codes "input") }
+        ≡ first_text (first_value (found_of matches.now) (codes "input"))
+        (first_value (found_of matches.now) (codes "file")) }
     ensures output { option_map (λ s. s.now) result.output
         ≡ first_value (found_of matches.now) (codes "output") }
     ensures skip { option_map (λ s. s.now) result.skip
         ≡ first_value (found_of matches.now) (codes "skip") }
     ensures stop_after { option_map (λ s. s.now) result.stop_after
         ≡ first_value (found_of matches.now) (codes "stop-after") }
+    ensures name { option_map (λ s. s.now) result.name
+        ≡ first_value (found_of matches.now) (codes "name") }
+    ensures interval { option_map (λ s. s.now) result.interval
+        ≡ first_value (found_of matches.now) (codes "interval") }
 {
     Texts {
         rate: matches.get_str("rate"),
         size: matches.get_str("size"),
         start_at: matches.get_str("start-at"),
-        input: matches.get_str("input"),
+        input: first_text(matches.get_str("input"), matches.get_str("file")),
         output: matches.get_str("output"),
         skip: matches.get_str("skip"),
         stop_after: matches.get_str("stop-after"),
+        name: matches.get_str("name"),
+        interval: matches.get_str("interval"),
+    }
+}
+
+// The first of two texts that is there.
+fn first_text<'a>(first: Option<&'a str>, second: Option<&'a str>) -> Option<&'a str>
+    ensures { option_map (λ s. s.now) result
+        ≡ first_text (option_map (λ s. s.now) first.entry) (option_map (λ s. s.now) second.entry) }
+{
+    match first {
+        Some(text) => Some(text),
+        None => second,
+    }
+}
+
+// Refuses an input that is named with and without its option.
+fn refuse_two_inputs<'a>(command: &mut Command<'a>, matches: &ArgMatches<'a>) -> Result<(), Error>
+    ensures both { IfErr result (λ _. HasBoth (first_value (found_of matches.now) (codes "input"))
+        (first_value (found_of matches.now) (codes "file"))) }
+    ensures one { OnOk result (¬ HasBoth (first_value (found_of matches.now) (codes "input"))
+        (first_value (found_of matches.now) (codes "file"))) }
+{
+    match (matches.get_str("input"), matches.get_str("file")) {
+        (Some(_), Some(_)) => Err(command.error(ErrorKind::ArgumentConflict, TWO_INPUTS)?),
+        _ => Ok(()),
     }
 }
 
@@ -129,7 +170,7 @@ fn command<'a>(alloc: Global) -> Result<Command<'a>, Error>
         .arg(flag(
             alloc,
             "progress",
-            "Tells on standard error how far it is, four times a second",
+            "Tells on standard error how far it is, four times a second or as --interval says",
         ))?
         .arg(flag(
             alloc,
@@ -157,7 +198,32 @@ fn command<'a>(alloc: Global) -> Result<Command<'a>, Error>
             "append",
             "Writes behind the bytes that files hold, also with --force",
         ))?;
-    Ok(command)
+    Ok(with_progress(alloc, command)?)
+}
+
+// The command takes how progress is told.
+fn with_progress<'a>(alloc: Global, command: Command<'a>) -> Result<Command<'a>, AllocError>
+    ensures { IfOk result (λ new. app_of new ≡ with_rules (app_of command.entry) progress_rules) }
+{
+    command
+        .arg(named_option(
+            alloc,
+            "name",
+            'N',
+            "NAME",
+            "What begins each line of progress",
+        ))?
+        .arg(short_flag(
+            alloc,
+            "numeric",
+            'n',
+            "Tells progress as a number: percent of the size, or bytes if none is known",
+        ))?
+        .arg(option(
+            alloc,
+            "interval",
+            "How many seconds it is from one line of progress to the next",
+        ))
 }
 
 // The command takes the sizes of the pipe and of the transfer.
@@ -193,11 +259,18 @@ fn with_files<'a>(alloc: Global, command: Command<'a>) -> Result<Command<'a>, Al
     ensures { IfOk result (λ new. app_of new ≡ with_rules (app_of command.entry) file_rules) }
 {
     command
-        .arg(file_option(alloc, "input", 'i', "Reads this file; - is standard input"))?
-        .arg(file_option(
+        .arg(named_option(
+            alloc,
+            "input",
+            'i',
+            "FILE",
+            "Reads this file; - is standard input",
+        ))?
+        .arg(named_option(
             alloc,
             "output",
             'o',
+            "FILE",
             "Writes this file; - is standard output",
         ))?
         .arg(tee_option(alloc))?
@@ -206,7 +279,8 @@ fn with_files<'a>(alloc: Global, command: Command<'a>) -> Result<Command<'a>, Al
             alloc,
             "fsync",
             "Ends once the files that are named are on their devices",
-        ))
+        ))?
+        .arg(lone_file(alloc))
 }
 
 fn flag<'a>(alloc: Global, name: &'a str, help: &'a str) -> Arg<'a>
@@ -228,14 +302,40 @@ fn option<'a>(alloc: Global, name: &'a str, help: &'a str) -> Arg<'a>
         .action(ArgAction::Set)
 }
 
-fn file_option<'a>(alloc: Global, name: &'a str, letter: char, help: &'a str) -> Arg<'a>
+fn short_flag<'a>(alloc: Global, name: &'a str, letter: char, help: &'a str) -> Arg<'a>
+    ensures { AddsRule (short_flag_rule name.entry.now letter) result }
+{
+    Arg::new(alloc, name)
+        .long(name)
+        .short(letter)
+        .help(help)
+        .action(ArgAction::SetTrue)
+}
+
+fn named_option<'a>(
+    alloc: Global,
+    name: &'a str,
+    letter: char,
+    value: &'a str,
+    help: &'a str,
+) -> Arg<'a>
     ensures { AddsRule (file_rule name.entry.now letter) result }
 {
     Arg::new(alloc, name)
         .long(name)
         .short(letter)
-        .value_name("FILE")
+        .value_name(value)
         .help(help)
+        .action(ArgAction::Set)
+}
+
+// The file that is read, without an option.
+fn lone_file<'a>(alloc: Global) -> Arg<'a>
+    ensures { AddsRule lone_rule result }
+{
+    Arg::new(alloc, "file")
+        .value_name("FILE")
+        .help("Reads this file, as --input does")
         .action(ArgAction::Set)
 }
 

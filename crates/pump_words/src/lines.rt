@@ -1,8 +1,7 @@
-//! What a line of progress says. It has at most 79 columns, so that it is drawn over itself on a
-//! terminal of 80.
+//! What a line of progress says. It has at most 87 columns, if it has no name.
 ghost use Rattle.std.specs.Prelude.{Some};
 ghost use Rattle.std.specs.Duration.{as_nanos};
-ghost use Rattle.pump_words.specs.Progress.{amount_text, done_text, line_text, seconds_text};
+ghost use Rattle.pump_words.specs.Progress.{amount_text, done_text, fill_text, line_text, seconds_text};
 
 use crate::units::InUnit;
 use std::fmt;
@@ -22,15 +21,13 @@ const PEBI: u64 = 1_125_899_906_842_624;
 
 const EXBI: u64 = 1_152_921_504_606_846_976;
 
-/// What one line reports.
+/// What one line reports first.
 #[derive(Drop)]
 pub struct Line {
     pub bytes: u64,
+    /// How long that took.
+    pub spent: Duration,
     pub rate: u64,
-    pub percent: u64,
-    /// How long the input had to wait since the pipe was full, and the output since it was empty.
-    pub full: Duration,
-    pub empty: Duration,
 }
 
 impl Display for Line {
@@ -39,9 +36,30 @@ impl Display for Line {
     fn fmt<W: fmt::Write>(&self, f: &mut Formatter<W>) -> fmt::Result {
         write!(
             f,
-            "{}, {}/s, {}% full; full {}, empty {}",
+            "{} in {}, {}/s",
             Amount(self.bytes),
-            Amount(self.rate),
+            Seconds(self.spent),
+            Amount(self.rate)
+        )
+    }
+}
+
+/// How full the pipe is, in percent, and who had to wait.
+#[derive(Drop)]
+pub struct Fill {
+    pub percent: u64,
+    /// How long the input had to wait since the pipe was full, and the output since it was empty.
+    pub full: Duration,
+    pub empty: Duration,
+}
+
+impl Display for Fill {
+    ghost output = { λ fill. Some (fill_text fill) };
+
+    fn fmt<W: fmt::Write>(&self, f: &mut Formatter<W>) -> fmt::Result {
+        write!(
+            f,
+            "; {}% full; full {}, empty {}",
             self.percent,
             Seconds(self.full),
             Seconds(self.empty)

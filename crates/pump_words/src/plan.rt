@@ -3,10 +3,13 @@
 ghost use Rattle.std.specs.Prelude.{◌≡◌, ◌≢◌, ◌≤◌, ◌⊎◌, Some, None, IfErr, IfOk, OnOk, IfNone, IfSome, codes};
 ghost use Rattle.std.specs.List.{All, Any};
 ghost use Rattle.pump_words.specs.Arguments.{IsSizeOf, text_in};
-ghost use Rattle.pump_words.specs.Plan.{IsAfter, IsLevelOf, IsPercent, IsRead, IsRefused, IsSkipOf, IsTotalOf, WritesNone, level_of};
+ghost use Rattle.pump_words.specs.Plan.{IsAfter, IsLevelOf, IsPauseOf, IsPercent, IsRead, IsRefused, IsSeconds, IsSkipOf, IsTotalOf, WritesNone, level_of};
 
 use crate::arguments::Texts;
 use crate::size::parse_size;
+
+/// How many milliseconds it is from one line of progress to the next, if none is asked for.
+const PAUSE: u64 = 250;
 
 /// What follows each option that is read here.
 const SIZES: &str =
@@ -14,6 +17,8 @@ const SIZES: &str =
 
 const TOTALS: &str =
     "a size is a number of bytes from 0 to 9223372036854775807, as 4096, 64K, 16m or 2GiB";
+
+const INTERVALS: &str = "an interval is a number of seconds from 1 to 3600";
 
 const PERCENTS: &str = "a level is a number of percent from 0 to 100";
 
@@ -84,6 +89,34 @@ pub fn numbers_of<'a>(capacity: usize, texts: Texts<'a>) -> Result<Numbers, Unta
         skip,
         most,
     })
+}
+
+/// How many milliseconds it is from one line of progress to the next.
+pub fn pause_of<'a>(texts: Texts<'a>) -> Result<u64, Untaken<'a>>
+    ensures pause { IfOk result (IsPauseOf (text_in texts.entry.interval)) }
+    ensures refused { IfErr result
+        (IsRefused (codes "--interval <N>") IsSeconds (text_in texts.entry.interval)) }
+{
+    match texts.interval {
+        Some(text) => Ok(seconds(text)? as u64 * 1_000),
+        None => Ok(PAUSE),
+    }
+}
+
+// From 1 to 3,600.
+fn seconds<'a>(text: &'a str) -> Result<u16, Untaken<'a>>
+    ensures named { IfErr result (IsAfter (codes "--interval <N>") text.now) }
+    ensures refused { IfErr result (λ _. WritesNone IsSeconds text.now) }
+    ensures read { IfOk result (IsSeconds text.now) }
+{
+    match text.parse::<u16>() {
+        Ok(seconds) if 1 <= seconds && seconds <= 3_600 => Ok(seconds),
+        _ => Err(Untaken {
+            option: "--interval <N>",
+            text,
+            range: INTERVALS,
+        }),
+    }
 }
 
 // So many percent of the capacity.

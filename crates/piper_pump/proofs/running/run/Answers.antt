@@ -2,6 +2,7 @@ use Rattle.std.proofs.Common.{List, ℕ, [], inr, ap, codes, map, string_bytes, 
 use Rattle.std.specs.Prelude.{IfErr, OnOk}
 use Rattle.std.specs.Io.KnownBytes.{Appends}
 use Rattle.piper_transfer.specs.Transfer.{IsOfSide}
+use Rattle.pump_words.specs.Arguments.{input_of}
 use Rattle.pump_files.specs.Copies.{HavePassed}
 use Rattle.piper_pump.specs.Asked.{HaveGot}
 use Rattle.piper_pump.specs.Ends.{drain_bytes, HaveTaken, InletFails, IsDone, IsFull, OutletFails}
@@ -23,13 +24,13 @@ returns-clause-runs g c =
     let words : List (List ℕ) = map string_bytes c.args.words.now in
     let output_bytes = drain_bytes g.D.Destination.contents file.written in
     let begun = c.in-Ok.ensures in
-    let asked = c.ask_progress-watched.ensures in
+    let asked = c.ask_progress.ensures in
     let ended = c.report_rest.ensures in
     let answer = c.move_all-moved.result in
     let all = c.move_all-moved.ensures in
     let moved = all.moved in
     let parts = begun.copies.parts in
-    let before = c.ask_progress-watched.new.self in
+    let before = c.ask_progress.new.self in
     let later = c.move_all-moved.new.output in
     let last = c.report_rest.new.self in
     let start : HaveTaken before.opening (HavePassed file.name file.written file.fails before.copies parts []) [] =
@@ -49,13 +50,13 @@ returns-clause-runs g c =
       output = c.prepare.new.output;
       planned = record {
         taken = begun.taken;
-        numbers = record { sizes = begun.sizes; level = begun.level; rate = begun.rate; skip = begun.skip; most = begun.most; shown = begun.shown; watched = begun.watched; total = begun.total };
+        numbers = record { sizes = begun.sizes; level = begun.level; rate = begun.rate; skip = begun.skip; most = begun.most; shown = begun.shown; watched = begun.watched; total = begun.total; paused = begun.paused; number = begun.number };
         files = record {
-          read = subst (λ i. ReadsNamed file.name (after (codes "input") words) c.args.input.now.source i) (sym same) begun.input;
+          read = subst (λ i. ReadsNamed file.name (input_of words) c.args.input.now.source i) (sym same) begun.input;
           written = begun.output;
           has_input = begun.has_input;
           has_output = begun.has_output;
-          apart = subst (λ i. AreFoundApart file.answers (after (codes "input") words) (after (codes "output") words) c.in-Ok.plan.places i
+          apart = subst (λ i. AreFoundApart file.answers (input_of words) (after (codes "output") words) c.in-Ok.plan.places i
               c.prepare.new.output.copies.tees.items) (sym same) begun.apart;
           spared = begun.spared;
         };

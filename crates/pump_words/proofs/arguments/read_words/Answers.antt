@@ -4,7 +4,7 @@ use Rattle.std.proofs.lemmas.Result.{IfErr-weaker}
 use Rattle.clap.specs.Words.{App, Text, all_of, app_of, found_of, takes}
 use Rattle.clap.proofs.WalkLemmas.{raw_values-rows}
 use Rattle.pump_words.specs.Arguments.{IsSize, IsSizeOf}
-use Rattle.pump_words.proofs.Said.{flag_said, found_said, taken_is_sound, text_found, text_said}
+use Rattle.pump_words.proofs.Said.{both_said, first_said, flag_said, found_said, one_said, taken_is_sound, text_found, text_said}
 use Rattle.pump_words.proofs.arguments.read_words.Goals as goal
 
 pub returns-in_err-matches-clause-taken : goal.returns-in_err-matches-clause-taken
@@ -15,6 +15,12 @@ returns-in_err-matches-clause-taken c = λ taken.
     let kinds = IfErr-weaker c.try_get_matches_from_mut.result _ _ (λ e h. h fits) c.try_get_matches_from_mut.ensures.passes in
     let kind = c.in_err-matches.ensures.passes fits in
     search rules
+
+pub returns-in_err-refuse_two_inputs-clause-taken : goal.returns-in_err-refuse_two_inputs-clause-taken
+returns-in_err-refuse_two_inputs-clause-taken c = λ taken.
+    let words : List Text = map string_bytes c.args.words.now in
+    let said = found_said _ words c.in_ok-matches.matches c.in_ok-command.ensures.taken c.in_ok-matches.ensures.ok.2 in
+    absurd (taken.one_input (both_said words c.in_ok-matches.matches said c.in_err-refuse_two_inputs.ensures.both))
 
 pub returns-in_err-capacity-clause-taken : goal.returns-in_err-capacity-clause-taken
 returns-in_err-capacity-clause-taken c = λ taken.
@@ -48,7 +54,8 @@ returns-clause-asked c =
       rate = text_found words c.in_ok-matches.matches (codes "rate") _ said c.texts_of.ensures.rate;
       size = text_found words c.in_ok-matches.matches (codes "size") _ said c.texts_of.ensures.size;
       start_at = text_found words c.in_ok-matches.matches (codes "start-at") _ said c.texts_of.ensures.start_at;
-      input = text_found words c.in_ok-matches.matches (codes "input") _ said c.texts_of.ensures.input;
+      input = c.texts_of.ensures.input ∙ first_said words c.in_ok-matches.matches said;
+      one_input = one_said words c.in_ok-matches.matches said c.in_ok-refuse_two_inputs.ensures.one;
       output = text_found words c.in_ok-matches.matches (codes "output") _ said c.texts_of.ensures.output;
       tees = c.in_ok-tees.ensures.texts ∙ ap (λ (t : Option (List Text)). unwrap_or t [])
           (raw_values-rows (found_of c.in_ok-matches.matches) (codes "tee") ∙ ap (all_of (codes "tee")) said);
@@ -61,4 +68,8 @@ returns-clause-asked c =
       stop_after = text_found words c.in_ok-matches.matches (codes "stop-after") _ said c.texts_of.ensures.stop_after;
       append = λ reported. c.get_flag-6.ensures.value (flag_said words c.in_ok-matches.matches (codes "append") said ∙ reported);
       no_append = λ reported. c.get_flag-6.ensures.other (flag_said words c.in_ok-matches.matches (codes "append") said ∙ reported);
+      number = λ reported. c.get_flag-7.ensures.value (flag_said words c.in_ok-matches.matches (codes "numeric") said ∙ reported);
+      no_number = λ reported. c.get_flag-7.ensures.other (flag_said words c.in_ok-matches.matches (codes "numeric") said ∙ reported);
+      name = text_found words c.in_ok-matches.matches (codes "name") _ said c.texts_of.ensures.name;
+      interval = text_found words c.in_ok-matches.matches (codes "interval") _ said c.texts_of.ensures.interval;
     }
