@@ -19,13 +19,13 @@ copied_on a b c p q =
       saw = λ seen. q.saw (p.saw seen);
       rest = q.rest
           ∙ ap (λ (v : ReadView). record v
-            { taken = c.taken; known = c.known; saw = c.saw; all = c.all }) p.rest;
+          { taken = c.taken; known = c.known; saw = c.saw; all = c.all }) p.rest;
     }
 
 pub written_on : (a b c : WriteView) → IsWritten a b → IsWritten b c → IsWritten a c
 written_on a b c p q =
     q ∙ ap (λ (v : WriteView). record v
-        { sent = c.sent; room = c.room; lent = c.lent; shut = c.shut; saw = c.saw }) p
+    { sent = c.sent; room = c.room; lent = c.lent; shut = c.shut; saw = c.saw }) p
 
 -- bytes joined on after others
 pub joined_on : (us vs ws xs ys : List ℕ) → vs ≡ us ++ xs → ws ≡ vs ++ ys → ws ≡ us ++ (xs ++ ys)
