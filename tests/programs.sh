@@ -178,7 +178,7 @@ note "100,000 bytes at 100,000 a second, one by one, took $took ms" test "$took"
 
 # Progress.
 try 'progress that knows the size by the shell' 20 0 '; [0-9]*%, [0-9.]* [a-z]* left' '$pump --progress --rate 3m < file > /dev/null'
-try 'a part of a file' 20 0 '; 100%$' '(head -c 4000000 > /dev/null; $pump --progress) < file > /dev/null'
+try 'a part of a file' 20 0 '; 100%; ' '(head -c 4000000 > /dev/null; $pump --progress) < file > /dev/null'
 try 'a size that is too small' 20 0 'KiB' '(lines 5000; sleep 0.6) | $pump --progress --size 2 > /dev/null'
 note 'it tells no percent of it' eval '! grep -q "[0-9]%$\|left" told'
 try_silent 'a reader of the progress that left' 20 0 '(lines 300000; sleep 1; lines 300000) | $pump --progress 2> >(exec head -n 1 > first) | cmp - <(lines 300000; lines 300000)'
