@@ -55,8 +55,9 @@ impl<K> Side<K> {
     /// How long it has waited for the other side, with a wait that is under way. If the clock can't
     /// be read, that wait counts nothing.
     pub fn waited<R: Wait + Clock>(&self, rt: &R) -> Duration {
-        let since = *self.since.lock(rt);
-        let under_way = nanoseconds_since(rt, since);
+        // Locked until both are read, so that a wait which ends meanwhile is counted once.
+        let since = self.since.lock(rt);
+        let under_way = nanoseconds_since(rt, *since);
         let ended = self.waited.load(Ordering::SeqCst);
         Duration::from_nanos(ended.saturating_add(under_way))
     }
