@@ -46,7 +46,7 @@ fn send_all<H: Wait>(rt: &H, writer: OwnedWriter, bytes: &[u8]) -> WriteMark
         }
         thread::yield_now();
     }
-    writer.drop().told
+    writer.drop().mark
 }
 
 /// Takes bytes to the front of `place` until it is full or the pipe has ended, and returns how

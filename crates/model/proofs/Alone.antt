@@ -18,7 +18,7 @@ use Rattle.model.specs.Pipe.{Pipe}
 use Rattle.model.specs.Move.{with_waker}
 use Rattle.model.specs.Refusal.{reader_state, writer_state}
 use Rattle.piper_protocol.specs.Table.{Next, goes_on, read_action, write_action, reader_looked, reader_looked_again, reader_registered, writer_taken, writer_is_open, writer_looked, writer_looked_again, writer_registered, reader_taken, own_taken}
-use Rattle.model.specs.Action.{refreshed_by, registered_in}
+use Rattle.model.specs.Action.{index_loaded_by, registered_in}
 use Rattle.model.specs.Step.{Stepped, went, call_after, source_after, destination_after, stepped}
 use Rattle.model_sides.specs.declared.calls.Step.TheVariants.{Go}
 use Rattle.model.specs.Alone.{Ended, heard, reader_alone, read_steps, read_wakes, is_draining, is_drain_round, is_filling, is_fill_round, writer_alone, write_steps, write_wakes, reader_looks_alone, reader_again_alone, reader_granted_alone, reader_done_alone, writer_ended, writer_open_alone, writer_looks_alone, writer_granted_alone, writer_again_alone, writer_done_alone, steps_after, wakes_after}
@@ -64,10 +64,10 @@ reader-rest at.Dropped p busy plain = absurd (cc)
 reader-rest (at.QueryHead query) p busy plain = refl
 reader-rest (at.QueryTail query) p busy plain = refl
 reader-rest at.QueryClosed p busy plain = refl
-reader-rest (at.LookTail purpose.Poll) p busy plain = looks-rest (length p.unread == 0) (refreshed_by Reader p)
+reader-rest (at.LookTail purpose.Poll) p busy plain = looks-rest (length p.unread == 0) (index_loaded_by Reader p)
 reader-rest (at.LookRegister purpose.Poll) p busy plain = registers-rest (is_granted p.reader_call.context) (record p { reader_waker = registered_in p.reader_call.context p.reader_waker })
 reader-rest (at.LookClosed purpose.Poll) p busy plain = refl
-reader-rest (at.LookTailAgain purpose.Poll was_closed) p busy plain = again-rest (length p.unread == 0) was_closed (refreshed_by Reader p)
+reader-rest (at.LookTailAgain purpose.Poll was_closed) p busy plain = again-rest (length p.unread == 0) was_closed (index_loaded_by Reader p)
 reader-rest (at.LookTake purpose.Poll) p busy plain = refl
 reader-rest (at.StoreHead n after_read.Answer) p busy plain = refl
 reader-rest (at.StoreHead n after_read.Drop) p busy plain = refl
@@ -125,10 +125,10 @@ reader-nearer at.Dropped p busy plain goes = absurd (cc)
 reader-nearer (at.QueryHead query) p busy plain goes = (refl, refl, near 2 1 0 0 (length p.woken) (lit< tt) (lit≤ tt))
 reader-nearer (at.QueryTail query) p busy plain goes = absurd (cc)
 reader-nearer at.QueryClosed p busy plain goes = absurd (cc)
-reader-nearer (at.LookTail purpose.Poll) p busy plain goes = looks-near (length p.unread == 0) p (refreshed_by Reader p) refl goes
+reader-nearer (at.LookTail purpose.Poll) p busy plain goes = looks-near (length p.unread == 0) p (index_loaded_by Reader p) refl goes
 reader-nearer (at.LookRegister purpose.Poll) p busy plain goes = registers-near (is_granted p.reader_call.context) p p refl goes
 reader-nearer (at.LookClosed purpose.Poll) p busy plain goes = (refl, refl, near 3 2 0 0 (length p.woken) (lit< tt) (lit≤ tt))
-reader-nearer (at.LookTailAgain purpose.Poll was_closed) p busy plain goes = again-near (length p.unread == 0) was_closed p (refreshed_by Reader p) refl goes
+reader-nearer (at.LookTailAgain purpose.Poll was_closed) p busy plain goes = again-near (length p.unread == 0) was_closed p (index_loaded_by Reader p) refl goes
 reader-nearer (at.LookTake purpose.Poll) p busy plain goes = absurd (cc)
 reader-nearer (at.StoreHead n after_read.Answer) p busy plain goes = (refl, refl, near 3 2 1 1 (length p.woken) (lit< tt) (lit≤ tt))
 reader-nearer (at.StoreHead n after_read.Drop) p busy plain goes = (refl, refl, near 3 2 1 1 (length p.woken) (lit< tt) (lit≤ tt))
@@ -190,9 +190,9 @@ writer-rest (on.QueryHead query) p busy plain = refl
 writer-rest (on.QueryTail query count) p busy plain = refl
 writer-rest on.QueryClosed p busy plain = refl
 writer-rest (on.LookClosed purpose.Poll) p busy plain = open-rest p.is_closed (p.room == 0) p
-writer-rest (on.LookHead purpose.Poll) p busy plain = loads-rest (p.capacity - length p.unread == 0) (refreshed_by Writer p)
+writer-rest (on.LookHead purpose.Poll) p busy plain = loads-rest (p.capacity - length p.unread == 0) (index_loaded_by Writer p)
 writer-rest (on.LookRegister purpose.Poll) p busy plain = writer_registers-rest (is_granted p.writer_call.context) (record p { writer_waker = registered_in p.writer_call.context p.writer_waker })
-writer-rest (on.LookHeadAgain purpose.Poll) p busy plain = writer_again-rest (p.capacity - length p.unread == 0) (refreshed_by Writer p)
+writer-rest (on.LookHeadAgain purpose.Poll) p busy plain = writer_again-rest (p.capacity - length p.unread == 0) (index_loaded_by Writer p)
 writer-rest (on.LookClosedAgain purpose.Poll) p busy plain = refl
 writer-rest (on.LookTake purpose.Poll) p busy plain = refl
 writer-rest (on.StoreTail n after_write.Answer) p busy plain = refl
@@ -255,7 +255,7 @@ open-near true none p goes = absurd (cc)
 open-near false true p goes = (refl, refl, near 5 4 0 0 (length p.woken) (lit< tt) (lit≤ tt))
 open-near false false p goes = (refl, refl, near 5 1 0 0 (length p.woken) (lit< tt) (lit≤ tt))
 
-loads-near : (none : Bool) (p : Pipe) → IsWriterNearer (on.LookHead purpose.Poll) p (goes_on (writer_looked none purpose.Poll)) (refreshed_by Writer p)
+loads-near : (none : Bool) (p : Pipe) → IsWriterNearer (on.LookHead purpose.Poll) p (goes_on (writer_looked none purpose.Poll)) (index_loaded_by Writer p)
 loads-near true p goes = (refl, refl, near 4 3 0 0 (length p.woken) (lit< tt) (lit≤ tt))
 loads-near false p goes = (refl, refl, near 4 1 0 0 (length p.woken) (lit< tt) (lit≤ tt))
 
@@ -263,7 +263,7 @@ writer_registers-near : (is_granted : Bool) (p : Pipe) → IsWriterNearer (on.Lo
 writer_registers-near true p goes = (refl, refl, near 3 2 0 0 (length p.woken) (lit< tt) (lit≤ tt))
 writer_registers-near false p goes = absurd (cc)
 
-writer_again-near : (none : Bool) (p : Pipe) → IsWriterNearer (on.LookHeadAgain purpose.Poll) p (goes_on (writer_looked_again none purpose.Poll)) (refreshed_by Writer p)
+writer_again-near : (none : Bool) (p : Pipe) → IsWriterNearer (on.LookHeadAgain purpose.Poll) p (goes_on (writer_looked_again none purpose.Poll)) (index_loaded_by Writer p)
 writer_again-near true p goes = (refl, refl, near 2 1 0 0 (length p.woken) (lit< tt) (lit≤ tt))
 writer_again-near false p goes = (refl, refl, near 2 1 0 0 (length p.woken) (lit< tt) (lit≤ tt))
 

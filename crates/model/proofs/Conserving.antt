@@ -22,7 +22,7 @@ use Rattle.piper_protocol.specs.declared.table.ReadPoint.TheVariants as at
 use Rattle.piper_protocol.specs.declared.table.WritePoint.{WritePoint}
 use Rattle.piper_protocol.specs.declared.table.WritePoint.TheVariants as on
 use Rattle.piper_protocol.specs.declared.table.AfterWrite.TheVariants as after_write
-use Rattle.piper_protocol.specs.Index.{place_of}
+use Rattle.piper_protocol.specs.Index.{offset_of}
 use Rattle.model_sides.specs.Call.{side_of, kind_of, waker_of}
 use Rattle.model.specs.Pipe.{Pipe}
 use Rattle.model.specs.Places.{peeked_count}
@@ -41,7 +41,7 @@ pub record Moves (old new : Pipe) (events : List Event) : Type 0 where
   pub capacity : new.capacity ≡ old.capacity
   pub bytes : consumed_of events ++ new.unread ≡ old.unread ++ published_of events
   pub count : old.start + length (consumed_of events) ≤ old.capacity
-  pub start : new.start ≡ place_of old.capacity (old.start + length (consumed_of events))
+  pub start : new.start ≡ offset_of old.capacity (old.start + length (consumed_of events))
 
 -- nothing was moved
 pub record Rests (old new : Pipe) (events : List Event) : Type 0 where
@@ -56,7 +56,7 @@ rests-moves old new events below r = record {
   capacity = r.capacity;
   bytes = rw (r.consumed, r.published, r.unread) (sym (append-nil old.unread));
   count = rw r.consumed (omega arith);
-  start = rw (r.consumed, r.start) (sym (let same : place_of old.capacity (old.start + 0) ≡ old.start = grind (arith, nat_tests) in same));
+  start = rw (r.consumed, r.start) (sym (let same : offset_of old.capacity (old.start + 0) ≡ old.start = grind (arith, nat_tests) in same));
 }
 
 registration-rests : (side : Side) (context : Option Context) → (consumed_of (registration_of side context) ≡ []) × (published_of (registration_of side context) ≡ [])
@@ -87,7 +87,7 @@ head_stored side p n below known within =
       capacity = refl;
       bytes = ap (λ (bytes : List ℕ). bytes ++ drop n p.unread) one ∙ take-append-drop n p.unread ∙ sym (append-nil p.unread);
       count = rw one (omega (arith, long));
-      start = ap (λ k. place_of p.capacity (p.start + k)) (sym (ap (λ (bytes : List ℕ). length bytes) one ∙ long));
+      start = ap (λ k. offset_of p.capacity (p.start + k)) (sym (ap (λ (bytes : List ℕ). length bytes) one ∙ long));
     }
 
 tail_stored : (side : Side) (p : Pipe) (n : ℕ) → p.start < p.capacity → Moves p (performed side (does.StoreTail n) p) (logged_of side (does.StoreTail n) p)
@@ -95,7 +95,7 @@ tail_stored side p n below = record {
   capacity = refl;
   bytes = ap (λ (bytes : List ℕ). p.unread ++ bytes) (sym (append-nil (take n p.lent)));
   count = omega arith;
-  start = sym (let same : place_of p.capacity (p.start + 0) ≡ p.start = grind (arith, nat_tests) in same);
+  start = sym (let same : offset_of p.capacity (p.start + 0) ≡ p.start = grind (arith, nat_tests) in same);
 }
 
 quiet : (old new : Pipe) (events : List Event) → old.start < old.capacity → new.capacity ≡ old.capacity → new.unread ≡ old.unread → new.start ≡ old.start → (consumed_of events ≡ []) × (published_of events ≡ []) → Moves old new events
@@ -111,8 +111,8 @@ action-moves side does.LoadTail p below known within = quiet _ _ _ below refl re
 action-moves side does.LoadClosed p below known within = quiet _ _ _ below refl refl refl (refl, refl)
 action-moves side (does.StoreClosed true) p below known within = quiet _ _ _ below refl refl refl (refl, refl)
 action-moves side (does.StoreClosed false) p below known within = quiet _ _ _ below refl refl refl (refl, refl)
-action-moves Reader does.Refresh p below known within = quiet _ _ _ below refl refl refl (refl, refl)
-action-moves Writer does.Refresh p below known within = quiet _ _ _ below refl refl refl (refl, refl)
+action-moves Reader does.LoadIndex p below known within = quiet _ _ _ below refl refl refl (refl, refl)
+action-moves Writer does.LoadIndex p below known within = quiet _ _ _ below refl refl refl (refl, refl)
 action-moves Reader does.Register p below known within = quiet _ _ _ below refl refl refl (registration-rests Reader p.reader_call.context)
 action-moves Writer does.Register p below known within = quiet _ _ _ below refl refl refl (registration-rests Writer p.writer_call.context)
 action-moves Reader (does.Take Reader) p below known within = quiet _ _ _ below refl refl refl (refl, refl)
@@ -179,14 +179,14 @@ pub capacity-kept : (p q : Pipe) (s : Step) (before after : List Event) → IsSo
 capacity-kept p q s before after sound made = ap (λ (x : Pipe). x.capacity) made.made.pipe ∙ (step-moves q.lent s p sound).capacity
 
 -- the place of the first unread byte, by the count of consumed bytes
-place-count : (c k s n : ℕ) → 1 ≤ c → s ≡ k % c → s + n ≤ c → place_of c (s + n) ≡ (k + n) % c
+place-count : (c k s n : ℕ) → 1 ≤ c → s ≡ k % c → s + n ≤ c → offset_of c (s + n) ≡ (k + n) % c
 place-count c k s n some is fits =
     let parts : k + n ≡ k / c * c + (s + n) = omega (arith, div-add-mod' k c) in
     elim (cases_lt (s + n) c) [
-      | inl low ↦ (let same : place_of c (s + n) ≡ s + n = grind (arith, nat_tests) in same) ∙ sym (ap (λ j. j % c) parts ∙ mod-mul-add (k / c) c (s + n) low)
+      | inl low ↦ (let same : offset_of c (s + n) ≡ s + n = grind (arith, nat_tests) in same) ∙ sym (ap (λ j. j % c) parts ∙ mod-mul-add (k / c) c (s + n) low)
       | inr high ↦ (
           let full : s + n ≡ c = omega arith in
-          let none : place_of c (s + n) ≡ 0 = grind (arith, nat_tests) in
+          let none : offset_of c (s + n) ≡ 0 = grind (arith, nat_tests) in
           none ∙ sym (ap (λ j. j % c) (parts ∙ ap (λ j. k / c * c + j) full) ∙ add-mod_right (k / c * c) c ∙ mul-mod_left (k / c) c))
     ]
 

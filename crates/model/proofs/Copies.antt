@@ -19,7 +19,7 @@ use Rattle.piper_protocol.specs.declared.table.ReadPoint.{ReadPoint}
 use Rattle.piper_protocol.specs.declared.table.ReadPoint.TheVariants as at
 use Rattle.piper_protocol.specs.declared.table.WritePoint.{WritePoint}
 use Rattle.piper_protocol.specs.declared.table.WritePoint.TheVariants as on
-use Rattle.piper_protocol.specs.Index.{place_of}
+use Rattle.piper_protocol.specs.Index.{offset_of}
 use Rattle.model_sides.specs.Open.{is_granted}
 use Rattle.piper_protocol.specs.Table.{Next, goes_on, count_answer, failed_answer, write_action, reader_looked, reader_looked_again, reader_registered, reader_is_true, reader_moved, writer_taken, read_after, writer_is_open, writer_looked, writer_looked_again, writer_registered, writer_is_true, writer_moved, writer_rounds, reader_taken, tail_store}
 use Rattle.model.specs.declared.destination.Destination.{Destination}
@@ -29,7 +29,7 @@ use Rattle.model.specs.Move.{with_waker, consumed, published, writer_woken, read
 use Rattle.model.specs.Copy.{Copied, answered, waker_after, woken_after, drained, filled, unlent}
 use Rattle.model.specs.Scripted.{drain_moves_to, taken_by, fill_moves_more}
 use Rattle.model.specs.Round.{taken, found_of, unspent}
-use Rattle.model.specs.Action.{refreshed_by, registered_in, round_count, destination_called}
+use Rattle.model.specs.Action.{index_loaded_by, registered_in, round_count, destination_called}
 use Rattle.model.specs.Lend.{Lendable}
 use Rattle.model.specs.Step.{Stepped, stepped, filled_out, MayOffer}
 use Rattle.model_sides.specs.declared.calls.Step.TheVariants.{Go}
@@ -74,14 +74,14 @@ woken-drained n p some =
     λ j. record (consumed n p) { writer_waker = waker j; woken = woken j }
 
 -- the first part of the bytes, then the rest
-place_of-parts : (c s m n : ℕ) → s < c → s + m ≤ c → 1 ≤ m → m + n ≤ c → place_of c (place_of c (s + m) + n) ≡ place_of c (s + (m + n))
-place_of-parts c s m n start flat some within = grind (arith, nat_tests)
+offset_of-parts : (c s m n : ℕ) → s < c → s + m ≤ c → 1 ≤ m → m + n ≤ c → offset_of c (offset_of c (s + m) + n) ≡ offset_of c (s + (m + n))
+offset_of-parts c s m n start flat some within = grind (arith, nat_tests)
 
 drained-parts : (m n : ℕ) (p : Pipe) → p.start < p.capacity → p.start + m ≤ p.capacity → 1 ≤ m → m + n ≤ p.capacity → drained n (drained m p) ≡ drained (m + n) p
 drained-parts m n p start flat some within =
     let known : p.known - m - n ≡ p.known - (m + n) = omega arith in
     let bytes = drop-drop n m p.unread in
-    let place = place_of-parts p.capacity p.start m n start flat some within in
+    let place = offset_of-parts p.capacity p.start m n start flat some within in
     let waker = waker_after-twice m n p.writer_waker in
     let woken = woken_after-twice m n p.woken p.writer_waker in
     cc
@@ -144,10 +144,10 @@ calls-rest (Acts (dest.Fail ∷ acts)) (Polling drawn) sum p start known = refl
 calls-rest (Acts (dest.Take most ∷ acts)) form sum p start known = act form sum p start known most acts (min most (round_count p) == 0) refl
 
 pub drain-rest : (point : ReadPoint) (p : Pipe) → is_draining point ≡ true → p.start < p.capacity → p.known ≤ p.capacity → let s = read_step point p in reader_alone point p ≡ reader_rest s.answer s.pipe
-drain-rest (at.LookTail (purpose.Copy form)) p drains start known = looks-rest (length p.unread == 0) form (refreshed_by Reader p)
+drain-rest (at.LookTail (purpose.Copy form)) p drains start known = looks-rest (length p.unread == 0) form (index_loaded_by Reader p)
 drain-rest (at.LookRegister (purpose.Copy form)) p drains start known = registers-rest (is_granted p.reader_call.context) form (record p { reader_waker = registered_in p.reader_call.context p.reader_waker })
 drain-rest (at.LookClosed (purpose.Copy form)) p drains start known = refl
-drain-rest (at.LookTailAgain (purpose.Copy form) was_closed) p drains start known = again-rest (length p.unread == 0) was_closed form (refreshed_by Reader p)
+drain-rest (at.LookTailAgain (purpose.Copy form) was_closed) p drains start known = again-rest (length p.unread == 0) was_closed form (index_loaded_by Reader p)
 drain-rest (at.LookTake (purpose.Copy form)) p drains start known = takes-rest form p
 drain-rest at.Yield p drains start known = refl
 drain-rest (at.CallDestination form sum) p drains start known = calls-rest p.destination form sum p start known
@@ -259,7 +259,7 @@ not_shut true is_closed shut unclosed = absurd (let yes = shut refl in cc)
 -- an open pipe with room lends some places
 lends_some : (p : Pipe) (n : ℕ) → length p.unread ≤ p.capacity → p.start < p.capacity → p.is_shut ≡ false → Lendable MOST_A_ROUND p n → n ≡ 0 → p.room ≡ 0
 lends_some p n unread start not_shut lendable none =
-    let below : place_of p.capacity (p.start + length p.unread) < p.capacity = place_below p.capacity (p.start + length p.unread) (omega arith) in
+    let below : offset_of p.capacity (p.start + length p.unread) < p.capacity = place_below p.capacity (p.start + length p.unread) (omega arith) in
     let least = lendable.at_least not_shut in
     omega arith
 
@@ -288,9 +288,9 @@ fill_step point lent p = stepped lent (Go Writer) (heard Writer (write_action po
 pub fill-rest : (point : WritePoint) (lent : List ℕ) (p : Pipe) → is_filling point ≡ true → WriterValid point p → MayOffer point p.source lent (record p { writer = point })
     → let s = fill_step point lent p in writer_alone point p ≡ writer_rest s.answer s.pipe
 fill-rest (on.LookClosed (purpose.Copy form)) lent p fills valid may = open-rest p.is_closed (p.room == 0) form p
-fill-rest (on.LookHead (purpose.Copy form)) lent p fills valid may = loads-rest (p.capacity - length p.unread == 0) form (refreshed_by Writer p)
+fill-rest (on.LookHead (purpose.Copy form)) lent p fills valid may = loads-rest (p.capacity - length p.unread == 0) form (index_loaded_by Writer p)
 fill-rest (on.LookRegister (purpose.Copy form)) lent p fills valid may = writer_registers-rest (is_granted p.writer_call.context) form (record p { writer_waker = registered_in p.writer_call.context p.writer_waker })
-fill-rest (on.LookHeadAgain (purpose.Copy form)) lent p fills valid may = writer_again-rest (p.capacity - length p.unread == 0) form (refreshed_by Writer p)
+fill-rest (on.LookHeadAgain (purpose.Copy form)) lent p fills valid may = writer_again-rest (p.capacity - length p.unread == 0) form (index_loaded_by Writer p)
 fill-rest (on.LookClosedAgain (purpose.Copy form)) lent p fills valid may = refl
 fill-rest (on.LookTake (purpose.Copy form)) lent p fills valid may = writer_takes-rest form p
 fill-rest on.Yield lent p fills valid may = refl

@@ -11,7 +11,7 @@ use Rattle.model_sides.specs.declared.calls.Step.{Step}
 use Rattle.model_sides.specs.declared.calls.Step.TheVariants.{Begin, Go, Put}
 use Rattle.piper_protocol.specs.declared.table.Action.{Action}
 use Rattle.piper_protocol.specs.declared.table.Action.TheVariants as does
-use Rattle.piper_protocol.specs.Index.{place_of}
+use Rattle.piper_protocol.specs.Index.{offset_of}
 use Rattle.model.specs.Pipe.{Pipe}
 use Rattle.model.specs.Sound.{IsSound}
 use Rattle.piper_protocol.specs.Table.{write_action}
@@ -22,7 +22,7 @@ use Rattle.model.proofs.Opened.{opened-leaves}
 use Rattle.model.proofs.Counting.{writer_never-head}
 use Rattle.model.specs.Disjoint.{IsDisjoint, KeepsKnown, IsWriterStep}
 
-apart : (c s u k r i j : ℕ) → s < c → u ≤ c → k ≤ u → r ≤ c - u → i < k → j < r → j < c - place_of c (s + u) → place_of c (s + i) ≢ place_of c (s + u) + j
+apart : (c s u k r i j : ℕ) → s < c → u ≤ c → k ≤ u → r ≤ c - u → i < k → j < r → j < c - offset_of c (s + u) → offset_of c (s + i) ≢ offset_of c (s + u) + j
 apart c s u k r i j start fits known room first second flat = grind (arith, nat_tests)
 
 pub disjoint : (p : Pipe) → IsSound p → IsDisjoint p
@@ -41,7 +41,7 @@ writer-keeps (does.StoreTail n) p known never = record { capacity = refl; start 
 writer-keeps does.Rest p known never = keeps_all p _ refl refl refl refl
 writer-keeps does.LoadHead p known never = keeps_all p _ refl refl refl refl
 writer-keeps does.LoadTail p known never = keeps_all p _ refl refl refl refl
-writer-keeps does.Refresh p known never = keeps_all p _ refl refl refl refl
+writer-keeps does.LoadIndex p known never = keeps_all p _ refl refl refl refl
 writer-keeps does.LoadClosed p known never = keeps_all p _ refl refl refl refl
 writer-keeps does.Register p known never = keeps_all p _ refl refl refl refl
 writer-keeps (does.StoreClosed true) p known never = keeps_all p _ refl refl refl refl

@@ -21,7 +21,7 @@ use Rattle.piper_protocol.specs.declared.table.ReadPoint.TheVariants as at
 use Rattle.model_sides.specs.Open.{is_granted}
 use Rattle.piper_protocol.specs.Table.{Next, goes_on, head_store, moved_in, read_action, read_after, reader_is_true, reader_looked, reader_looked_again, reader_looks_for, reader_moved, reader_registered, writer_taken}
 use Rattle.piper_protocol.specs.declared.table.Found.{Found}
-use Rattle.piper_protocol.specs.declared.table.Found.TheVariants.{Nothing as nothing, Refreshed as refreshed, Granted as granted, Waker as waker}
+use Rattle.piper_protocol.specs.declared.table.Found.TheVariants.{Nothing as nothing, IndexLoaded as index_loaded, Granted as granted, Waker as waker}
 use Rattle.model.specs.declared.destination.Destination.{Destination}
 use Rattle.model.specs.declared.destination.Destination.TheVariants.{Slice, Acts}
 use Rattle.model.specs.Pipe.{Pipe, begun}
@@ -29,7 +29,7 @@ use Rattle.model.specs.Sound.{IsSound}
 use Rattle.model.specs.Move.{with_waker}
 use Rattle.model.specs.Copy.{Copied, count_of, copied_after, drawn, drain_moves, drain}
 use Rattle.model.specs.Look.{reader_look, reader_looks, reader_registers}
-use Rattle.model.specs.Refresh.{reader_refreshed}
+use Rattle.model.specs.LoadIfNone.{tail_loaded_if_empty}
 use Rattle.piper_protocol.specs.declared.answer.Polled.{Polled}
 use Rattle.piper_protocol.specs.declared.answer.Polled.TheVariants.{Ready, Pending, Memory}
 use Rattle.model_sides.specs.declared.scripted.DestAct.{DestAct}
@@ -273,10 +273,10 @@ moves-read n true form sum unread test = let none : 0 ≡ n = grind (arith, nat_
 moves-read n false form sum unread test = (refl, λ ends. absurd (cc))
 
 reads : (point : ReadPoint) (size : ℕ) (p : Pipe) → is_draining point ≡ true → Reads (head_store point) (took (read_action point) size p) size p.unread (read_step point (placing (Slice size) p))
-reads (at.LookTail (purpose.Copy form)) size p drains = reads-none 0 size p.unread (read_step (at.LookTail (purpose.Copy form)) (placing (Slice size) p)) (no-store p.capacity (at.LookTail (purpose.Copy form)) (refreshed (length p.unread == 0)) refl refl) refl refl
+reads (at.LookTail (purpose.Copy form)) size p drains = reads-none 0 size p.unread (read_step (at.LookTail (purpose.Copy form)) (placing (Slice size) p)) (no-store p.capacity (at.LookTail (purpose.Copy form)) (index_loaded (length p.unread == 0)) refl refl) refl refl
 reads (at.LookRegister (purpose.Copy form)) size p drains = reads-none 0 size p.unread (read_step (at.LookRegister (purpose.Copy form)) (placing (Slice size) p)) (no-store p.capacity (at.LookRegister (purpose.Copy form)) (granted (is_granted p.reader_call.context)) refl refl) refl refl
 reads (at.LookClosed (purpose.Copy form)) size p drains = reads-none 0 size p.unread (read_step (at.LookClosed (purpose.Copy form)) (placing (Slice size) p)) refl refl refl
-reads (at.LookTailAgain (purpose.Copy form) was_closed) size p drains = reads-none 0 size p.unread (read_step (at.LookTailAgain (purpose.Copy form) was_closed) (placing (Slice size) p)) (no-store p.capacity (at.LookTailAgain (purpose.Copy form) was_closed) (refreshed (length p.unread == 0)) refl refl) refl refl
+reads (at.LookTailAgain (purpose.Copy form) was_closed) size p drains = reads-none 0 size p.unread (read_step (at.LookTailAgain (purpose.Copy form) was_closed) (placing (Slice size) p)) (no-store p.capacity (at.LookTailAgain (purpose.Copy form) was_closed) (index_loaded (length p.unread == 0)) refl refl) refl refl
 reads (at.LookTake (purpose.Copy form)) size p drains = reads-none 0 size p.unread (read_step (at.LookTake (purpose.Copy form)) (placing (Slice size) p)) (no-store p.capacity (at.LookTake (purpose.Copy form)) nothing refl refl) refl refl
 reads at.Yield size p drains = reads-none 0 size p.unread (read_step at.Yield (placing (Slice size) p)) refl refl refl
 reads (at.CallDestination form sum) size p drains =
@@ -441,14 +441,14 @@ looks-keep true (Some cx) p = registers-keep cx.luck.register_granted cx.waker p
 looks-keep false None p = (refl, refl)
 looks-keep false (Some cx) p = (refl, refl)
 
-refreshed-known : (p : Pipe) → p.known ≤ length p.unread → (reader_refreshed p).known ≤ length p.unread
-refreshed-known p known = grind (arith, nat_tests)
+loaded-known : (p : Pipe) → p.known ≤ length p.unread → (tail_loaded_if_empty p).known ≤ length p.unread
+loaded-known p known = grind (arith, nat_tests)
 
 pub drain-counts : (cx : Option Context) (size : ℕ) (p : Pipe) → p.known ≤ length p.unread → CountsTo p (drain cx size p)
 drain-counts cx size p known =
     let look = reader_look cx (begun p) in
-    let kept = looks-keep ((reader_refreshed (begun p)).known == 0) cx (reader_refreshed (begun p)) in
-    let long = refreshed-known (begun p) known in
+    let kept = looks-keep ((tail_loaded_if_empty (begun p)).known == 0) cx (tail_loaded_if_empty (begun p)) in
+    let long = loaded-known (begun p) known in
     let unread = kept.0 in
     let same = ap (λ (xs : List ℕ). length xs) unread in
     let counts = after-counts cx size look.answer look.pipe (omega (arith, kept.1)) in

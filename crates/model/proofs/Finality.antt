@@ -77,7 +77,7 @@ module _ (saw ended : Bool) (q : Pipe) (unread : ended ≡ true → q.unread ≡
   writer-logs does.Rest unlent = (tt, refl, refl)
   writer-logs does.LoadHead unlent = ((λ t. rw (unread t) refl, tt), refl, refl)
   writer-logs does.LoadTail unlent = ((λ t. rw (unread t) refl, tt), refl, refl)
-  writer-logs does.Refresh unlent = ((λ t. rw (unread t) refl, tt), refl, refl)
+  writer-logs does.LoadIndex unlent = ((λ t. rw (unread t) refl, tt), refl, refl)
   writer-logs does.LoadClosed unlent = ((closed, tt), refl, refl)
   writer-logs does.Register unlent = context-quiet saw ended Writer q.writer_call.context
   writer-logs (does.StoreHead n) unlent = ((λ t. take_none n q.unread (unread t), tt), refl, refl)

@@ -12,7 +12,7 @@ use Rattle.model_sides.specs.declared.calls.Step.{Step}
 use Rattle.model_sides.specs.declared.calls.Step.TheVariants.{Begin, Go, Put}
 use Rattle.piper_protocol.specs.declared.answer.Answer.{Answer}
 use Rattle.model_sides.specs.declared.events.Event.{Event}
-use Rattle.model_sides.specs.declared.events.Event.TheVariants.{Began, Looked}
+use Rattle.model_sides.specs.declared.events.Event.TheVariants.{Began, Loaded}
 use Rattle.model_sides.specs.declared.events.Seen.TheVariants.{Tail}
 use Rattle.model_sides.specs.declared.polling.Context.{Context}
 use Rattle.piper_protocol.specs.declared.table.Action.{Action}
@@ -85,8 +85,8 @@ action-shows h Reader does.LoadHead p same = ((tt, tt), same)
 action-shows h Writer does.LoadHead p same = ((tt, tt), same)
 action-shows h Reader does.LoadTail p same = ((tt, tt), same)
 action-shows h Writer does.LoadTail p same = ((tt, tt), same)
-action-shows h Reader does.Refresh p same = ((tt, tt), same)
-action-shows h Writer does.Refresh p same = ((tt, tt), same)
+action-shows h Reader does.LoadIndex p same = ((tt, tt), same)
+action-shows h Writer does.LoadIndex p same = ((tt, tt), same)
 action-shows h Reader does.LoadClosed p same = ((tt, tt), same)
 action-shows h Writer does.LoadClosed p same = ((tt, tt), same)
 action-shows h Reader does.Register p same = quietly h _ p same (context-quiet h Reader p.reader_call.context)
@@ -179,9 +179,9 @@ module _ (h : History) (p : Pipe) where
 
   -- the one answer that is false: this look found nothing, after a close
   again-honest : (l : Purpose) (count : ℕ) (none was_closed : Bool) → (count == 0) ≡ none → h.is_closed ≡ p.is_closed → (was_closed ≡ true → p.is_closed ≡ true)
-      → IsHonestFrom (history_after h (Looked Reader (Tail count))) (answer_event Reader (reader_looked_again none l was_closed).answer)
+      → IsHonestFrom (history_after h (Loaded Reader (Tail count))) (answer_event Reader (reader_looked_again none l was_closed).answer)
   again-honest l count false was_closed test same seen = tt
-  again-honest (purpose.Copy form) count true was_closed test same seen = copy-honest (history_after h (Looked Reader (Tail count))) form (end_or_pending was_closed)
+  again-honest (purpose.Copy form) count true was_closed test same seen = copy-honest (history_after h (Loaded Reader (Tail count))) form (end_or_pending was_closed)
   again-honest purpose.Poll count true false test same seen = (tt, tt)
   again-honest purpose.Poll count true true test same seen =
       let zero : count ≡ 0 = grind (arith, nat_tests) in
@@ -316,7 +316,7 @@ writer-flag (does.StoreClosed false) p closed = refl
 writer-flag does.Rest p closed = closed
 writer-flag does.LoadHead p closed = closed
 writer-flag does.LoadTail p closed = closed
-writer-flag does.Refresh p closed = closed
+writer-flag does.LoadIndex p closed = closed
 writer-flag does.LoadClosed p closed = closed
 writer-flag does.Register p closed = closed
 writer-flag (does.StoreHead n) p closed = closed

@@ -18,7 +18,7 @@ use Rattle.model.proofs.Honesty.{Honest, honest_none, honest_more}
 use Rattle.model.proofs.Waking.{awake}
 use Rattle.model.proofs.Remembering.{Remembers, remembers_none, remembers_more}
 use Rattle.model.proofs.Finality.{Final, final_none, final_more}
-use Rattle.model.proofs.Heeding.{Heeds, heeds_none, heeds_more}
+use Rattle.model.proofs.Stopping.{Stops, stops_none, stops_more}
 use Rattle.model.proofs.Answering.{answered-run}
 use Rattle.model.proofs.Fronts.{sound-fresh, conserved_none, fronts_none, fronts_more}
 
@@ -27,20 +27,20 @@ pub record Keeps (cap : ℕ) (ss : List Step) (p : Pipe) (events : List Event) :
   pub runs : SoundRuns (fresh cap) [] ss p events
   pub honest : Honest p events
   pub final : Final p events
-  pub heeds : Heeds p events
+  pub stops : Stops p events
   pub remembers : Remembers p events
   pub lawful : IsLawful cap ss p events
   pub fronts : (i : ℕ) → Front cap ss i p events
 
-laws : (cap : ℕ) (ss : List Step) (p : Pipe) (events : List Event) → SoundRuns (fresh cap) [] ss p events → IsSound p → IsConserved p events → IsKnown p events → Honest p events → Final p events → Heeds p events → Remembers p events → IsLawful cap ss p events
-laws cap ss p events runs sound conserved known honest final heeds remembers =
+laws : (cap : ℕ) (ss : List Step) (p : Pipe) (events : List Event) → SoundRuns (fresh cap) [] ss p events → IsSound p → IsConserved p events → IsKnown p events → Honest p events → Final p events → Stops p events → Remembers p events → IsLawful cap ss p events
+laws cap ss p events runs sound conserved known honest final stops remembers =
     let plain = as_runs (fresh cap) p ss [] events runs in
     record {
       conserved = conserved;
       disjoint = disjoint p sound;
       honest = honest.honest;
       finality = final.final;
-      heeded = heeds.heeded;
+      stops = stops.stops;
       remembered = remembers.remembered;
       awake = awake p events sound remembers.remembered;
       answered = answered-run cap ss p events runs;
@@ -53,13 +53,13 @@ laws cap ss p events runs sound conserved known honest final heeds remembers =
 
 pub keeps_none : (cap : ℕ) → 1 ≤ cap → Keeps cap [] (fresh cap) []
 keeps_none cap some =
-    let lawful = laws cap [] (fresh cap) [] (refl, refl) (sound-fresh cap some) (conserved_none cap) (known_none cap) (honest_none cap) (final_none cap) (heeds_none cap) (remembers_none cap) in
+    let lawful = laws cap [] (fresh cap) [] (refl, refl) (sound-fresh cap some) (conserved_none cap) (known_none cap) (honest_none cap) (final_none cap) (stops_none cap) (remembers_none cap) in
     record {
       capacity = refl;
       runs = (refl, refl);
       honest = honest_none cap;
       final = final_none cap;
-      heeds = heeds_none cap;
+      stops = stops_none cap;
       remembers = remembers_none cap;
       lawful = lawful;
       fronts = fronts_none cap lawful;
@@ -74,15 +74,15 @@ keeps_more cap ss s p q before after sound sound_after kept made =
     let known = known_more cap ss s p q before after sound kept.capacity same plain kept.lawful.known made in
     let honest = honest_more p q s before after kept.honest made in
     let final = final_more p q s before after sound kept.honest kept.final made in
-    let heeds = heeds_more p q s before after kept.heeds made in
+    let stops = stops_more p q s before after kept.stops made in
     let remembers = remembers_more p q s before after sound kept.remembers made in
-    let lawful = laws cap (ss ++ s ∷ []) q after runs sound_after conserved known honest final heeds remembers in
+    let lawful = laws cap (ss ++ s ∷ []) q after runs sound_after conserved known honest final stops remembers in
     record {
       capacity = same ∙ kept.capacity;
       runs = runs;
       honest = honest;
       final = final;
-      heeds = heeds;
+      stops = stops;
       remembers = remembers;
       lawful = lawful;
       fronts = fronts_more cap ss s p q before after kept.fronts made (as_runs (fresh cap) q (ss ++ s ∷ []) [] after runs) lawful;

@@ -63,12 +63,12 @@ yield-shows c side k (Some cx) = woken-shows c side k cx.luck.yield_granted cx.w
 abbrev pub Fits : Side → Action → Knowledge → Type 0
 Fits Reader does.LoadTail k = (k.is_query ≡ true)
 Fits Writer does.LoadHead k = (k.is_query ≡ true)
-Fits side does.Refresh k = (k.is_query ≡ false)
+Fits side does.LoadIndex k = (k.is_query ≡ false)
 Fits side action k = ⊤
 
 abbrev pub learned : Side → Action → Pipe → Knowledge → Knowledge
-learned Reader does.Refresh p k = record k { known = length p.unread; found = length p.unread }
-learned Writer does.Refresh p k = record k { known = p.capacity - length p.unread; found = p.capacity - length p.unread }
+learned Reader does.LoadIndex p k = record k { known = length p.unread; found = length p.unread }
+learned Writer does.LoadIndex p k = record k { known = p.capacity - length p.unread; found = p.capacity - length p.unread }
 learned Reader (does.StoreHead n) p k = used_up (length (take n p.unread)) k
 learned Writer (does.StoreTail n) p k = used_up (length (take n p.lent)) k
 learned side action p k = k
@@ -76,8 +76,8 @@ learned side action p k = k
 pub learns : (side : Side) (action : Action) (p : Pipe) (k : Knowledge) → Fits side action k → knowledge_from p.capacity side k (logged_of side action p) ≡ learned side action p k
 learns Reader does.LoadTail p k fits = ap (λ (b : Bool). taken_in b (length p.unread) k) fits
 learns Writer does.LoadHead p k fits = ap (λ (b : Bool). taken_in b (p.capacity - length p.unread) k) fits
-learns Reader does.Refresh p k fits = ap (λ (b : Bool). taken_in b (length p.unread) k) fits
-learns Writer does.Refresh p k fits = ap (λ (b : Bool). taken_in b (p.capacity - length p.unread) k) fits
+learns Reader does.LoadIndex p k fits = ap (λ (b : Bool). taken_in b (length p.unread) k) fits
+learns Writer does.LoadIndex p k fits = ap (λ (b : Bool). taken_in b (p.capacity - length p.unread) k) fits
 learns Reader does.Register p k fits = context-shows p.capacity Reader Reader k p.reader_call.context
 learns Writer does.Register p k fits = context-shows p.capacity Writer Writer k p.writer_call.context
 learns Reader does.Wake p k fits = wake-shows p.capacity Reader k p.reader_call.taken
@@ -93,8 +93,8 @@ knows Writer p = p.room
 
 -- the log never reports less than the side knows
 pub learned-enough : (side : Side) (action : Action) (p : Pipe) (k : Knowledge) → knows side p ≤ k.known → knows side (performed side action p) ≤ (learned side action p k).known
-learned-enough Reader does.Refresh p k enough = omega arith
-learned-enough Writer does.Refresh p k enough = omega arith
+learned-enough Reader does.LoadIndex p k enough = omega arith
+learned-enough Writer does.LoadIndex p k enough = omega arith
 learned-enough Reader (does.StoreHead n) p k enough = let moved = length-take n p.unread in omega arith
 learned-enough Writer (does.StoreTail n) p k enough = let moved = length-take n p.lent in omega arith
 learned-enough side (does.StoreClosed true) p k enough = enough
@@ -110,8 +110,8 @@ Stores Writer (does.StoreTail n) p = n ≤ length p.lent
 Stores side action p = ⊤
 
 pub learned-exactly : (side : Side) (action : Action) (p : Pipe) (k : Knowledge) → Stores side action p → k.known ≡ knows side p → (learned side action p k).known ≡ knows side (performed side action p)
-learned-exactly Reader does.Refresh p k stores same = refl
-learned-exactly Writer does.Refresh p k stores same = refl
+learned-exactly Reader does.LoadIndex p k stores same = refl
+learned-exactly Writer does.LoadIndex p k stores same = refl
 learned-exactly Reader (does.StoreHead n) p k stores same = let all = length-take-le n p.unread stores in omega arith
 learned-exactly Writer (does.StoreTail n) p k stores same = let all = length-take-le n p.lent stores in omega arith
 learned-exactly side (does.StoreClosed true) p k stores same = same

@@ -79,10 +79,10 @@ logged-ready c side actor k does.Rest p = tt
 logged-ready c side actor k (does.Take slot) p = tt
 logged-ready c side actor k does.CallDestination p = tt
 logged-ready c side actor k does.CallSource p = tt
-logged-ready c Reader Reader k does.Refresh p = (tt, tt)
-logged-ready c Reader Writer k does.Refresh p = (tt, tt)
-logged-ready c Writer Reader k does.Refresh p = (tt, tt)
-logged-ready c Writer Writer k does.Refresh p = (tt, tt)
+logged-ready c Reader Reader k does.LoadIndex p = (tt, tt)
+logged-ready c Reader Writer k does.LoadIndex p = (tt, tt)
+logged-ready c Writer Reader k does.LoadIndex p = (tt, tt)
+logged-ready c Writer Writer k does.LoadIndex p = (tt, tt)
 logged-ready c Reader actor k action p = (tt, tt)
 logged-ready c Writer actor k action p = (tt, tt)
 
@@ -236,8 +236,8 @@ began-known side true kind p k sound held = record { known = held.known; found =
 began-known side false kind p k sound held = held
 
 learned-within : (side : Side) (action : Action) (p : Pipe) (k : Knowledge) → length p.unread ≤ p.capacity → k.found ≤ p.capacity → (learned side action p k).found ≤ p.capacity
-learned-within Reader does.Refresh p k fits held = fits
-learned-within Writer does.Refresh p k fits held = omega arith
+learned-within Reader does.LoadIndex p k fits held = fits
+learned-within Writer does.LoadIndex p k fits held = omega arith
 learned-within Reader action p k fits held = held
 learned-within Writer action p k fits held = held
 

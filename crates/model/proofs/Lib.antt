@@ -45,6 +45,6 @@ pub mod Showing
 pub mod ReaderAnswers
 pub mod WriterAnswers
 pub mod Answering
-pub mod Heeding
+pub mod Stopping
 pub mod Fronts
 pub mod Keeping

@@ -11,7 +11,7 @@ use Rattle.piper_protocol.specs.declared.table.ReadPoint.TheVariants as at
 use Rattle.piper_protocol.specs.declared.table.WritePoint.{WritePoint}
 use Rattle.piper_protocol.specs.declared.table.WritePoint.TheVariants as on
 use Rattle.model_sides.specs.Open.{no_call}
-use Rattle.piper_protocol.specs.Index.{distance, place_of, advanced}
+use Rattle.piper_protocol.specs.Index.{distance, offset_of, advanced}
 use Rattle.piper_protocol.specs.Table.{Next, read_action, tail_store, write_action, write_after}
 use Rattle.model_sides.specs.Side.{Reading, Writing, IsReading, IsWriting, known_of, peekable_of, room_of}
 use Rattle.model_sides.specs.SideSteps.{writing_answer}
@@ -37,7 +37,7 @@ tail-within m i p n is next =
 
 -- the reader has passed n bytes
 pub reader-passed : (m : Inside) (i : IsMachine m) (n : ℕ) (r : Reading) (point : ReadPoint) (call : OpenCall) (destination : Destination) → r ≡ record m.read { head = advanced m.read.capacity m.read.head n; point = point }
-    → IsReading r → n ≤ known_of m.read → place_of m.read.capacity m.read.head + n ≤ m.read.capacity → (r.point ≡ at.Idle → call ≡ no_call) → (r.point ≡ at.Idle → destination ≡ Slice 0)
+    → IsReading r → n ≤ known_of m.read → offset_of m.read.capacity m.read.head + n ≤ m.read.capacity → (r.point ≡ at.Idle → call ≡ no_call) → (r.point ≡ at.Idle → destination ≡ Slice 0)
     → IsMachine (record m { read = r; reader_call = call; destination = destination })
 reader-passed m i n r point call destination is reading within flat holds fills =
     let known = distance-advanced_from m.read.capacity m.read.head m.read.tail n i.reading.head i.reading.tail within i.reading.known flat i.reading.capacity.0 in
@@ -62,7 +62,7 @@ pub writer-passed : (m : Inside) (i : IsMachine m) (n : ℕ) (w : Writing) (poin
     → IsWriting w → n ≤ m.write.lent → (w.point ≡ on.Idle → call ≡ no_call) → (w.point ≡ on.Idle → acts ≡ []) → IsMachine (record m { write = w; writer_call = call; source = acts })
 writer-passed m i n w point call acts is writing within holds gives =
     let below = place_below m.write.capacity m.write.tail i.writing.tail in
-    let flat : place_of m.write.capacity m.write.tail + n ≤ m.write.capacity = omega (arith, i.writing.lent_place) in
+    let flat : offset_of m.write.capacity m.write.tail + n ≤ m.write.capacity = omega (arith, i.writing.lent_place) in
     let room = distance-advanced_to m.write.capacity m.write.head m.write.tail n i.writing.head i.writing.tail (omega (arith, i.writing.lent_room, i.writing.within)) flat i.writing.capacity.0 in
     let unread : distance m.read.capacity m.read.head (advanced m.write.capacity m.write.tail n) ≡ distance m.read.capacity m.read.head m.write.tail + n =
     rw i.capacity (distance-advanced_to m.read.capacity m.read.head m.write.tail n i.reading.head (tail_below m i) (omega (arith, i.room, i.writing.lent_room, i.capacity, i.writing.within)) (rw i.capacity at flat) i.reading.capacity.0) in

@@ -47,17 +47,17 @@ pub record WriterMakes (point : WritePoint) (p : Pipe) : Type 0 where
   pub publishes_none : publishes point ≡ false
   pub within : moved_in (found_by Writer (write_action point) p) ≤ length (performed Writer (write_action point) p).lent
 
-writer_makes : (point : WritePoint) (p : Pipe) → (write_action point ≡ does.Refresh → ⊥) → ((n : ℕ) → write_action point ≡ does.StoreTail n → ⊥) → (write_action point ≡ does.StoreClosed true → ⊥) → (write_action point ≡ does.CallSource → ⊥)
+writer_makes : (point : WritePoint) (p : Pipe) → (write_action point ≡ does.LoadIndex → ⊥) → ((n : ℕ) → write_action point ≡ does.StoreTail n → ⊥) → (write_action point ≡ does.StoreClosed true → ⊥) → (write_action point ≡ does.CallSource → ⊥)
     → WriterMakes point (record p { writer = point })
-writer_makes (on.LookHead l) p no_refresh no_store no_shut no_source = absurd (no_refresh refl)
-writer_makes (on.LookHeadAgain l) p no_refresh no_store no_shut no_source = absurd (no_refresh refl)
-writer_makes (on.StoreTail n next) p no_refresh no_store no_shut no_source = absurd (no_store n refl)
-writer_makes (on.CallSource form sum) p no_refresh no_store no_shut no_source = absurd (no_source refl)
-writer_makes (on.StoreClosed after_write.WakeWriter) p no_refresh no_store no_shut no_source = absurd (no_shut refl)
-writer_makes (on.StoreClosed after_write.Answer) p no_refresh no_store no_shut no_source = record { after = λ lent. refl; answer_is = λ lent. refl; may = λ lent. tt; stays = refl; publishes_none = refl; within = omega arith }
-writer_makes (on.StoreClosed after_write.Drop) p no_refresh no_store no_shut no_source = record { after = λ lent. refl; answer_is = λ lent. refl; may = λ lent. tt; stays = refl; publishes_none = refl; within = omega arith }
-writer_makes (on.StoreClosed (after_write.Round form sum)) p no_refresh no_store no_shut no_source = record { after = λ lent. refl; answer_is = λ lent. refl; may = λ lent. tt; stays = refl; publishes_none = refl; within = omega arith }
-writer_makes point p no_refresh no_store no_shut no_source = record { after = λ lent. refl; answer_is = λ lent. refl; may = λ lent. tt; stays = refl; publishes_none = refl; within = omega arith }
+writer_makes (on.LookHead l) p no_load_of_the_index no_store no_shut no_source = absurd (no_load_of_the_index refl)
+writer_makes (on.LookHeadAgain l) p no_load_of_the_index no_store no_shut no_source = absurd (no_load_of_the_index refl)
+writer_makes (on.StoreTail n next) p no_load_of_the_index no_store no_shut no_source = absurd (no_store n refl)
+writer_makes (on.CallSource form sum) p no_load_of_the_index no_store no_shut no_source = absurd (no_source refl)
+writer_makes (on.StoreClosed after_write.WakeWriter) p no_load_of_the_index no_store no_shut no_source = absurd (no_shut refl)
+writer_makes (on.StoreClosed after_write.Answer) p no_load_of_the_index no_store no_shut no_source = record { after = λ lent. refl; answer_is = λ lent. refl; may = λ lent. tt; stays = refl; publishes_none = refl; within = omega arith }
+writer_makes (on.StoreClosed after_write.Drop) p no_load_of_the_index no_store no_shut no_source = record { after = λ lent. refl; answer_is = λ lent. refl; may = λ lent. tt; stays = refl; publishes_none = refl; within = omega arith }
+writer_makes (on.StoreClosed (after_write.Round form sum)) p no_load_of_the_index no_store no_shut no_source = record { after = λ lent. refl; answer_is = λ lent. refl; may = λ lent. tt; stays = refl; publishes_none = refl; within = omega arith }
+writer_makes point p no_load_of_the_index no_store no_shut no_source = record { after = λ lent. refl; answer_is = λ lent. refl; may = λ lent. tt; stays = refl; publishes_none = refl; within = omega arith }
 
-pub writer-makes : (p : Pipe) → (write_action p.writer ≡ does.Refresh → ⊥) → ((n : ℕ) → write_action p.writer ≡ does.StoreTail n → ⊥) → (write_action p.writer ≡ does.StoreClosed true → ⊥) → (write_action p.writer ≡ does.CallSource → ⊥) → WriterMakes p.writer p
+pub writer-makes : (p : Pipe) → (write_action p.writer ≡ does.LoadIndex → ⊥) → ((n : ℕ) → write_action p.writer ≡ does.StoreTail n → ⊥) → (write_action p.writer ≡ does.StoreClosed true → ⊥) → (write_action p.writer ≡ does.CallSource → ⊥) → WriterMakes p.writer p
 writer-makes p = writer_makes p.writer p

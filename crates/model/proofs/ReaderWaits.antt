@@ -19,7 +19,7 @@ use Rattle.piper_protocol.specs.Table.{Next, read_action, reader_looks_for, read
 use Rattle.model_sides.specs.Log.{answer_event}
 use Rattle.model_sides.specs.Open.{is_yield_granted}
 use Rattle.model.specs.Pipe.{Pipe}
-use Rattle.model.specs.Action.{logged_of, registration_of, wake_of, yield_of, refreshed_by, round_count, destination_called}
+use Rattle.model.specs.Action.{logged_of, registration_of, wake_of, yield_of, index_loaded_by, round_count, destination_called}
 use Rattle.model.specs.Step.{call_after, destination_after, went}
 use Rattle.model.specs.Round.{taken, found_of}
 use Rattle.model.specs.declared.destination.Destination.{Destination}
@@ -196,10 +196,10 @@ reader-goes at.Dropped p e w h = record { waiting = h.waiting; look = tt }
 reader-goes (at.QueryHead query) p e w h = record { waiting = h.waiting; look = tt }
 reader-goes (at.QueryTail query) p e w h = queried query p e w h
 reader-goes at.QueryClosed p e w h = record { waiting = h.waiting; look = tt }
-reader-goes (at.LookTail l) p e w h = looked e w (length p.unread == 0) l (refreshed_by Reader p) h.waiting h.look
+reader-goes (at.LookTail l) p e w h = looked e w (length p.unread == 0) l (index_loaded_by Reader p) h.waiting h.look
 reader-goes (at.LookRegister l) p e w h = registers-if l p.reader_call.context p.reader_call.taken p e w h
 reader-goes (at.LookClosed l) p e w h = record { waiting = h.waiting; look = (h.look.0, awaits-more w p.reader_waker e l _ _ (λ c is_open. is_open) h.look.1) }
-reader-goes (at.LookTailAgain l was_closed) p e w h = looks-again l (length p.unread == 0) was_closed (refreshed_by Reader p) e w (none_left p.unread) (record { waiting = h.waiting; look = h.look })
+reader-goes (at.LookTailAgain l was_closed) p e w h = looks-again l (length p.unread == 0) was_closed (index_loaded_by Reader p) e w (none_left p.unread) (record { waiting = h.waiting; look = h.look })
 reader-goes (at.LookTake l) p e w h = takes-own l p e w h
 reader-goes at.Yield p e w h = yields-if p.reader_call.context p.reader_call.taken p e w h
 reader-goes (at.CallDestination form sum) p e w h = moves (taken (round_count p) p.destination) form sum (destination_called p).destination p e w h

@@ -6,9 +6,9 @@ use Rattle.std.proofs.lemmas.Grind.{get_or-set_at}
 use Rattle.std.proofs.lemmas.List.{get_or-set_other, same_lists, take-take, take-append-le, get_or_append_left, get_or-append_right}
 use Rattle.std.proofs.lemmas.Bool.{cases_lt, cases_eq}
 use Rattle.std.proofs.lemmas.Bool.Decides.{nat_tests}
-use Rattle.piper_protocol.specs.Index.{place_of}
+use Rattle.piper_protocol.specs.Index.{offset_of}
 use Rattle.model.specs.Buffer.{written}
-use Rattle.model.proofs.Indices.{place_of-twice, place_of-flat, place_of_low, place_of_high}
+use Rattle.model.proofs.Indices.{offset_of-twice, offset_of-flat, offset_of_low, offset_of_high}
 
 -- d bytes from the place h on, round the end
 abbrev pub ring : ℕ → ℕ → List ℕ → List ℕ
@@ -18,12 +18,12 @@ module _ (c h d : ℕ) (xs : List ℕ) (long : length xs ≡ c) (start : h < c) 
   pub length-ring : length (ring h d xs) ≡ d
   length-ring = length-take-le d _ (simp (length-append, length-drop) (omega (arith, length-take-le h xs (omega arith))))
 
-  pub get_or-ring : (i e : ℕ) → i < d → get_or (ring h d xs) i e ≡ get_or xs (place_of c (h + i)) e
+  pub get_or-ring : (i e : ℕ) → i < d → get_or (ring h d xs) i e ≡ get_or xs (offset_of c (h + i)) e
   get_or-ring i e within =
       let tail = length-drop h xs in
       elim (cases_lt (h + i) c) [
-        | inl low ↦ get_or-take d _ i e within ∙ get_or_append_left _ _ e i (omega arith) ∙ get_or-drop h xs i e ∙ ap (λ k. get_or xs k e) (sym (place_of_low c (h + i) low))
-        | inr high ↦ get_or-take d _ i e within ∙ get_or-append_right _ _ (c - h) i e (omega arith) (omega arith) ∙ get_or-take h xs _ e (omega arith) ∙ ap (λ k. get_or xs k e) (let at : i - (c - h) ≡ h + i - c = omega arith in at ∙ sym (place_of_high c (h + i) high))
+        | inl low ↦ get_or-take d _ i e within ∙ get_or_append_left _ _ e i (omega arith) ∙ get_or-drop h xs i e ∙ ap (λ k. get_or xs k e) (sym (offset_of_low c (h + i) low))
+        | inr high ↦ get_or-take d _ i e within ∙ get_or-append_right _ _ (c - h) i e (omega arith) (omega arith) ∙ get_or-take h xs _ e (omega arith) ∙ ap (λ k. get_or xs k e) (let at : i - (c - h) ≡ h + i - c = omega arith in at ∙ sym (offset_of_high c (h + i) high))
       ]
 
 module _ (xs : List ℕ) (k : ℕ) (ys : List ℕ) (fits : k + length ys ≤ length xs) where
@@ -43,30 +43,30 @@ module _ (xs : List ℕ) (k : ℕ) (ys : List ℕ) (fits : k + length ys ≤ len
 
 module _ (c h d : ℕ) (xs : List ℕ) (long : length xs ≡ c) (start : h < c) where
   -- after its last byte are the next ones, up to the end of the buffer
-  pub ring-longer : (n : ℕ) → d + n ≤ c → place_of c (h + d) + n ≤ c → ring h (d + n) xs ≡ ring h d xs ++ take n (drop (place_of c (h + d)) xs)
+  pub ring-longer : (n : ℕ) → d + n ≤ c → offset_of c (h + d) + n ≤ c → ring h (d + n) xs ≡ ring h d xs ++ take n (drop (offset_of c (h + d)) xs)
   ring-longer n fits below =
-      let k = place_of c (h + d) in
+      let k = offset_of c (h + d) in
       let old = length-ring c h d xs long start (omega arith) in
       let new = length-ring c h (d + n) xs long start fits in
       let more : length (take n (drop k xs)) ≡ n = length-take-le n (drop k xs) (simp length-drop (omega arith)) in
       same_lists _ _ (simp length-append (omega arith)) (λ i e within. elim (cases_lt i d) [
         | inl in_old ↦ get_or-ring c h (d + n) xs long start fits i e (omega arith) ∙ sym (get_or_append_left _ _ e i (omega arith) ∙ get_or-ring c h d xs long start (omega arith) i e in_old)
         | inr in_new ↦ (
-            let there : place_of c (h + i) ≡ k + (i - d) = place_of-flat c h d i start in_new (omega arith) (omega arith) in
+            let there : offset_of c (h + i) ≡ k + (i - d) = offset_of-flat c h d i start in_new (omega arith) (omega arith) in
             get_or-ring c h (d + n) xs long start fits i e (omega arith) ∙ ap (λ j. get_or xs j e) there
             ∙ sym (get_or-append_right _ _ d i e old in_new ∙ get_or-take n (drop k xs) (i - d) e (omega arith) ∙ get_or-drop k xs (i - d) e))
       ])
 
   -- without its first n bytes it is the ring from n further on
-  pub ring-drop : (n : ℕ) → n ≤ d → d ≤ c → h + n ≤ c → ring (place_of c (h + n)) (d - n) xs ≡ drop n (ring h d xs)
+  pub ring-drop : (n : ℕ) → n ≤ d → d ≤ c → h + n ≤ c → ring (offset_of c (h + n)) (d - n) xs ≡ drop n (ring h d xs)
   ring-drop n within fits flat =
-      let k = place_of c (h + n) in
+      let k = offset_of c (h + n) in
       let below : k < c = grind (arith, nat_tests) in
       let old = length-ring c h d xs long start fits in
       let new = length-ring c k (d - n) xs long below (omega arith) in
       same_lists _ _ (new ∙ sym (length-drop n (ring h d xs) ∙ ap (λ j. j - n) old)) (λ i e inside.
       get_or-ring c k (d - n) xs long below (omega arith) i e (omega arith)
-      ∙ ap (λ j. get_or xs j e) (place_of-twice c h n i start (omega arith))
+      ∙ ap (λ j. get_or xs j e) (offset_of-twice c h n i start (omega arith))
       ∙ sym (get_or-drop n (ring h d xs) i e ∙ get_or-ring c h d xs long start fits (n + i) e (omega arith)))
 
   -- its first n bytes are contiguous
@@ -90,38 +90,38 @@ module _ (c h d : ℕ) (xs : List ℕ) (long : length xs ≡ c) (start : h < c) 
         ∙ ap (λ zs. zs ++ take (d - n) xs) (sym (ap (λ k. take k (drop h xs)) (sym piece) ∙ take-length (drop h xs))))
   ]
 
-outside : (c h d i o n : ℕ) → h < c → i < d → d + o + n ≤ c → place_of c (h + d) + o + n ≤ c → (place_of c (h + i) < place_of c (h + d) + o) ⊎ (place_of c (h + d) + o + n ≤ place_of c (h + i))
+outside : (c h d i o n : ℕ) → h < c → i < d → d + o + n ≤ c → offset_of c (h + d) + o + n ≤ c → (offset_of c (h + i) < offset_of c (h + d) + o) ⊎ (offset_of c (h + d) + o + n ≤ offset_of c (h + i))
 outside c h d i o n start within free flat = grind (arith, nat_tests)
 
-apart : (c h d i o : ℕ) → h < c → i < d → d + o + 1 ≤ c → place_of c (h + d) + o + 1 ≤ c → place_of c (h + i) ≢ place_of c (h + d) + o
+apart : (c h d i o : ℕ) → h < c → i < d → d + o + 1 ≤ c → offset_of c (h + d) + o + 1 ≤ c → offset_of c (h + i) ≢ offset_of c (h + d) + o
 apart c h d i o start within free flat = grind (arith, nat_tests)
 
-module _ (c h d o : ℕ) (xs ys : List ℕ) (long : length xs ≡ c) (start : h < c) (free : d + o + length ys ≤ c) (flat : place_of c (h + d) + o + length ys ≤ c) where
+module _ (c h d o : ℕ) (xs ys : List ℕ) (long : length xs ≡ c) (start : h < c) (free : d + o + length ys ≤ c) (flat : offset_of c (h + d) + o + length ys ≤ c) where
   -- a write after its last byte leaves it as it was
-  pub ring-written : ring h d (written xs (place_of c (h + d) + o) ys) ≡ ring h d xs
+  pub ring-written : ring h d (written xs (offset_of c (h + d) + o) ys) ≡ ring h d xs
   ring-written =
-      let k = place_of c (h + d) + o in
+      let k = offset_of c (h + d) + o in
       let zs = written xs k ys in
       let long_zs : length zs ≡ c = length-written xs k ys (omega arith) ∙ long in
       let old = length-ring c h d xs long start (omega arith) in
       let new = length-ring c h d zs long_zs start (omega arith) in
       same_lists _ _ (new ∙ sym old) (λ i e within.
       get_or-ring c h d zs long_zs start (omega arith) i e (omega arith)
-      ∙ get_or-written_outside xs k ys (omega arith) (place_of c (h + i)) e (outside c h d i o (length ys) start (omega arith) free flat)
+      ∙ get_or-written_outside xs k ys (omega arith) (offset_of c (h + i)) e (outside c h d i o (length ys) start (omega arith) free flat)
       ∙ sym (get_or-ring c h d xs long start (omega arith) i e (omega arith)))
 
-module _ (c h d o : ℕ) (xs : List ℕ) (b : ℕ) (long : length xs ≡ c) (start : h < c) (free : d + o + 1 ≤ c) (flat : place_of c (h + d) + o + 1 ≤ c) where
+module _ (c h d o : ℕ) (xs : List ℕ) (b : ℕ) (long : length xs ≡ c) (start : h < c) (free : d + o + 1 ≤ c) (flat : offset_of c (h + d) + o + 1 ≤ c) where
   -- nor does a byte put after its last one change it
-  pub ring-set : ring h d (set xs (place_of c (h + d) + o) b) ≡ ring h d xs
+  pub ring-set : ring h d (set xs (offset_of c (h + d) + o) b) ≡ ring h d xs
   ring-set =
-      let k = place_of c (h + d) + o in
+      let k = offset_of c (h + d) + o in
       let zs = set xs k b in
       let long_zs : length zs ≡ c = length-set xs k b ∙ long in
       let old = length-ring c h d xs long start (omega arith) in
       let new = length-ring c h d zs long_zs start (omega arith) in
       same_lists _ _ (new ∙ sym old) (λ i e within.
       get_or-ring c h d zs long_zs start (omega arith) i e (omega arith)
-      ∙ get_or-set_other xs k (place_of c (h + i)) b e (apart c h d i o start (omega arith) free flat)
+      ∙ get_or-set_other xs k (offset_of c (h + i)) b e (apart c h d i o start (omega arith) free flat)
       ∙ sym (get_or-ring c h d xs long start (omega arith) i e (omega arith)))
 
 -- a byte put into a slice

@@ -5,7 +5,7 @@ use Rattle.std.proofs.lemmas.Bool.Decides.{nat_tests}
 use Rattle.std.proofs.lemmas.List.{drop-drop, drop_all, take_at, drop_at}
 use Rattle.std.proofs.Math.Seq.{take-add}
 use borrow.Rule.Slice.PartMut.{put_mid}
-use Rattle.piper_protocol.specs.Index.{place_of}
+use Rattle.piper_protocol.specs.Index.{offset_of}
 use Rattle.model.specs.Pipe.{Pipe}
 use Rattle.model.specs.Copy.{waker_after, woken_after, filled, drained}
 use Rattle.model.specs.Move.{with_waker}
@@ -39,7 +39,7 @@ filled-filled xs ys p =
 pub drained_nothing : (p : Pipe) → p.start < p.capacity → drained 0 p ≡ p
 drained_nothing p start =
     let known : p.known - 0 ≡ p.known = omega arith in
-    let place : place_of p.capacity (p.start + 0) ≡ p.start = grind (arith, nat_tests) in
+    let place : offset_of p.capacity (p.start + 0) ≡ p.start = grind (arith, nat_tests) in
     λ j. record p { known = known j; start = place j }
 
 -- a slice that is filled part by part: the next n bytes after the first d

@@ -1,6 +1,6 @@
 -- A machine whose invariant holds represents a sound pipe.
 use Rattle.std.proofs.Common.{◌≡◌, ◌+◌, ◌<◌, ◌≤◌, ◌*◌, ◌-◌, min, ℕ, take, drop, length, sym, ap, ◌∙◌, subst, arith, length-take-le, length-drop}
-use Rattle.piper_protocol.specs.Index.{distance, place_of}
+use Rattle.piper_protocol.specs.Index.{distance, offset_of}
 use Rattle.model.specs.Pipe.{Pipe}
 use Rattle.std.proofs.lemmas.Bool.Decides.{nat_tests}
 use Rattle.model.specs.Lend.{lend_limit}
@@ -8,7 +8,7 @@ use Rattle.model.specs.Places.{end_place, places_left}
 use Rattle.model.specs.Sound.{IsSound}
 use Rattle.model.specs.Machine.{pipe_of, IsMachine}
 use Rattle.model.specs.declared.machine.Machine.TheInside.{Inside}
-use Rattle.model.proofs.Indices.{place_of-distance, place_below}
+use Rattle.model.proofs.Indices.{offset_of-distance, place_below}
 use Rattle.model.proofs.Between.{length-between}
 
 module _ (m : Inside) (i : IsMachine m) where
@@ -22,13 +22,13 @@ module _ (m : Inside) (i : IsMachine m) where
   pub length-unread : length (pipe_of m).unread ≡ distance m.read.capacity m.read.head m.write.tail
   length-unread = length-between m.read.capacity m.read.head m.write.tail m.bytes.items i.bytes i.reading.head tail_below i.unread
 
-  pub end_place-of : end_place (pipe_of m) ≡ place_of m.read.capacity m.write.tail
+  pub end_place-of : end_place (pipe_of m) ≡ offset_of m.read.capacity m.write.tail
   end_place-of =
-      ap (λ n. place_of m.read.capacity (place_of m.read.capacity m.read.head + n)) length-unread
-      ∙ sym (place_of-distance m.read.capacity m.read.head m.write.tail i.reading.head tail_below i.unread)
+      ap (λ n. offset_of m.read.capacity (offset_of m.read.capacity m.read.head + n)) length-unread
+      ∙ sym (offset_of-distance m.read.capacity m.read.head m.write.tail i.reading.head tail_below i.unread)
 
-  pub place-same : place_of m.write.capacity m.write.tail ≡ place_of m.read.capacity m.write.tail
-  place-same = ap (λ n. place_of n m.write.tail) i.capacity
+  pub place-same : offset_of m.write.capacity m.write.tail ≡ offset_of m.read.capacity m.write.tail
+  place-same = ap (λ n. offset_of n m.write.tail) i.capacity
 
   pub length-lent : length (pipe_of m).lent ≡ m.write.lent
   length-lent =
@@ -49,7 +49,7 @@ module _ (m : Inside) (i : IsMachine m) where
         room = omega (arith, i.room, i.capacity, taken);
         lent_room = omega (arith, i.writing.lent_room);
         lent_place = rw e (omega (arith, i.writing.lent_place, i.capacity, same, lent));
-        shut = λ is_shut. ap (λ n. take n (drop (place_of m.write.capacity m.write.tail) m.bytes.items)) (i.writing.shut is_shut);
+        shut = λ is_shut. ap (λ n. take n (drop (offset_of m.write.capacity m.write.tail) m.bytes.items)) (i.writing.shut is_shut);
         closed = i.shut;
         head_store = i.reading.store;
         tail_store = omega (arith, i.writing.store);
@@ -58,7 +58,7 @@ module _ (m : Inside) (i : IsMachine m) where
   pub sound : (p : Pipe) → pipe_of m ≡ p → IsSound p
   sound p e = subst IsSound e sound_of
 
-pub place_left : (capacity place : ℕ) → place < 2 * capacity → 1 ≤ capacity - place_of capacity place
+pub place_left : (capacity place : ℕ) → place < 2 * capacity → 1 ≤ capacity - offset_of capacity place
 place_left capacity place below = grind (arith, nat_tests)
 
 -- of a sound pipe something is lent, wherever something is asked for and room is known

@@ -17,10 +17,10 @@ use Rattle.piper_protocol.specs.declared.table.ReadPoint.{ReadPoint}
 use Rattle.piper_protocol.specs.declared.table.ReadPoint.TheVariants as at
 use Rattle.piper_protocol.specs.declared.table.WritePoint.{WritePoint}
 use Rattle.piper_protocol.specs.declared.table.WritePoint.TheVariants as on
-use Rattle.piper_protocol.specs.Index.{place_of}
+use Rattle.piper_protocol.specs.Index.{offset_of}
 use Rattle.piper_protocol.specs.Table.{Next, head_store, moved_in, read_action, read_after, reader_moved, tail_store, write_action, write_after, writer_is_open, writer_moved}
 use Rattle.piper_protocol.specs.declared.table.Found.{Found}
-use Rattle.piper_protocol.specs.declared.table.Found.TheVariants.{Unread as unread, Refreshed as refreshed, Flag as flag, Granted as granted, Waker as waker, Moved as moved, Failed as failed}
+use Rattle.piper_protocol.specs.declared.table.Found.TheVariants.{Unread as unread, IndexLoaded as index_loaded, Flag as flag, Granted as granted, Waker as waker, Moved as moved, Failed as failed}
 use Rattle.model.specs.declared.destination.Destination.{Destination}
 use Rattle.model.specs.declared.destination.Destination.TheVariants.{Slice, Acts}
 use Rattle.model.specs.Pipe.{Pipe}
@@ -51,19 +51,19 @@ reads-on capacity at.Idle found busy = absurd (cc)
 reads-on capacity at.Dropped found busy = absurd (cc)
 reads-on capacity (at.QueryTail query) (unread count) busy = record { settled = λ none. absurd (cc); store = omega arith }
 reads-on capacity at.QueryClosed (flag is_closed) busy = record { settled = λ none. absurd (cc); store = omega arith }
-reads-on capacity (at.LookTail purpose.Poll) (refreshed true) busy = record { settled = refl; store = omega arith }
-reads-on capacity (at.LookTail purpose.Poll) (refreshed false) busy = record { settled = refl; store = omega arith }
-reads-on capacity (at.LookTail (purpose.Copy Try)) (refreshed true) busy = record { settled = refl; store = omega arith }
-reads-on capacity (at.LookTail (purpose.Copy Try)) (refreshed false) busy = record { settled = refl; store = omega arith }
-reads-on capacity (at.LookTail (purpose.Copy (Polling drawn))) (refreshed true) busy = record { settled = refl; store = omega arith }
-reads-on capacity (at.LookTail (purpose.Copy (Polling drawn))) (refreshed false) busy = record { settled = refl; store = omega arith }
+reads-on capacity (at.LookTail purpose.Poll) (index_loaded true) busy = record { settled = refl; store = omega arith }
+reads-on capacity (at.LookTail purpose.Poll) (index_loaded false) busy = record { settled = refl; store = omega arith }
+reads-on capacity (at.LookTail (purpose.Copy Try)) (index_loaded true) busy = record { settled = refl; store = omega arith }
+reads-on capacity (at.LookTail (purpose.Copy Try)) (index_loaded false) busy = record { settled = refl; store = omega arith }
+reads-on capacity (at.LookTail (purpose.Copy (Polling drawn))) (index_loaded true) busy = record { settled = refl; store = omega arith }
+reads-on capacity (at.LookTail (purpose.Copy (Polling drawn))) (index_loaded false) busy = record { settled = refl; store = omega arith }
 reads-on capacity (at.LookRegister l) (granted true) busy = record { settled = refl; store = omega arith }
 reads-on capacity (at.LookRegister l) (granted false) busy = record { settled = λ none. absurd (cc); store = omega arith }
 reads-on capacity (at.LookClosed l) (flag is_closed) busy = record { settled = refl; store = omega arith }
-reads-on capacity (at.LookTailAgain l was_closed) (refreshed true) busy = record { settled = λ none. absurd (cc); store = omega arith }
-reads-on capacity (at.LookTailAgain purpose.Poll was_closed) (refreshed false) busy = record { settled = refl; store = omega arith }
-reads-on capacity (at.LookTailAgain (purpose.Copy Try) was_closed) (refreshed false) busy = record { settled = refl; store = omega arith }
-reads-on capacity (at.LookTailAgain (purpose.Copy (Polling drawn)) was_closed) (refreshed false) busy = record { settled = refl; store = omega arith }
+reads-on capacity (at.LookTailAgain l was_closed) (index_loaded true) busy = record { settled = λ none. absurd (cc); store = omega arith }
+reads-on capacity (at.LookTailAgain purpose.Poll was_closed) (index_loaded false) busy = record { settled = refl; store = omega arith }
+reads-on capacity (at.LookTailAgain (purpose.Copy Try) was_closed) (index_loaded false) busy = record { settled = refl; store = omega arith }
+reads-on capacity (at.LookTailAgain (purpose.Copy (Polling drawn)) was_closed) (index_loaded false) busy = record { settled = refl; store = omega arith }
 reads-on capacity (at.LookTake purpose.Poll) found busy = record { settled = λ none. absurd (cc); store = omega arith }
 reads-on capacity (at.LookTake (purpose.Copy Try)) found busy = record { settled = refl; store = omega arith }
 reads-on capacity (at.LookTake (purpose.Copy (Polling true))) found busy = record { settled = refl; store = omega arith }
@@ -106,15 +106,15 @@ module _ (point : ReadPoint) (p : Pipe) (busy : reader_state point ≡ Busy) (va
   within found most few = let store = (reads-on p.capacity point found busy).store in omega arith
 
 pub reader-valid : (point : ReadPoint) (p : Pipe) → reader_state point ≡ Busy → ReaderValid point p → let s = read_step point p in ReaderValid s.pipe.reader s.pipe
-reader-valid (at.LookTail l) p busy valid = record { unread = valid.unread; start = valid.start; known = omega arith; store = within (at.LookTail l) p busy valid (refreshed (length p.unread == 0)) _ (omega arith) }
-reader-valid (at.LookTailAgain l was_closed) p busy valid = record { unread = valid.unread; start = valid.start; known = omega arith; store = within (at.LookTailAgain l was_closed) p busy valid (refreshed (length p.unread == 0)) _ (omega arith) }
+reader-valid (at.LookTail l) p busy valid = record { unread = valid.unread; start = valid.start; known = omega arith; store = within (at.LookTail l) p busy valid (index_loaded (length p.unread == 0)) _ (omega arith) }
+reader-valid (at.LookTailAgain l was_closed) p busy valid = record { unread = valid.unread; start = valid.start; known = omega arith; store = within (at.LookTailAgain l was_closed) p busy valid (index_loaded (length p.unread == 0)) _ (omega arith) }
 reader-valid (at.CallDestination form sum) p busy valid =
     let few = taken-within p.destination (round_count p) in
     record { unread = valid.unread; start = valid.start; known = valid.known; store = within (at.CallDestination form sum) p busy valid (found_of (taken (round_count p) p.destination)) (peeked_count p) (omega arith) }
 reader-valid (at.StoreHead n next) p busy valid =
     let shorter = length-drop n p.unread in
     let store = valid.store in
-    let below : place_of p.capacity (p.start + n) < p.capacity = place_below p.capacity (p.start + n) (omega (arith, valid.start)) in
+    let below : offset_of p.capacity (p.start + n) < p.capacity = place_below p.capacity (p.start + n) (omega (arith, valid.start)) in
     record { unread = omega (arith, valid.unread); start = below; known = omega (arith, valid.known); store = omega arith }
 reader-valid (at.QueryHead query) p busy valid = record { unread = valid.unread; start = valid.start; known = valid.known; store = omega arith }
 reader-valid (at.QueryTail query) p busy valid = record { unread = valid.unread; start = valid.start; known = valid.known; store = omega arith }
@@ -175,22 +175,22 @@ writes-on capacity room on.Dropped found busy later plain = absurd (cc)
 writes-on capacity room (on.QueryHead query) (unread count) busy later plain = record { settled = refl; store = omega arith; unclosed = λ saw. absurd (cc); plain = refl }
 writes-on capacity room (on.QueryTail query count) found busy later plain = record { settled = λ none. absurd (cc); store = omega arith; unclosed = λ saw. absurd (cc); plain = refl }
 writes-on capacity room on.QueryClosed (flag is_closed) busy later plain = record { settled = λ none. absurd (cc); store = omega arith; unclosed = λ saw. absurd (cc); plain = refl }
-writes-on capacity room (on.LookHead purpose.Poll) (refreshed true) busy later plain = record { settled = refl; store = omega arith; unclosed = λ saw. absurd (cc); plain = refl }
-writes-on capacity room (on.LookHead purpose.Poll) (refreshed false) busy later plain = record { settled = refl; store = omega arith; unclosed = λ saw. absurd (cc); plain = refl }
-writes-on capacity room (on.LookHead (purpose.Copy Try)) (refreshed true) busy later plain = record { settled = refl; store = omega arith; unclosed = λ saw. refl; plain = refl }
-writes-on capacity room (on.LookHead (purpose.Copy Try)) (refreshed false) busy later plain = record { settled = refl; store = omega arith; unclosed = λ saw. refl; plain = refl }
-writes-on capacity room (on.LookHead (purpose.Copy (Polling drawn))) (refreshed true) busy later plain = record { settled = refl; store = omega arith; unclosed = λ saw. refl; plain = refl }
-writes-on capacity room (on.LookHead (purpose.Copy (Polling drawn))) (refreshed false) busy later plain = record { settled = refl; store = omega arith; unclosed = λ saw. refl; plain = refl }
+writes-on capacity room (on.LookHead purpose.Poll) (index_loaded true) busy later plain = record { settled = refl; store = omega arith; unclosed = λ saw. absurd (cc); plain = refl }
+writes-on capacity room (on.LookHead purpose.Poll) (index_loaded false) busy later plain = record { settled = refl; store = omega arith; unclosed = λ saw. absurd (cc); plain = refl }
+writes-on capacity room (on.LookHead (purpose.Copy Try)) (index_loaded true) busy later plain = record { settled = refl; store = omega arith; unclosed = λ saw. refl; plain = refl }
+writes-on capacity room (on.LookHead (purpose.Copy Try)) (index_loaded false) busy later plain = record { settled = refl; store = omega arith; unclosed = λ saw. refl; plain = refl }
+writes-on capacity room (on.LookHead (purpose.Copy (Polling drawn))) (index_loaded true) busy later plain = record { settled = refl; store = omega arith; unclosed = λ saw. refl; plain = refl }
+writes-on capacity room (on.LookHead (purpose.Copy (Polling drawn))) (index_loaded false) busy later plain = record { settled = refl; store = omega arith; unclosed = λ saw. refl; plain = refl }
 writes-on capacity room (on.LookRegister purpose.Poll) (granted true) busy later plain = record { settled = refl; store = omega arith; unclosed = λ saw. absurd (cc); plain = refl }
 writes-on capacity room (on.LookRegister (purpose.Copy Try)) (granted true) busy later plain = record { settled = refl; store = omega arith; unclosed = λ saw. refl; plain = refl }
 writes-on capacity room (on.LookRegister (purpose.Copy (Polling drawn))) (granted true) busy later plain = record { settled = refl; store = omega arith; unclosed = λ saw. refl; plain = refl }
 writes-on capacity room (on.LookRegister l) (granted false) busy later plain = record { settled = λ none. absurd (cc); store = omega arith; unclosed = λ saw. absurd (cc); plain = refl }
-writes-on capacity room (on.LookHeadAgain purpose.Poll) (refreshed true) busy later plain = record { settled = refl; store = omega arith; unclosed = λ saw. absurd (cc); plain = refl }
-writes-on capacity room (on.LookHeadAgain purpose.Poll) (refreshed false) busy later plain = record { settled = refl; store = omega arith; unclosed = λ saw. absurd (cc); plain = refl }
-writes-on capacity room (on.LookHeadAgain (purpose.Copy Try)) (refreshed true) busy later plain = record { settled = refl; store = omega arith; unclosed = λ saw. refl; plain = refl }
-writes-on capacity room (on.LookHeadAgain (purpose.Copy Try)) (refreshed false) busy later plain = record { settled = refl; store = omega arith; unclosed = λ saw. refl; plain = refl }
-writes-on capacity room (on.LookHeadAgain (purpose.Copy (Polling drawn))) (refreshed true) busy later plain = record { settled = refl; store = omega arith; unclosed = λ saw. refl; plain = refl }
-writes-on capacity room (on.LookHeadAgain (purpose.Copy (Polling drawn))) (refreshed false) busy later plain = record { settled = refl; store = omega arith; unclosed = λ saw. refl; plain = refl }
+writes-on capacity room (on.LookHeadAgain purpose.Poll) (index_loaded true) busy later plain = record { settled = refl; store = omega arith; unclosed = λ saw. absurd (cc); plain = refl }
+writes-on capacity room (on.LookHeadAgain purpose.Poll) (index_loaded false) busy later plain = record { settled = refl; store = omega arith; unclosed = λ saw. absurd (cc); plain = refl }
+writes-on capacity room (on.LookHeadAgain (purpose.Copy Try)) (index_loaded true) busy later plain = record { settled = refl; store = omega arith; unclosed = λ saw. refl; plain = refl }
+writes-on capacity room (on.LookHeadAgain (purpose.Copy Try)) (index_loaded false) busy later plain = record { settled = refl; store = omega arith; unclosed = λ saw. refl; plain = refl }
+writes-on capacity room (on.LookHeadAgain (purpose.Copy (Polling drawn))) (index_loaded true) busy later plain = record { settled = refl; store = omega arith; unclosed = λ saw. refl; plain = refl }
+writes-on capacity room (on.LookHeadAgain (purpose.Copy (Polling drawn))) (index_loaded false) busy later plain = record { settled = refl; store = omega arith; unclosed = λ saw. refl; plain = refl }
 writes-on capacity room (on.LookClosedAgain l) (flag is_closed) busy later plain = record { settled = λ none. absurd (cc); store = omega arith; unclosed = λ saw. absurd (cc); plain = refl }
 writes-on capacity room (on.LookTake purpose.Poll) found busy later plain = record { settled = λ none. absurd (cc); store = omega arith; unclosed = λ saw. absurd (cc); plain = refl }
 writes-on capacity room (on.LookTake (purpose.Copy Try)) found busy later plain = record { settled = refl; store = omega arith; unclosed = λ saw. refl; plain = refl }
@@ -247,11 +247,11 @@ writer-valid (on.LookClosed l) lent p busy plain valid may =
     let none = opens-store p.is_closed (p.room == 0) l in
     (record { unread = valid.unread; start = valid.start; room = valid.room; store = omega arith; shut = valid.shut; unclosed = opens-on p.is_closed (p.room == 0) l }, opens-plain p.is_closed (p.room == 0) l)
 writer-valid (on.LookHead l) lent p busy plain valid may =
-    let goes = writes-on p.capacity p.room (on.LookHead l) (refreshed (p.capacity - length p.unread == 0)) busy refl refl in
+    let goes = writes-on p.capacity p.room (on.LookHead l) (index_loaded (p.capacity - length p.unread == 0)) busy refl refl in
     let store = goes.store in
     (record { unread = valid.unread; start = valid.start; room = omega arith; store = omega arith; shut = valid.shut; unclosed = λ saw. valid.unclosed (goes.unclosed saw) }, goes.plain)
 writer-valid (on.LookHeadAgain l) lent p busy plain valid may =
-    let goes = writes-on p.capacity p.room (on.LookHeadAgain l) (refreshed (p.capacity - length p.unread == 0)) busy refl refl in
+    let goes = writes-on p.capacity p.room (on.LookHeadAgain l) (index_loaded (p.capacity - length p.unread == 0)) busy refl refl in
     let store = goes.store in
     (record { unread = valid.unread; start = valid.start; room = omega arith; store = omega arith; shut = valid.shut; unclosed = λ saw. valid.unclosed (goes.unclosed saw) }, goes.plain)
 writer-valid (on.CallSource form sum) lent p busy plain valid may =

@@ -22,7 +22,7 @@ use Rattle.model_sides.specs.Log.{answer_event}
 use Rattle.model_sides.specs.Open.{is_yield_granted}
 use Rattle.model.specs.Pipe.{Pipe}
 use Rattle.model.specs.Sound.{IsSound}
-use Rattle.model.specs.Action.{logged_of, registration_of, wake_of, yield_of, refreshed_by}
+use Rattle.model.specs.Action.{logged_of, registration_of, wake_of, yield_of, index_loaded_by}
 use Rattle.model.specs.Step.{call_after, went, offering}
 use Rattle.model.specs.Round.{given, found_of}
 use Rattle.model.specs.Waiting.{IsBlocked}
@@ -278,10 +278,10 @@ writer-goes offered (at.QueryHead query) p e w sound h = record { waiting = h.wa
 writer-goes offered (at.QueryTail query count) p e w sound h = queried query count p e w h
 writer-goes offered at.QueryClosed p e w sound h = record { waiting = h.waiting; look = tt }
 writer-goes offered (at.LookClosed l) p e w sound h = opens l p.is_closed (p.room == 0) _ _ p e w h
-writer-goes offered (at.LookHead l) p e w sound h = looked l (p.capacity - length p.unread == 0) (refreshed_by Writer p) e w (record { waiting = h.waiting; look = h.look })
+writer-goes offered (at.LookHead l) p e w sound h = looked l (p.capacity - length p.unread == 0) (index_loaded_by Writer p) e w (record { waiting = h.waiting; look = h.look })
 writer-goes offered (at.LookRegister l) p e w sound h = registers-if l p.writer_call.context p.writer_call.taken p e w h
 writer-goes offered (at.LookHeadAgain l) p e w sound h =
-    looked-again l (p.capacity - length p.unread == 0) (refreshed_by Writer p) e w (full_from (record p { writer = at.LookHeadAgain l }) sound) (record { waiting = h.waiting; look = h.look })
+    looked-again l (p.capacity - length p.unread == 0) (index_loaded_by Writer p) e w (full_from (record p { writer = at.LookHeadAgain l }) sound) (record { waiting = h.waiting; look = h.look })
 writer-goes offered (at.LookClosedAgain l) p e w sound h = closed-again l p.is_closed _ _ p e w refl h
 writer-goes offered (at.LookTake l) p e w sound h = takes-own-room l p e w h
 writer-goes offered at.Yield p e w sound h = yields-if p.writer_call.context p.writer_call.taken p e w h

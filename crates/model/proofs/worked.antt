@@ -19,5 +19,5 @@ mod HonestEnd
 mod Waiters
 mod ToldEnd
 mod Fronts
-mod Heeds
+mod Stops
 mod WhatCallsAnswer

@@ -8,7 +8,7 @@ use Rattle.model_sides.specs.declared.polling.Context.{Context}
 use Rattle.piper_protocol.specs.declared.table.Action.{Action}
 use Rattle.piper_protocol.specs.declared.table.Action.TheVariants as does
 use Rattle.model_sides.specs.declared.events.Event.{Event}
-use Rattle.model_sides.specs.declared.events.Event.TheVariants.{Looked, Published, Consumed, Closed, Registered, Woken}
+use Rattle.model_sides.specs.declared.events.Event.TheVariants.{Loaded, Published, Consumed, Closed, Registered, Woken}
 use Rattle.model_sides.specs.declared.events.Seen.TheVariants as seen
 use Rattle.piper_protocol.specs.declared.table.TheConstants.{MOST_A_ROUND}
 use Rattle.model_sides.specs.Open.{is_granted, is_yield_granted}
@@ -18,7 +18,7 @@ use Rattle.model.specs.Move.{published, consumed}
 use Rattle.model.specs.Source.{bytes_of}
 use Rattle.model.specs.Round.{given, taken, left_of_source, left_of_destination, found_of, moved_by}
 use Rattle.piper_protocol.specs.declared.table.Found.{Found}
-use Rattle.piper_protocol.specs.declared.table.Found.TheVariants.{Nothing as nothing, Unread as unread, Refreshed as refreshed, Flag as flag, Granted as granted, Waker as waker}
+use Rattle.piper_protocol.specs.declared.table.Found.TheVariants.{Nothing as nothing, Unread as unread, IndexLoaded as index_loaded, Flag as flag, Granted as granted, Waker as waker}
 
 -- what the open call of a side holds
 abbrev pub call_of : Side → Pipe → OpenCall
@@ -39,9 +39,9 @@ with_waker_in Reader name p = record p { reader_waker = name }
 with_waker_in Writer name p = record p { writer_waker = name }
 
 -- a side takes in the other's index
-abbrev pub refreshed_by : Side → Pipe → Pipe
-refreshed_by Reader p = record p { known = length p.unread }
-refreshed_by Writer p = record p { room = p.capacity - length p.unread }
+abbrev pub index_loaded_by : Side → Pipe → Pipe
+index_loaded_by Reader p = record p { known = length p.unread }
+index_loaded_by Writer p = record p { room = p.capacity - length p.unread }
 
 -- the waker of a context goes into a slot, if its clone is granted
 abbrev pub registered_if : Bool → ℕ → Option ℕ → Option ℕ
@@ -81,7 +81,7 @@ abbrev pub performed : Side → Action → Pipe → Pipe
 performed side does.Rest p = p
 performed side does.LoadHead p = p
 performed side does.LoadTail p = p
-performed side does.Refresh p = refreshed_by side p
+performed side does.LoadIndex p = index_loaded_by side p
 performed side does.LoadClosed p = p
 performed side does.Register p =
     with_waker_in side (registered_in (call_of side p).context (waker_in side p)) p
@@ -99,8 +99,8 @@ performed side does.CallSource p = source_called p
 abbrev pub found_by : Side → Action → Pipe → Found
 found_by Reader does.LoadTail p = unread (length p.unread)
 found_by Writer does.LoadHead p = unread (length p.unread)
-found_by Reader does.Refresh p = refreshed (length p.unread == 0)
-found_by Writer does.Refresh p = refreshed (p.capacity - length p.unread == 0)
+found_by Reader does.LoadIndex p = index_loaded (length p.unread == 0)
+found_by Writer does.LoadIndex p = index_loaded (p.capacity - length p.unread == 0)
 found_by side does.LoadClosed p = flag p.is_closed
 found_by side does.Register p = granted (is_granted (call_of side p).context)
 found_by side does.Yield p = granted (is_yield_granted (call_of side p).context)
@@ -120,9 +120,9 @@ abbrev pub registration_of : Side → Option Context → List Event
 registration_of side None = []
 registration_of side (Some cx) = registration side cx.luck.register_granted cx.waker
 
-abbrev pub refresh_event : Side → ℕ → Event
-refresh_event Reader count = Looked Reader (seen.Tail count)
-refresh_event Writer count = Looked Writer (seen.Head count)
+abbrev pub index_event : Side → ℕ → Event
+index_event Reader count = Loaded Reader (seen.Tail count)
+index_event Writer count = Loaded Writer (seen.Head count)
 
 abbrev pub wake_of : Option ℕ → List Event
 wake_of None = []
@@ -138,10 +138,10 @@ yield_of (Some cx) = woken_if cx.luck.yield_granted cx.waker
 
 abbrev pub logged_of : Side → Action → Pipe → List Event
 logged_of side does.Rest p = []
-logged_of side does.LoadHead p = Looked side (seen.Head (length p.unread)) ∷ []
-logged_of side does.LoadTail p = Looked side (seen.Tail (length p.unread)) ∷ []
-logged_of side does.Refresh p = refresh_event side (length p.unread) ∷ []
-logged_of side does.LoadClosed p = Looked side (seen.Closed p.is_closed) ∷ []
+logged_of side does.LoadHead p = Loaded side (seen.Head (length p.unread)) ∷ []
+logged_of side does.LoadTail p = Loaded side (seen.Tail (length p.unread)) ∷ []
+logged_of side does.LoadIndex p = index_event side (length p.unread) ∷ []
+logged_of side does.LoadClosed p = Loaded side (seen.Closed p.is_closed) ∷ []
 logged_of side does.Register p = registration_of side (call_of side p).context
 logged_of side (does.StoreHead n) p = Consumed (take n p.unread) ∷ []
 logged_of side (does.StoreTail n) p = Published (take n p.lent) ∷ []

@@ -31,7 +31,7 @@ use Rattle.model.specs.declared.destination.Destination.{Destination}
 use Rattle.model.specs.declared.destination.Destination.TheVariants.{Slice, Acts}
 use Rattle.model.specs.Copy.{Copied, answered, drained}
 use Rattle.model.specs.Scripted.{drain_moves_to, fill_moves_more}
-use Rattle.model.specs.Action.{call_of, refreshed_by, registered_in, closed_by}
+use Rattle.model.specs.Action.{call_of, index_loaded_by, registered_in, closed_by}
 
 -- what a call ends with
 pub record Ended : Type 0 where
@@ -109,7 +109,7 @@ reader_again_alone false l was_closed p = reader_finds_alone l p
 -- the second load of tail
 abbrev pub reader_looks_again_alone : Purpose → Bool → Pipe → Ended
 reader_looks_again_alone l was_closed p =
-    reader_again_alone (length p.unread == 0) l was_closed (refreshed_by Reader p)
+    reader_again_alone (length p.unread == 0) l was_closed (index_loaded_by Reader p)
 
 abbrev pub reader_granted_alone : Bool → Purpose → Pipe → Ended
 reader_granted_alone true l p = reader_looks_again_alone l p.is_closed p
@@ -147,7 +147,7 @@ reader_remains (at.QueryTail query) p =
     reader_ended at.Idle (query_answer query p.capacity (length p.unread)) p
 reader_remains at.QueryClosed p = reader_ended at.Idle (Flag p.is_closed) p
 reader_remains (at.LookTail l) p =
-    reader_looks_alone (length p.unread == 0) l (refreshed_by Reader p)
+    reader_looks_alone (length p.unread == 0) l (index_loaded_by Reader p)
 reader_remains (at.LookRegister l) p = reader_registers_alone l p
 reader_remains (at.LookClosed l) p = reader_looks_again_alone l p.is_closed p
 reader_remains (at.LookTailAgain l was_closed) p = reader_looks_again_alone l was_closed p
@@ -274,7 +274,7 @@ writer_again_alone false l p = writer_finds_alone l p
 
 -- the second load of head
 abbrev pub writer_looks_again_alone : Purpose → Pipe → Ended
-writer_looks_again_alone l p = let q = refreshed_by Writer p in writer_again_alone (q.room == 0) l q
+writer_looks_again_alone l p = let q = index_loaded_by Writer p in writer_again_alone (q.room == 0) l q
 
 abbrev pub writer_granted_alone : Bool → Purpose → Pipe → Ended
 writer_granted_alone true l p = writer_looks_again_alone l p
@@ -297,7 +297,7 @@ writer_looks_alone true l p = writer_nobody_waits_alone l p
 writer_looks_alone false l p = writer_finds_alone l p
 
 abbrev pub writer_loads_alone : Purpose → Pipe → Ended
-writer_loads_alone l p = let q = refreshed_by Writer p in writer_looks_alone (q.room == 0) l q
+writer_loads_alone l p = let q = index_loaded_by Writer p in writer_looks_alone (q.room == 0) l q
 
 -- the first load of closed
 abbrev pub writer_open_alone : Bool → Bool → Purpose → Pipe → Ended

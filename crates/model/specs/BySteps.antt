@@ -17,7 +17,7 @@ use Rattle.model_sides.specs.Call.{side_of}
 use Rattle.piper_protocol.specs.Table.{query_answer}
 use Rattle.model.specs.Pipe.{Pipe, begun}
 use Rattle.model.specs.Query.{unread_count, is_closed}
-use Rattle.model.specs.Refresh.{reader_refreshed, writer_refreshed}
+use Rattle.model.specs.LoadIfNone.{tail_loaded_if_empty, head_loaded_if_full}
 use Rattle.model.specs.Look.{Look, context, look_of}
 use Rattle.model.specs.Lend.{lending}
 use Rattle.model.specs.Move.{produce, consume}
@@ -112,8 +112,8 @@ pub record IsMadeWhole (side : Side) (p : Pipe) (before : List Event) (q : Pipe)
 -- what a side knows after the look of a call that is run alone: what it knew, or else all that
 -- there is
 abbrev pub found_alone : Side → Pipe → ℕ
-found_alone Reader p = (reader_refreshed p).known
-found_alone Writer p = (writer_refreshed p).room
+found_alone Reader p = (tail_loaded_if_empty p).known
+found_alone Writer p = (head_loaded_if_full p).room
 
 -- after `steps` more steps of this side alone its call has returned
 pub record Returns (side : Side) (p : Pipe) (before : List Event) : Type 0 where

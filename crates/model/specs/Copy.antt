@@ -2,7 +2,7 @@
 use Rattle.std.specs.Prelude.{ℕ, ◌+◌, ◌-◌, min, List, [], ◌∷◌, ◌++◌, take, drop, length, Bool, true, false, Option, None, Some, if◌then◌else◌, ◌==◌}
 use Rattle.piper_protocol.specs.declared.answer.Polled.{Polled}
 use Rattle.piper_protocol.specs.declared.answer.Polled.TheVariants.{Pending, Ready, Memory}
-use Rattle.piper_protocol.specs.Index.{place_of}
+use Rattle.piper_protocol.specs.Index.{offset_of}
 use Rattle.model.specs.Pipe.{Pipe, begun}
 use Rattle.model_sides.specs.declared.polling.Context.{Context}
 use Rattle.model.specs.Look.{reader_look, writer_look}
@@ -69,7 +69,7 @@ drained n p =
     record p {
       unread = drop n p.unread;
       known = p.known - n;
-      start = place_of p.capacity (p.start + n);
+      start = offset_of p.capacity (p.start + n);
       writer_waker = waker_after n p.writer_waker;
       woken = woken_after n p.woken p.writer_waker;
     }

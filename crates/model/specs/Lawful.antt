@@ -13,7 +13,7 @@ use Rattle.model.specs.Conservation.{IsConserved}
 use Rattle.model.specs.Disjoint.{IsDisjoint}
 use Rattle.model.specs.Honest.{IsHonest}
 use Rattle.model.specs.Final.{IsFinal}
-use Rattle.model.specs.Heed.{IsHeeded}
+use Rattle.model.specs.StopsAtClose.{StopsAtClose}
 use Rattle.model.specs.Remembered.{AreRemembered}
 use Rattle.model.specs.Awake.{IsAwake}
 use Rattle.model.specs.Answered.{AreAnswered}
@@ -29,7 +29,7 @@ pub record IsLawful (capacity : ℕ) (steps : List Step) (p : Pipe)
   -- once a call of the reader has found the end, no byte comes any more
   pub finality : IsFinal p events
   -- a call of the writer that found the pipe closed publishes nothing after that
-  pub heeded : IsHeeded events
+  pub stops : StopsAtClose events
   -- whoever was left pending is called, or has nothing to do and its waker in its slot
   pub remembered : AreRemembered p events
   -- if both sides were left pending, the waker of one of them was called

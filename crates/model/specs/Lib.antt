@@ -3,7 +3,7 @@ pub mod Pipe
 pub mod Places
 pub mod Sound
 pub mod Query
-pub mod Refresh
+pub mod LoadIfNone
 pub mod Look
 pub mod Lend
 pub mod Move
@@ -32,7 +32,7 @@ pub mod Remembered
 pub mod Awake
 pub mod End
 pub mod Final
-pub mod Heed
+pub mod StopsAtClose
 pub mod Noted
 pub mod Outcome
 pub mod Answered

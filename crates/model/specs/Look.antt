@@ -9,7 +9,7 @@ use Rattle.piper_protocol.specs.declared.answer.Polled.{Polled}
 use Rattle.piper_protocol.specs.declared.answer.Polled.TheVariants.{Pending, Ready, Memory}
 use Rattle.piper_protocol.specs.Table.{end_or_pending}
 use Rattle.model.specs.Pipe.{Pipe}
-use Rattle.model.specs.Refresh.{reader_refreshed, writer_refreshed}
+use Rattle.model.specs.LoadIfNone.{tail_loaded_if_empty, head_loaded_if_full}
 
 -- the context of a polling call; the try forms have none
 abbrev pub context : ℕ → Luck → Context
@@ -44,7 +44,7 @@ reader_looks true cx p = reader_waits cx p
 reader_looks false cx p = reader_finds cx p
 
 abbrev pub reader_look : Option Context → Pipe → Look
-reader_look cx p = reader_looks ((reader_refreshed p).known == 0) cx (reader_refreshed p)
+reader_look cx p = reader_looks ((tail_loaded_if_empty p).known == 0) cx (tail_loaded_if_empty p)
 
 -- the writer's waker is registered, if its clone is granted
 abbrev pub writer_registers : Bool → ℕ → Pipe → Look
@@ -69,7 +69,7 @@ writer_looks false cx p = writer_finds cx p
 abbrev pub writer_looks_if_closed : Bool → Option Context → Pipe → Look
 writer_looks_if_closed true cx p = looked (Ready false) p
 writer_looks_if_closed false cx p =
-    writer_looks ((writer_refreshed p).room == 0) cx (writer_refreshed p)
+    writer_looks ((head_loaded_if_full p).room == 0) cx (head_loaded_if_full p)
 
 abbrev pub writer_look : Option Context → Pipe → Look
 writer_look cx p = writer_looks_if_closed p.is_closed cx p

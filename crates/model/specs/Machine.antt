@@ -3,7 +3,7 @@ use Rattle.std.specs.Prelude.{◌≡◌, ◌≤◌, [], length, take, drop, true
 use Rattle.piper_protocol.specs.declared.table.ReadPoint.TheVariants as at
 use Rattle.piper_protocol.specs.declared.table.WritePoint.TheVariants as on
 use Rattle.model_sides.specs.Open.{no_call}
-use Rattle.piper_protocol.specs.Index.{distance, place_of}
+use Rattle.piper_protocol.specs.Index.{distance, offset_of}
 use Rattle.model.specs.declared.destination.Destination.TheVariants.{Slice}
 use Rattle.model.specs.Buffer.{between}
 use Rattle.model.specs.Pipe.{Pipe}
@@ -15,10 +15,10 @@ pipe_of m =
     record {
       capacity = m.read.capacity;
       unread = between m.read.capacity m.read.head m.write.tail m.bytes.items;
-      start = place_of m.read.capacity m.read.head;
+      start = offset_of m.read.capacity m.read.head;
       known = known_of m.read;
       room = room_of m.write;
-      lent = take m.write.lent (drop (place_of m.write.capacity m.write.tail) m.bytes.items);
+      lent = take m.write.lent (drop (offset_of m.write.capacity m.write.tail) m.bytes.items);
       is_closed = m.is_closed;
       is_shut = m.write.is_shut;
       reader_waker = m.reader_slot;

@@ -1,6 +1,6 @@
 -- Bytes go in and out, and a waker is called.
 use Rattle.std.specs.Prelude.{ℕ, ◌+◌, ◌-◌, List, [], ◌∷◌, ◌++◌, take, drop, Option, Some, None}
-use Rattle.piper_protocol.specs.Index.{place_of}
+use Rattle.piper_protocol.specs.Index.{offset_of}
 use Rattle.model.specs.Pipe.{Pipe}
 
 -- the names called so far, and that of the waker found in a slot
@@ -25,7 +25,7 @@ abbrev pub consumed : ℕ → Pipe → Pipe
 consumed n p = record p {
   unread = drop n p.unread;
   known = p.known - n;
-  start = place_of p.capacity (p.start + n);
+  start = offset_of p.capacity (p.start + n);
 }
 
 abbrev pub produce : ℕ → Pipe → Pipe

@@ -1,11 +1,11 @@
 -- Where the bytes are in the buffer, and who holds which place.
 use Rattle.std.specs.Prelude.{◌≡◌, ℕ, ◌+◌, ◌-◌, ◌<◌, min, List, length, take}
-use Rattle.piper_protocol.specs.Index.{place_of}
+use Rattle.piper_protocol.specs.Index.{offset_of}
 use Rattle.model.specs.Pipe.{Pipe}
 
 -- the place of the unread byte number i
 abbrev pub unread_place : Pipe → ℕ → ℕ
-unread_place p i = place_of p.capacity (p.start + i)
+unread_place p i = offset_of p.capacity (p.start + i)
 
 -- the place after the last unread byte, from which on is lent
 abbrev pub end_place : Pipe → ℕ

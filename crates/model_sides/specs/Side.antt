@@ -5,7 +5,7 @@ use Rattle.piper_protocol.specs.declared.table.ReadPoint.{ReadPoint}
 use Rattle.piper_protocol.specs.declared.table.ReadPoint.TheVariants as at
 use Rattle.piper_protocol.specs.declared.table.WritePoint.{WritePoint}
 use Rattle.piper_protocol.specs.declared.table.WritePoint.TheVariants as on
-use Rattle.piper_protocol.specs.Index.{IsCapacity, distance, place_of}
+use Rattle.piper_protocol.specs.Index.{IsCapacity, distance, offset_of}
 use Rattle.piper_protocol.specs.ReaderIndices.{ReaderIndices, known_in, peekable_in}
 use Rattle.piper_protocol.specs.Table.{head_store, tail_store, read_sum, write_sum}
 use Rattle.piper_protocol.specs.WriterIndices.{WriterIndices, room_in, left_in, lendable_in}
@@ -62,7 +62,7 @@ lend_length most w = lendable_in most (writer_indices w)
 -- lent from the writer's place on, and set up to the end of that
 abbrev pub lent_out : ℕ → Writing → Writing
 lent_out count w =
-    record w { lent = count; zeroed = max w.zeroed (place_of w.capacity w.tail + count) }
+    record w { lent = count; zeroed = max w.zeroed (offset_of w.capacity w.tail + count) }
 
 -- the sides of an empty pipe
 abbrev pub fresh_reading : ℕ → Reading
@@ -96,7 +96,7 @@ pub record IsWriting (w : Writing) : Type 0 where
   pub lent_room : w.lent ≤ room_of w
   pub lent_place : w.lent ≤ left_of w
   pub zeroed : w.zeroed ≤ w.capacity
-  pub lent_zeroed : place_of w.capacity w.tail + w.lent ≤ w.zeroed
+  pub lent_zeroed : offset_of w.capacity w.tail + w.lent ≤ w.zeroed
   pub shut : w.is_shut ≡ true → w.lent ≡ 0
   pub store : tail_store w.point ≤ w.lent
   -- a copy moves no more than its look left room for

@@ -8,7 +8,7 @@ use Rattle.piper_protocol.specs.ReaderIndices.{ReaderIndices}
 use Rattle.piper_protocol.specs.WriterIndices.{WriterIndices}
 use Rattle.model_sides.specs.Side.{Reading, Writing, room_of}
 use Rattle.piper_protocol.specs.declared.table.Found.{Found}
-use Rattle.piper_protocol.specs.declared.table.Found.TheVariants.{Refreshed as refreshed}
+use Rattle.piper_protocol.specs.declared.table.Found.TheVariants.{IndexLoaded as index_loaded}
 use Rattle.piper_protocol.specs.Table.{read_after, write_after}
 
 -- a side is its indices and its point
@@ -36,7 +36,7 @@ reading_answer found r = (read_after r.capacity r.point found).answer
 
 -- what a look finds that loads this index of the writer
 abbrev pub tail_found : ℕ → Reading → Found
-tail_found tail r = refreshed (distance r.capacity r.head tail == 0)
+tail_found tail r = index_loaded (distance r.capacity r.head tail == 0)
 
 -- the same of the writer
 abbrev pub writing_after : Found → Writing → Writing
@@ -47,4 +47,4 @@ abbrev pub writing_answer : Found → Writing → Option Answer
 writing_answer found w = (write_after w.capacity (room_of w) w.point found).answer
 
 abbrev pub head_found : ℕ → Writing → Found
-head_found head w = refreshed (w.capacity - distance w.capacity head w.tail == 0)
+head_found head w = index_loaded (w.capacity - distance w.capacity head w.tail == 0)

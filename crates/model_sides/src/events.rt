@@ -26,7 +26,7 @@ pub enum Seen {
 pub enum Event {
     /// A call was opened, with the waker handed to it.
     Began(Side, Kind, Option<u32>),
-    Looked(Side, Seen),
+    Loaded(Side, Seen),
     Published(Bytes),
     Consumed(Bytes),
     Closed(Side),

@@ -1,7 +1,7 @@
 //! The reader's side: its own index, the writer's as it last saw it, and its point inside the open
 //! call.
 ghost use Rattle.std.specs.Prelude.{IsSome, ◌≡◌, ◌≢◌, ℕ, true, ◌*◌, ◌<◌, ◌≤◌, ◌==◌, ◌+◌};
-ghost use Rattle.piper_protocol.specs.Index.{IsCapacity, distance, place_of, advanced};
+ghost use Rattle.piper_protocol.specs.Index.{IsCapacity, distance, offset_of, advanced};
 ghost use Rattle.piper_protocol.specs.Table.{SumFits, head_store, moved_in, read_action, read_after, read_done, read_sum, reader_looks_for};
 
 use piper_protocol::answer::{Answer, Polled};
@@ -20,7 +20,7 @@ use std::marker::Model;
 ///
 /// A call is opened by `begin`. `next` then says which step the call table puts next, and `step`
 /// takes in what that step found; it returns where the call ends. A step that moves an index is
-/// reported by `refreshed` or `stored_head`.
+/// reported by `tail_loaded` or `stored_head`.
 #[derive(Drop)]
 pub struct ReadState {
     indices: ReadIndices,
@@ -71,7 +71,7 @@ impl ReadState {
 
     /// The place of the first unread byte.
     pub fn front(&self) -> usize
-        ensures value { result ≡ place_of self.now.capacity self.now.head }
+        ensures value { result ≡ offset_of self.now.capacity self.now.head }
         ensures below { result < self.now.capacity }
     {
         self.indices.front()
@@ -139,8 +139,8 @@ impl ReadState {
     }
 
     /// The tail was loaded in a look, and was at this index.
-    pub fn refreshed(&mut self, tail: usize) -> Option<Answer>
-        requires next { read_action self.old.point ≡ Action.Refresh }
+    pub fn tail_loaded(&mut self, tail: usize) -> Option<Answer>
+        requires next { read_action self.old.point ≡ Action.LoadIndex }
         requires index { tail < 2 * self.old.capacity }
         requires within { distance self.old.capacity self.old.head tail ≤ self.old.capacity }
         ensures after { self.new ≡ record (reading_after (tail_found tail self.old) self.old) {
@@ -155,7 +155,7 @@ impl ReadState {
         let (point, answer) = after(
             self.point,
             self.indices.capacity(),
-            Found::Refreshed { none },
+            Found::IndexLoaded { none },
         );
         self.point = point;
         answer
@@ -191,7 +191,7 @@ fn action(point: ReadPoint) -> Action
         QueryHead(_) => Action::LoadHead,
         QueryTail(_) => Action::LoadTail,
         QueryClosed | LookClosed(_) => Action::LoadClosed,
-        LookTail(_) | LookTailAgain(_, _) => Action::Refresh,
+        LookTail(_) | LookTailAgain(_, _) => Action::LoadIndex,
         LookRegister(_) => Action::Register,
         LookTake(_) => Action::Take(Side::Reader),
         Yield => Action::Yield,
@@ -229,16 +229,16 @@ fn after(point: ReadPoint, capacity: usize, found: Found) -> (ReadPoint, Option<
         (QueryHead(query), _) => (QueryTail(query), None),
         (QueryTail(query), Found::Unread(count)) => (Idle, Some(query.answer(capacity, count))),
         (QueryClosed, Found::Flag(is_closed)) => (Idle, Some(Answer::Flag(is_closed))),
-        (LookTail(look), Found::Refreshed { none }) if none => (look.reader_found_none(), None),
-        (LookTail(look), Found::Refreshed { .. }) => (look.reader_found(), None),
+        (LookTail(look), Found::IndexLoaded { none }) if none => (look.reader_found_none(), None),
+        (LookTail(look), Found::IndexLoaded { .. }) => (look.reader_found(), None),
         (LookRegister(look), Found::Granted(is_granted)) if is_granted => (LookClosed(look), None),
         (LookRegister(look), Found::Granted(_)) => (Idle, Some(look.look_answer(Polled::Memory))),
         (LookClosed(look), Found::Flag(is_closed)) => (LookTailAgain(look, is_closed), None),
-        (LookTailAgain(look, was_closed), Found::Refreshed { none }) if none => (
+        (LookTailAgain(look, was_closed), Found::IndexLoaded { none }) if none => (
             Idle,
             Some(look.look_answer(end_or_pending(was_closed))),
         ),
-        (LookTailAgain(look, _), Found::Refreshed { .. }) => (look.reader_found(), None),
+        (LookTailAgain(look, _), Found::IndexLoaded { .. }) => (look.reader_found(), None),
         (LookTake(Purpose::Poll), _) => (Idle, Some(Answer::Poll(Polled::Ready(true)))),
         (LookTake(Purpose::Copy(Form::Polling { is_drawn: true })), _) => (Yield, None),
         (LookTake(Purpose::Copy(form)), _) => (CallDestination(form, 0), None),

@@ -2,7 +2,7 @@
 //! inside the open call.
 ghost use Rattle.std.specs.Prelude.{IsSome, ◌≡◌, ◌≢◌, ℕ, ◌+◌, ◌-◌, ◌*◌, ◌<◌, ◌≤◌, true, false, ◌==◌};
 ghost use Rattle.piper_protocol.specs.Table.{SumFits, moved_in, publishes, tail_store, write_action, write_after, write_done, write_sum};
-ghost use Rattle.piper_protocol.specs.Index.{IsCapacity, distance, place_of, advanced};
+ghost use Rattle.piper_protocol.specs.Index.{IsCapacity, distance, offset_of, advanced};
 
 use piper_protocol::answer::{Answer, Polled};
 use piper_protocol::indices::WriteIndices;
@@ -21,7 +21,7 @@ use std::marker::Model;
 ///
 /// A call is opened by `begin`. `next` then says which step the call table puts next, and `step`
 /// takes in what that step found; it returns where the call ends. A step that moves an index or
-/// shuts the pipe is reported by `refreshed`, `stored_tail` or `shut`.
+/// shuts the pipe is reported by `head_loaded`, `stored_tail` or `shut`.
 #[derive(Drop)]
 pub struct WriteState {
     indices: WriteIndices,
@@ -65,7 +65,7 @@ impl WriteState {
 
     /// The place from which on the writer is lent.
     pub fn front(&self) -> usize
-        ensures value { result ≡ place_of self.now.capacity self.now.tail }
+        ensures value { result ≡ offset_of self.now.capacity self.now.tail }
         ensures below { result < self.now.capacity }
     {
         self.indices.front()
@@ -145,8 +145,8 @@ impl WriteState {
     }
 
     /// The head was loaded in a look, and was at this index.
-    pub fn refreshed(&mut self, head: usize) -> Option<Answer>
-        requires next { write_action self.old.point ≡ Action.Refresh }
+    pub fn head_loaded(&mut self, head: usize) -> Option<Answer>
+        requires next { write_action self.old.point ≡ Action.LoadIndex }
         requires index { head < 2 * self.old.capacity }
         requires within { distance self.old.capacity head self.old.tail ≤ self.old.capacity }
         requires lent { self.old.lent
@@ -165,7 +165,7 @@ impl WriteState {
             self.point,
             self.indices.capacity(),
             room,
-            Found::Refreshed { none },
+            Found::IndexLoaded { none },
         );
         self.point = point;
         answer
@@ -222,7 +222,7 @@ fn action(point: WritePoint) -> Action
         QueryTail(_, _) => Action::LoadTail,
         QueryClosed | LookClosed(_) | LookClosedAgain(_) | RoundClosed(_, _, _) =>
             Action::LoadClosed,
-        LookHead(_) | LookHeadAgain(_) => Action::Refresh,
+        LookHead(_) | LookHeadAgain(_) => Action::LoadIndex,
         LookRegister(_) => Action::Register,
         LookTake(_) | TakeWriter => Action::Take(Side::Writer),
         Yield => Action::Yield,
@@ -279,15 +279,15 @@ fn after(
         ),
         (LookClosed(look), Found::Flag(_)) if room == 0 => (LookHead(look), None),
         (LookClosed(look), Found::Flag(_)) => (look.writer_found(), None),
-        (LookHead(look), Found::Refreshed { none }) if none => (look.writer_found_none(), None),
-        (LookHead(look), Found::Refreshed { .. }) => (look.writer_found(), None),
+        (LookHead(look), Found::IndexLoaded { none }) if none => (look.writer_found_none(), None),
+        (LookHead(look), Found::IndexLoaded { .. }) => (look.writer_found(), None),
         (LookRegister(look), Found::Granted(is_granted)) if is_granted => (
             LookHeadAgain(look),
             None,
         ),
         (LookRegister(look), Found::Granted(_)) => (Idle, Some(look.look_answer(Polled::Memory))),
-        (LookHeadAgain(look), Found::Refreshed { none }) if none => (LookClosedAgain(look), None),
-        (LookHeadAgain(look), Found::Refreshed { .. }) => (look.writer_found(), None),
+        (LookHeadAgain(look), Found::IndexLoaded { none }) if none => (LookClosedAgain(look), None),
+        (LookHeadAgain(look), Found::IndexLoaded { .. }) => (look.writer_found(), None),
         (LookClosedAgain(look), Found::Flag(is_closed)) => (
             Idle,
             Some(look.look_answer(end_or_pending(is_closed))),

@@ -9,12 +9,12 @@ use Rattle.piper.specs.Looks.{IsEnded}
 use Rattle.piper.specs.Polls.{TakesNone}
 
 -- who saw the end knows where it is
-knows : (told saw : Bool) → saw ≡ true → either told saw ≡ true
+knows : (observed saw : Bool) → saw ≡ true → either observed saw ≡ true
 knows false saw seen = seen
 knows true saw seen = refl
 
 pub ended_knows : (r : ReadView) → IsEnded r → KnowsEnd r
-ended_knows r ended = knows r.told_shut r.saw ended.saw
+ended_knows r ended = knows r.observed_shut r.saw ended.saw
 
 -- what was taken stays the same
 ended_takes : (a b : ReadView) → KeepsAll a b → IsEnded a → IsEnded b → b.taken ≡ a.taken

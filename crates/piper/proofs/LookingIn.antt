@@ -16,7 +16,7 @@ use Rattle.piper.specs.declared.error.CopyError.{CopyError}
 up_to_date : (a b : WriteView) → WriterFilled a b → IsReplaced a b → WriterIsUpToDate a → WriterIsUpToDate b
 up_to_date a b filled room now =
     let capacity : b.capacity ≡ a.capacity = ap (λ (v : WriteView). v.capacity) filled.rest in (
-      omega (arith, now.0, ap (λ (v : WriteView). v.told) filled.rest, capacity, room),
+      omega (arith, now.0, ap (λ (v : WriteView). v.observed) filled.rest, capacity, room),
       (now.1.0, subst (λ (v : WriteView). FoundConsumed v.ring.names now.1.0) (sym filled.rest) now.1.1, omega (arith, now.1.2, capacity, room)),
     )
 

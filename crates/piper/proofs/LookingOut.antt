@@ -39,7 +39,7 @@ module _ {S E : Type 0} (takes : Passes S) (is_full : S → Type 0) (fails : S �
       taken = d.taken ∙ ap (λ l. l ++ d.moved) same_taken;
       known = λ some. ap (λ (v : ReadView). v.known) (sym (looked.known some)) ∙ d.known;
       fresh = λ none.
-          (omega (arith, (looked.fresh none).0, ap (λ (v : ReadView). v.told) d.rest, ap length d.taken, ap length d.known, length-append w.taken w.known, length-append b.taken b.known, length-append w.taken d.moved, length-append d.moved b.known), still_loaded w b (ap (λ (v : ReadView). v.ring) d.rest) (omega (arith, ap length d.taken, ap length d.known, length-append w.taken w.known, length-append b.taken b.known, length-append w.taken d.moved, length-append d.moved b.known)) (looked.fresh none).1);
+          (omega (arith, (looked.fresh none).0, ap (λ (v : ReadView). v.observed) d.rest, ap length d.taken, ap length d.known, length-append w.taken w.known, length-append b.taken b.known, length-append w.taken d.moved, length-append d.moved b.known), still_loaded w b (ap (λ (v : ReadView). v.ring) d.rest) (omega (arith, ap length d.taken, ap length d.known, length-append w.taken w.known, length-append b.taken b.known, length-append w.taken d.moved, length-append d.moved b.known)) (looked.fresh none).1);
       copied = d.copied;
       most = d.most;
       end = record {

@@ -32,8 +32,8 @@ lost_one a b published lost n most sent count last =
 
 -- the bytes of a slice that were counted, and those of them that were published
 module _ (bytes published lost rest : List ℕ) (a b : Writer) (n : ℕ) (given : bytes ≡ (published ++ lost) ++ rest) (count : length (published ++ lost) ≡ n) (sent : b.side.end.sent ≡ a.side.end.sent ++ published) (all : b.side.end.saw ≡ false → lost ≡ []) (last : length lost ≤ most_of_round b.side.end) where
-  told : (n ≤ length bytes) × ((m : ℕ) × (m ≤ n) × (b.side.end.sent ≡ a.side.end.sent ++ take m bytes) × (b.side.end.saw ≡ false → m ≡ n) × (n ≤ m + MOST_A_ROUND))
-  told = wrote bytes published lost rest a.side.end.sent b.side.end.sent n b.side.end.saw (room_in_one_piece b.side.end) given count sent all last
+  observed : (n ≤ length bytes) × ((m : ℕ) × (m ≤ n) × (b.side.end.sent ≡ a.side.end.sent ++ take m bytes) × (b.side.end.saw ≡ false → m ≡ n) × (n ≤ m + MOST_A_ROUND))
+  observed = wrote bytes published lost rest a.side.end.sent b.side.end.sent n b.side.end.saw (room_in_one_piece b.side.end) given count sent all last
 
   full_is : ((((0 < n) × (b.side.end.room ≡ 0)) ⊎ (length rest ≡ 0)) ⊎ (b.side.end.saw ≡ true)) → n < length bytes → b.side.end.saw ≡ false → b.side.end.room ≡ 0
   full_is (inl (inl full)) less unseen = full.1
@@ -42,9 +42,9 @@ module _ (bytes published lost rest : List ℕ) (a b : Writer) (n : ℕ) (given 
 
   pub filled_is : (0 < a.side.end.room → IsReplaced a.side.end b.side.end) → (a.side.end.room ≡ 0 → b.side.end.saw ≡ false → WriterIsUpToDate b.side.end) → ((((0 < n) × (b.side.end.room ≡ 0)) ⊎ (length rest ≡ 0)) ⊎ (b.side.end.saw ≡ true)) → Filled n a b bytes
   filled_is room fresh most = record {
-    count = told.0;
-    front = (told.1.0, told.1.1, told.1.2);
-    all = λ unseen. told.1.2 ∙ ap (λ k. a.side.end.sent ++ take k bytes) (told.1.3 unseen);
+    count = observed.0;
+    front = (observed.1.0, observed.1.1, observed.1.2);
+    all = λ unseen. observed.1.2 ∙ ap (λ k. a.side.end.sent ++ take k bytes) (observed.1.3 unseen);
     last = lost_one _ _ published lost n _ sent count last;
     room = room;
     fresh = fresh;

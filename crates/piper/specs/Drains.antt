@@ -22,7 +22,7 @@ EndIsTrue r a b = OnReadyOk r (found_len a b ≡ 0 → IsEnded b)
 -- a drain that is pending found a byte, or neither saw the pipe closed nor was told so
 abbrev pub EndIsUnseen : {E : Type 0} → Poll (Result ℕ E) → ReadView → ReadView → Type 0
 EndIsUnseen r a b =
-    OnPending r (found_len a b ≡ 0 → (b.saw ≡ false) × (b.told_shut ≡ false))
+    OnPending r (found_len a b ≡ 0 → (b.saw ≡ false) × (b.observed_shut ≡ false))
 
 -- what the reader knew it still knows, but for what it took of it
 abbrev pub StaysKnown : ReadView → ReadView → Type 0

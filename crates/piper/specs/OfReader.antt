@@ -36,11 +36,11 @@ saw reader = reader.side.end.saw
 
 -- how many published bytes marks reported to it, and whether one reported that the writer closed
 -- the pipe
-abbrev pub told : Reader → ℕ
-told reader = reader.side.end.told
+abbrev pub observed : Reader → ℕ
+observed reader = reader.side.end.observed
 
-abbrev pub told_shut : Reader → Bool
-told_shut reader = reader.side.end.told_shut
+abbrev pub observed_shut : Reader → Bool
+observed_shut reader = reader.side.end.observed_shut
 
 -- all bytes that were ever published, once it knows that the pipe is closed
 abbrev pub all : Reader → List ℕ

@@ -39,8 +39,8 @@ abbrev pub saw : Writer → Bool
 saw writer = writer.side.end.saw
 
 -- how many consumed bytes marks reported to it
-abbrev pub told : Writer → ℕ
-told writer = writer.side.end.told
+abbrev pub observed : Writer → ℕ
+observed writer = writer.side.end.observed
 
 -- what it has of both slots: how it waits in its own, and whom it took out of the other's
 abbrev pub slots : Writer → SlotsView

@@ -109,7 +109,7 @@ pub record KeepsEnd (a b : Reader) : Type 0 where
 -- as a poll does; or it found one and asked for another poll itself
 pub record DrainPends (a b : Reader) (cx : Context) : Type 0 where
   pub unseen : found_len a.side.end b.side.end ≡ 0
-      → (b.side.end.saw ≡ false) × (b.side.end.told_shut ≡ false)
+      → (b.side.end.saw ≡ false) × (b.side.end.observed_shut ≡ false)
   pub yields : 0 < found_len a.side.end b.side.end → AsksAgain cx
   pub covered : Covers cx (λ s. s ≡ read_source a)
   pub registered : found_len a.side.end b.side.end ≡ 0 → ReaderRegistered a b cx

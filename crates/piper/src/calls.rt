@@ -23,7 +23,7 @@ impl Reader {
     ghost use Rattle.piper_ring.specs.Loads.{FoundClosed};
     ghost use Rattle.piper.specs.Counts.{ReaderCompares};
     ghost use Rattle.piper.specs.Handles.{NotifiesWriter, SameReader};
-    ghost use Rattle.piper.specs.OfReader.{ring, capacity, taken, known, end_of, front, log, saw, slots, told_shut};
+    ghost use Rattle.piper.specs.OfReader.{ring, capacity, taken, known, end_of, front, log, saw, slots, observed_shut};
     ghost use Rattle.piper.specs.ReaderCalls.{AtEnd, ReaderMayHave, ReaderPolled, PollsEnd};
     ghost use Rattle.piper_ring.specs.Looks.{looks_at};
     ghost use Rattle.piper.specs.Waits.{ReaderIsRefused, ReaderPends, ReaderWokeLast};
@@ -67,7 +67,7 @@ impl Reader {
     /// is `true` it stays so (not proved).
     pub fn is_closed(&self) -> bool
         ensures stays { (saw self.now ≡ true → IsTrue result)
-            × (told_shut self.now ≡ true → IsTrue result) }
+            × (observed_shut self.now ≡ true → IsTrue result) }
         ensures found { FoundClosed (ring self.now).names result }
     {
         self.end().is_closed()
@@ -155,8 +155,8 @@ impl Reader {
     pub fn drop(self) -> FinishedReader
         ensures ran { Opened (Point.Reader ReadPoint.StoreClosed)
             (ends (Point.Reader ReadPoint.Dropped) Answer.Done) (log self) result.log }
-        ensures told { (result.told.consumed.names ≡ (ring self).names)
-            × (result.told.consumed.count ≡ length (taken self)) }
+        ensures mark { (result.mark.consumed.names ≡ (ring self).names)
+            × (result.mark.consumed.count ≡ length (taken self)) }
         ensures woken { ReaderWokeLast self result }
         ensures left { HasDropped (ring self).names }
     {
@@ -330,8 +330,8 @@ impl Writer {
     pub fn drop(self) -> FinishedWriter
         ensures ran { Opened (Point.Writer (WritePoint.StoreClosed AfterWrite.Drop))
             (ends (Point.Writer WritePoint.Dropped) Answer.Done) (log self) result.log }
-        ensures told { (result.told.names ≡ (ring self).names)
-            × (result.told.bytes ≡ sent self) × (result.told.shut ≡ true) }
+        ensures mark { (result.mark.names ≡ (ring self).names)
+            × (result.mark.bytes ≡ sent self) × (result.mark.shut ≡ true) }
         ensures woken { WriterWokeLast self result }
         ensures left { HasDropped (ring self).names }
     {

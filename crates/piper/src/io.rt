@@ -27,7 +27,7 @@ pub trait AsyncRead {
     ghost saw: { Self → Bool };
 
     // whether it was told of the end
-    ghost told: { Self → Bool } = { λ _. false };
+    ghost knows_end: { Self → Bool } = { λ _. false };
 
     // a call of its own has reported the end: it took all that ever comes
     ghost ended: { Self → Type 0 };
@@ -62,10 +62,10 @@ pub trait AsyncRead {
             × (ended self.old →
             TakesNone result (ended self.new) (taken self.old) (taken self.new)) }
         ensures says { says self.old self.new result dest.old dest.new cx.new }
-        ensures stays { (told self.new ≡ told self.old)
+        ensures stays { (knows_end self.new ≡ knows_end self.old)
             × (saw self.old ≡ true → saw self.new ≡ true) × (woken self.old → woken self.new) }
         ensures pending { OnPending result (Covers cx.new (needs self.new)
-            × (told self.old ≡ true → AsksAgain cx.new) × waits self.new cx.new) }
+            × (knows_end self.old ≡ true → AsksAgain cx.new) × waits self.new cx.new) }
         ensures error { IfReadyErr result (fails self.new cx.new) }
         ensures kept { Keeps cx.old cx.new };
 }
@@ -88,7 +88,7 @@ pub trait AsyncBufRead {
     ghost saw: { Self → Bool };
 
     // whether it was told of the end
-    ghost told: { Self → Bool } = { λ _. false };
+    ghost knows_end: { Self → Bool } = { λ _. false };
 
     // a call of its own has reported the end: it took all that ever comes
     ghost ended: { Self → Type 0 };
@@ -127,8 +127,8 @@ pub trait AsyncBufRead {
             × (taken new ≡ taken self.old)
             × (saw self.old ≡ true → saw new ≡ true)
             × IfReadyErr result (fails new cx.new)
-            × (told new ≡ told self.old)
-            × OnPending result ((told new ≡ false) × waits new cx.new)
+            × (knows_end new ≡ knows_end self.old)
+            × OnPending result ((knows_end new ≡ false) × waits new cx.new)
             × OnPending result (Covers cx.new (needs new))
             × (woken self.old → woken new)
             × lends self.old new result cx.new)) }
@@ -141,7 +141,7 @@ pub trait AsyncBufRead {
         requires { amt ≤ piece self.old }
         ensures known { known self.new ≡ drop amt (known self.old) }
         ensures taken { taken self.new ≡ taken self.old ++ take amt (known self.old) }
-        ensures stays { (saw self.new ≡ saw self.old) × (told self.new ≡ told self.old) }
+        ensures stays { (saw self.new ≡ saw self.old) × (knows_end self.new ≡ knows_end self.old) }
         ensures end { ended self.old → ended self.new }
         ensures woken { woken self.old → woken self.new }
         ensures consumes { consumes self.old self.new amt };

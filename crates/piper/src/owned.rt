@@ -220,7 +220,7 @@ impl AsyncRead for OwnedReader {
 
     ghost saw = { λ owned. owned.side.end.saw };
 
-    ghost told = { λ owned. owned.side.end.told_shut };
+    ghost knows_end = { λ owned. owned.side.end.observed_shut };
 
     ghost ended = { λ owned. IsEnded owned.side.end };
 
@@ -257,7 +257,7 @@ impl AsyncBufRead for OwnedReader {
 
     ghost saw = { λ owned. owned.side.end.saw };
 
-    ghost told = { λ owned. owned.side.end.told_shut };
+    ghost knows_end = { λ owned. owned.side.end.observed_shut };
 
     ghost ended = { λ owned. IsEnded owned.side.end };
 

@@ -121,7 +121,7 @@ pub trait Output {
 impl Input for WriteEnd {
     #[inline(always)]
     fn put<C: Copying>(&mut self, bytes: &[u8]) -> usize {
-        self.refresh();
+        self.load_head_if_full();
         let buf = self.write_buf(bytes.len());
         let n = buf.len();
         // A whole piece has a branch of its own: there the count is known before the ring's indices
@@ -140,7 +140,7 @@ impl Input for WriteEnd {
 impl Output for ReadEnd {
     #[inline(always)]
     fn get<C: Copying>(&mut self, place: &mut [u8]) -> usize {
-        self.refresh();
+        self.load_tail_if_empty();
         let piece = self.peek_buf();
         let n = piece.len();
         // As in `put`.

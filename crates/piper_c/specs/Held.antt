@@ -34,7 +34,7 @@ room_owns p (Some ws) = lies_at (Array u8 (length ws)) full_share p ws
 abbrev pub with_room : WriteHalf → List ℕ → WriteHalf
 with_room w ws =
     let e = w.side.end in
-    let lent = write_view e.ring e.capacity e.sent e.room ws e.shut e.told e.saw in
+    let lent = write_view e.ring e.capacity e.sent e.room ws e.shut e.observed e.saw in
     record w { side = record w.side { end = lent } }
 
 -- the room that came back: as many bytes as were lent

@@ -50,7 +50,7 @@ WaitsFor reads writes (byte ∷ left) s = writes s
 -- nothing to give; or some moved, and it asked for another poll itself
 abbrev pub EchoPends : {R : Type 0} → (R → List ℕ) → (R → Bool) → (R → Context → Type 0) → R
     → Type 0 → List ℕ → Bool → Type 0 → Context → Type 0
-EchoPends known told waits r write_waits left saw Moved cx =
+EchoPends known knows_end waits r write_waits left saw Moved cx =
     ((0 < length left) × ¬ (saw ≡ true) × write_waits)
-    ⊎ ((left ≡ []) × WaitsForBytes known told waits r cx)
+    ⊎ ((left ≡ []) × WaitsForBytes known knows_end waits r cx)
     ⊎ (Moved × AsksAgain cx)

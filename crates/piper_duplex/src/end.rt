@@ -114,10 +114,10 @@ impl End {
     /// Wakes: who waits at the other end. A task that is still registered at this end may also be
     /// woken, as by `Reader::drop` and `Writer::drop`.
     pub fn drop(self) -> (FinishedReader, FinishedWriter)
-        ensures ring { (result.0.told.consumed.names ≡ (ring (reading self)).names)
-            × (result.1.told.names ≡ (of_writer.ring (writing self)).names) }
-        ensures taken { result.0.told.consumed.count ≡ length (taken (reading self)) }
-        ensures sent { result.1.told.bytes ≡ of_writer.sent (writing self) }
+        ensures ring { (result.0.mark.consumed.names ≡ (ring (reading self)).names)
+            × (result.1.mark.names ≡ (of_writer.ring (writing self)).names) }
+        ensures taken { result.0.mark.consumed.count ≡ length (taken (reading self)) }
+        ensures sent { result.1.mark.bytes ≡ of_writer.sent (writing self) }
         ensures woken { ReaderWokeLast (reading self) result.0
             × WriterWokeLast (writing self) result.1 }
     {

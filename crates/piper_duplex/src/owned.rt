@@ -3,7 +3,7 @@ ghost use Rattle.std.specs.Prelude.{◌≡◌, ◌*◌, ◌^◌, ◌<◌, IfErr,
 ghost use Rattle.piper_protocol.specs.Reported.{HasFailed};
 ghost use Rattle.piper.specs.Contexts.{WantsWaker};
 ghost use Rattle.piper.specs.Handles.{NotifiesReader, NotifiesWriter, read_source, write_source};
-ghost use Rattle.piper.specs.OfReader.{front, known, taken, told_shut};
+ghost use Rattle.piper.specs.OfReader.{front, known, taken, observed_shut};
 ghost use Rattle.piper.specs.OfReader as of_reader;
 ghost use Rattle.piper.specs.OfWriter as of_writer;
 ghost use Rattle.piper.specs.ReaderCalls.{AtEnd, PollsPiece, ReadsAsDrain};
@@ -98,7 +98,7 @@ impl AsyncRead for OwnedEnd {
 
     ghost saw = { λ e. of_reader.saw (reading e) };
 
-    ghost told = { λ e. told_shut (reading e) };
+    ghost knows_end = { λ e. observed_shut (reading e) };
 
     ghost ended = { λ e. AtEnd (reading e) };
 
@@ -131,7 +131,7 @@ impl AsyncBufRead for OwnedEnd {
 
     ghost saw = { λ e. of_reader.saw (reading e) };
 
-    ghost told = { λ e. told_shut (reading e) };
+    ghost knows_end = { λ e. observed_shut (reading e) };
 
     ghost ended = { λ e. AtEnd (reading e) };
 

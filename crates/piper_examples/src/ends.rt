@@ -29,7 +29,7 @@ fn mark_and_meet(rt: &impl Abort, mut reader: Reader, mut writer: Writer)
     same(rt, reader.end().known_len(), 2);
     same(rt, writer.end().capacity(), 4);
     let last = reader.drop();
-    writer.observe_last(&last.told);
+    writer.observe_last(&last.mark);
     confirm(rt, writer.is_closed());
     writer.drop();
 }

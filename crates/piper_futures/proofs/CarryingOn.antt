@@ -31,19 +31,19 @@ carries_on t0 t1 t2 s0 s1 s2 saw0 saw1 saw2 first second = (
   λ seen. second.2 (first.2 seen),
 )
 
-module _ {R W : Type 0} (taken known : R → List ℕ) (saw_end told : R → Bool) (read_woken : R → Type 0) (read_fails : R → Context → PipeError → Type 0)
+module _ {R W : Type 0} (taken known : R → List ℕ) (saw_end knows_end : R → Bool) (read_woken : R → Type 0) (read_fails : R → Context → PipeError → Type 0)
     (sent : W → List ℕ) (saw : W → Bool) (write_woken : W → Type 0) (write_fails : W → Context → PipeError → Type 0) where
-  copies_then : (r0 r1 r2 : R) (w0 w1 w2 : W) → CopiesOn taken known saw_end told read_woken read_fails sent saw write_woken write_fails r0 w0 r1 w1
-      → CopiesOn taken known saw_end told read_woken read_fails sent saw write_woken write_fails r1 w1 r2 w2 → CopiesOn taken known saw_end told read_woken read_fails sent saw write_woken write_fails r0 w0 r2 w2
+  copies_then : (r0 r1 r2 : R) (w0 w1 w2 : W) → CopiesOn taken known saw_end knows_end read_woken read_fails sent saw write_woken write_fails r0 w0 r1 w1
+      → CopiesOn taken known saw_end knows_end read_woken read_fails sent saw write_woken write_fails r1 w1 r2 w2 → CopiesOn taken known saw_end knows_end read_woken read_fails sent saw write_woken write_fails r0 w0 r2 w2
   copies_then r0 r1 r2 w0 w1 w2 first second = (
     carries_on (taken r0) (taken r1) (taken r2) (sent w0) (sent w1) (sent w2) (saw w0) (saw w1) (saw w2) first.0 second.0,
-    reader_stays told read_woken r0 r1 r2 first.1 second.1,
+    reader_stays knows_end read_woken r0 r1 r2 first.1 second.1,
     λ woken. second.2 (first.2 woken),
   )
 
   -- what may be given after a poll may be given before it
-  pub copied_then : (r0 r1 : R) (w0 w1 : W) → CopiesOn taken known saw_end told read_woken read_fails sent saw write_woken write_fails r0 w0 r1 w1 → (output : Result (R × W × Copied) (Failed (R × W)))
-      → CopiedAll taken known saw_end told read_woken read_fails sent saw write_woken write_fails r1 w1 output → CopiedAll taken known saw_end told read_woken read_fails sent saw write_woken write_fails r0 w0 output
+  pub copied_then : (r0 r1 : R) (w0 w1 : W) → CopiesOn taken known saw_end knows_end read_woken read_fails sent saw write_woken write_fails r0 w0 r1 w1 → (output : Result (R × W × Copied) (Failed (R × W)))
+      → CopiedAll taken known saw_end knows_end read_woken read_fails sent saw write_woken write_fails r1 w1 output → CopiedAll taken known saw_end knows_end read_woken read_fails sent saw write_woken write_fails r0 w0 output
   copied_then r0 r1 w0 w1 first (Ok done) gave = (copies_then r0 r1 done.0 w0 w1 done.1 first gave.0, gave.1)
   copied_then r0 r1 w0 w1 first (Err failed) gave = (copies_then r0 r1 failed.left.0 w0 w1 failed.left.1 first gave.0, gave.1)
 

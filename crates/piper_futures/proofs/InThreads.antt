@@ -34,7 +34,7 @@ module _ {S : Type 0} (remaining : S → Option (List ℕ)) (woken : OwnedWriter
 
   -- what comes back has the bytes of the ends that were given
   abbrev filled_to : (w w' : OwnedWriter) (s s' : S) (left : Filled S) → FillsOn (remaining s) (remaining s') w.side.end.sent w'.side.end.sent w.side.end.saw w'.side.end.saw
-      → left.source ≡ s' → left.told.bytes ≡ w'.side.end.sent → left.told.shut ≡ true → HadSeen left.told w'.side.end.saw → FilledTo remaining w s left
+      → left.source ≡ s' → left.mark.bytes ≡ w'.side.end.sent → left.mark.shut ≡ true → HadSeen left.mark w'.side.end.saw → FilledTo remaining w s left
   filled_to w w' s s' left moved source bytes shut seen =
       let here = subst (λ (r : S). FillsOn (remaining s) (remaining r) w.side.end.sent w'.side.end.sent w.side.end.saw w'.side.end.saw) (sym source) moved in record {
         saw = w'.side.end.saw;
@@ -49,7 +49,7 @@ module _ {S : Type 0} (remaining : S → Option (List ℕ)) (woken : OwnedWriter
   why_filled w s UntilClosed why = why
 
   pub fill_ended : (state : Option (OwnedWriter × S)) (w w' : OwnedWriter) (s s' : S) (copied : Copied) (output : Result (OwnedWriter × S × Copied) (Failed (OwnedWriter × S))) (left : Filled S)
-      → state ≡ Some (w, s) → output ≡ Ok (w', s', copied) → Given state output → left.source ≡ s' → left.told.bytes ≡ w'.side.end.sent → left.told.shut ≡ true → HadSeen left.told w'.side.end.saw
+      → state ≡ Some (w, s) → output ≡ Ok (w', s', copied) → Given state output → left.source ≡ s' → left.mark.bytes ≡ w'.side.end.sent → left.mark.shut ≡ true → HadSeen left.mark w'.side.end.saw
       → (to : FilledTo remaining w s left) × WhyFilled to.saw (remaining left.source) copied
   fill_ended state w w' s s' copied output left began is given source bytes shut seen =
       let all : All w s (Ok (w', s', copied)) = subst (λ o. All w s o) is (subst (λ st. Given st output) began given) in (
@@ -58,22 +58,22 @@ module _ {S : Type 0} (remaining : S → Option (List ℕ)) (woken : OwnedWriter
       )
 
   pub fill_failed : (state : Option (OwnedWriter × S)) (w : OwnedWriter) (s : S) (failed : Failed (OwnedWriter × S)) (output : Result (OwnedWriter × S × Copied) (Failed (OwnedWriter × S))) (left : Filled S)
-      → state ≡ Some (w, s) → output ≡ Err failed → Given state output → left.source ≡ failed.left.1 → left.told.bytes ≡ failed.left.0.side.end.sent → left.told.shut ≡ true → HadSeen left.told failed.left.0.side.end.saw
+      → state ≡ Some (w, s) → output ≡ Err failed → Given state output → left.source ≡ failed.left.1 → left.mark.bytes ≡ failed.left.0.side.end.sent → left.mark.shut ≡ true → HadSeen left.mark failed.left.0.side.end.saw
       → FilledTo remaining w s left × (FailsOnce fails failed.left.0 failed.error ⊎ IsIo failed.error)
   fill_failed state w s failed output left began is given source bytes shut seen =
       let all : All w s (Err failed) = subst (λ o. All w s o) is (subst (λ st. Given st output) began given) in
       (filled_to w failed.left.0 s failed.left.1 left all.0 source bytes shut seen, all.1)
 
-module _ {D : Type 0} (contents : D → Option (List ℕ)) (told : OwnedReader → Bool) (woken : OwnedReader → Type 0) (fails : OwnedReader → Context → PipeError → Type 0) where
+module _ {D : Type 0} (contents : D → Option (List ℕ)) (knows_end : OwnedReader → Bool) (woken : OwnedReader → Type 0) (fails : OwnedReader → Context → PipeError → Type 0) where
   abbrev AllOut : OwnedReader → D → Result (OwnedReader × D) (Failed (OwnedReader × D)) → Type 0
   AllOut r d output =
-      DrainedAll (λ (o : OwnedReader). o.side.end.taken) (λ (o : OwnedReader). o.side.end.known) (λ (o : OwnedReader). o.side.end.saw) told woken fails contents r d output
+      DrainedAll (λ (o : OwnedReader). o.side.end.taken) (λ (o : OwnedReader). o.side.end.known) (λ (o : OwnedReader). o.side.end.saw) knows_end woken fails contents r d output
 
   abbrev GivenOut : Option (OwnedReader × D) → Result (OwnedReader × D) (Failed (OwnedReader × D)) → Type 0
   GivenOut state output = IsSomeAnd state (λ ends. AllOut ends.0 ends.1 output)
 
   drained_to : (r r' : OwnedReader) (d d' : D) (left : Drained D) → DrainsOn r.side.end.taken r'.side.end.taken (contents d) (contents d') → left.dest ≡ d'
-      → left.told.consumed.count ≡ length r'.side.end.taken → DrainedTo contents r d left
+      → left.mark.consumed.count ≡ length r'.side.end.taken → DrainedTo contents r d left
   drained_to r r' d d' left on dest count =
       let here = subst (λ (x : D). DrainsOn r.side.end.taken r'.side.end.taken (contents d) (contents x)) (sym dest) on in record {
         moved = here.0;
@@ -86,7 +86,7 @@ module _ {D : Type 0} (contents : D → Option (List ℕ)) (told : OwnedReader �
   drain_ended state r d done output began is given = subst (λ o. AllOut r d o) is (subst (λ st. GivenOut st output) began given)
 
   pub drain_failed : (state : Option (OwnedReader × D)) (r : OwnedReader) (d : D) (failed : Failed (OwnedReader × D)) (output : Result (OwnedReader × D) (Failed (OwnedReader × D))) (left : Drained D)
-      → state ≡ Some (r, d) → output ≡ Err failed → GivenOut state output → left.dest ≡ failed.left.1 → left.told.consumed.count ≡ length failed.left.0.side.end.taken
+      → state ≡ Some (r, d) → output ≡ Err failed → GivenOut state output → left.dest ≡ failed.left.1 → left.mark.consumed.count ≡ length failed.left.0.side.end.taken
       → DrainedTo contents r d left × (FailsOnce fails failed.left.0 failed.error ⊎ IsOfWrite failed.error)
   drain_failed state r d failed output left began is given dest count =
       let all : AllOut r d (Err failed) = subst (λ o. AllOut r d o) is (subst (λ st. GivenOut st output) began given) in

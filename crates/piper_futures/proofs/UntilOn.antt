@@ -47,17 +47,17 @@ joins : (byte : ℕ) (End : Type 0) (xs ys : List ℕ) → Lacks byte xs → IsT
 joins byte End xs ys front (inl through) = inl (IsThrough-append byte xs ys front through)
 joins byte End xs ys front (inr lacks) = inr (Lacks-append byte xs ys front lacks.0, lacks.1)
 
-module _ {R : Type 0} (taken known : R → List ℕ) (saw told : R → Bool) (woken : R → Type 0) (fails : R → Context → PipeError → Type 0) (byte : ℕ) where
+module _ {R : Type 0} (taken known : R → List ℕ) (saw knows_end : R → Bool) (woken : R → Type 0) (fails : R → Context → PipeError → Type 0) (byte : ℕ) where
   -- what may be given after a poll may be given before it
-  pub read_through_then : (r0 r1 : R) (b0 b1 : Vec ℕ Global) → GrowsBy (taken r0) (taken r1) b0.items b1.items (Lacks byte) → vec_capacity b0 ≤ vec_capacity b1 → ReaderStays told woken r0 r1 → (output : Result (R × Vec ℕ Global) (Failed (R × Vec ℕ Global)))
-      → ReadThrough taken known saw told woken fails byte r1 b1 output → ReadThrough taken known saw told woken fails byte r0 b0 output
+  pub read_through_then : (r0 r1 : R) (b0 b1 : Vec ℕ Global) → GrowsBy (taken r0) (taken r1) b0.items b1.items (Lacks byte) → vec_capacity b0 ≤ vec_capacity b1 → ReaderStays knows_end woken r0 r1 → (output : Result (R × Vec ℕ Global) (Failed (R × Vec ℕ Global)))
+      → ReadThrough taken known saw knows_end woken fails byte r1 b1 output → ReadThrough taken known saw knows_end woken fails byte r0 b0 output
   read_through_then r0 r1 b0 b1 first room stays (Ok done) gave = (
     grows_by_more (taken r0) (taken r1) (taken done.0) b0.items b1.items done.1.items (Lacks byte) (λ more. IsThrough byte more ⊎ (Lacks byte more × AtEnd (known done.0) (saw done.0)))
         (λ more. IsThrough byte more ⊎ (Lacks byte more × AtEnd (known done.0) (saw done.0))) (joins byte (AtEnd (known done.0) (saw done.0))) first gave.0,
-    reader_stays told woken r0 r1 done.0 stays gave.1,
+    reader_stays knows_end woken r0 r1 done.0 stays gave.1,
   )
   read_through_then r0 r1 b0 b1 first room stays (Err failed) gave = (
     grows_by_more (taken r0) (taken r1) (taken failed.left.0) b0.items b1.items failed.left.1.items (Lacks byte) (Lacks byte) (Lacks byte) (Lacks-append byte) first gave.0,
     less_space failed.error (FailsOnce fails failed.left.0) _ _ _ _ room gave.1,
-    reader_stays told woken r0 r1 failed.left.0 stays gave.2,
+    reader_stays knows_end woken r0 r1 failed.left.0 stays gave.2,
   )

@@ -34,7 +34,7 @@ CopyWaits taken read_waits write_waits old new cx =
     IsSomeAnd old (λ a. IsSomeAnd new (λ b.
     CopyPends (read_waits b.0 cx) (write_waits b.1 cx) (taken a.0) (taken b.0) cx))
 
-module _ {R W : Type 0} (taken known : R → List ℕ) (saw_end told : R → Bool)
+module _ {R W : Type 0} (taken known : R → List ℕ) (saw_end knows_end : R → Bool)
     (read_woken : R → Type 0) (read_fails : R → Context → PipeError → Type 0)
     (sent : W → List ℕ) (saw : W → Bool) (write_woken : W → Type 0)
     (write_fails : W → Context → PipeError → Type 0) where
@@ -48,7 +48,7 @@ module _ {R W : Type 0} (taken known : R → List ℕ) (saw_end told : R → Boo
   abbrev pub CopiesOn : R → W → R → W → Type 0
   CopiesOn r w s v =
       CarriesOn (taken r) (taken s) (sent w) (sent v) (saw w) (saw v)
-      × ReaderStays told read_woken r s × (write_woken w → write_woken v)
+      × ReaderStays knows_end read_woken r s × (write_woken w → write_woken v)
 
   -- all was carried across; or the reader failed, or the writer
   abbrev pub CopiedAll : R → W → Result (R × W × Copied) (Failed (R × W)) → Type 0

@@ -23,19 +23,19 @@ abbrev pub DrainsOn : List ℕ → List ℕ → Option (List ℕ) → Option (Li
 DrainsOn taken_before taken_after held_before held_after =
     (moved : List ℕ) × (taken_after ≡ taken_before ++ moved) × Appends held_before held_after moved
 
-module _ {R D : Type 0} (taken known : R → List ℕ) (saw told : R → Bool) (woken : R → Type 0)
+module _ {R D : Type 0} (taken known : R → List ℕ) (saw knows_end : R → Bool) (woken : R → Type 0)
     (fails : R → Context → PipeError → Type 0) (contents : D → Option (List ℕ)) where
   -- all was moved, up to the end; or the reader failed, or the writer of std, of bytes that were
   -- there to write
   abbrev pub DrainedAll : R → D → Result (R × D) (Failed (R × D)) → Type 0
   DrainedAll r d (Ok done) =
       DrainsOn (taken r) (taken done.0) (contents d) (contents done.1)
-      × AtEnd (known done.0) (saw done.0) × ReaderStays told woken r done.0
+      × AtEnd (known done.0) (saw done.0) × ReaderStays knows_end woken r done.0
   DrainedAll r d (Err failed) =
       DrainsOn (taken r) (taken failed.left.0) (contents d) (contents failed.left.1)
       × (FailsOnce fails failed.left.0 failed.error
       ⊎ (IsOfWrite failed.error × (0 < length (known failed.left.0))))
-      × ReaderStays told woken r failed.left.0
+      × ReaderStays knows_end woken r failed.left.0
 
   -- what the future may give, of the ends that it holds
   abbrev pub GivesDrained : Draining R D → Result (R × D) (Failed (R × D)) → Type 0

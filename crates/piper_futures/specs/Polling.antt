@@ -14,6 +14,6 @@ Waits waits ends cx = IsSomeAnd ends (λ e. waits e.0 cx)
 -- the same of a reader that lends; or bytes were taken, and it asked for another poll itself
 abbrev pub WaitsOrTook : {R X : Type 0} → (R → List ℕ) → (R → List ℕ) → (R → Bool)
     → (R → Context → Type 0) → Option (R × X) → Option (R × X) → Context → Type 0
-WaitsOrTook taken known told waits old new cx =
+WaitsOrTook taken known knows_end waits old new cx =
     IsSomeAnd old (λ a. IsSomeAnd new (λ b.
-    Pends known told waits b.0 (WentOn (length (taken a.0)) (length (taken b.0))) cx))
+    Pends known knows_end waits b.0 (WentOn (length (taken a.0)) (length (taken b.0))) cx))

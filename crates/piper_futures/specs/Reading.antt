@@ -33,11 +33,11 @@ StartsReadingAll future reader bytes = future.state ≡ Some (reader, bytes)
 abbrev pub LacksSpace : ℕ → List ℕ → List ℕ → Type 0
 LacksSpace room came known = (0 < length known) × (room < length came + length known)
 
-module _ {R : Type 0} (taken known : R → List ℕ) (saw told : R → Bool) (woken : R → Type 0) where
+module _ {R : Type 0} (taken known : R → List ℕ) (saw knows_end : R → Bool) (woken : R → Type 0) where
   -- what the reader gave between two of its states is at the end of the bytes, and what it has told
   -- and whom it has woken stays so
   abbrev pub ReadsOn : R → List ℕ → R → List ℕ → Type 0
-  ReadsOn r0 b0 r1 b1 = Grows (taken r0) (taken r1) b0 b1 × ReaderStays told woken r0 r1
+  ReadsOn r0 b0 r1 b1 = Grows (taken r0) (taken r1) b0 b1 × ReaderStays knows_end woken r0 r1
 
   -- all came, up to the end; or the reader failed, or memory was refused for what is known
   abbrev pub ReadAll : (R → Context → PipeError → Type 0) → R → Vec ℕ Global
@@ -80,30 +80,30 @@ abbrev pub LacksSome : {R : Type 0} → ReadExact R → Type 0
 LacksSome future = IsSomeAnd future.state (λ state. length state.1.items < future.size)
 
 -- what a future may give, of the reader that it holds
-module _ {R : Type 0} (taken known : R → List ℕ) (saw told : R → Bool) (woken : R → Type 0)
+module _ {R : Type 0} (taken known : R → List ℕ) (saw knows_end : R → Bool) (woken : R → Type 0)
     (fails : R → Context → PipeError → Type 0) where
   abbrev pub GivesAll : ReadToEnd R → Result (R × Vec ℕ Global) (Failed (R × Vec ℕ Global)) → Type 0
   GivesAll future output = IsSomeAnd future.state (λ state.
-      ReadAll taken known saw told woken fails state.0 state.1 output)
+      ReadAll taken known saw knows_end woken fails state.0 state.1 output)
 
   abbrev pub GivesExact : ReadExact R → Result (R × Vec ℕ Global) (Failed (R × Vec ℕ Global))
       → Type 0
   GivesExact future output = IsSomeAnd future.state (λ state.
-      ReadUpTo taken known saw told woken future.size fails state.0 state.1 output)
+      ReadUpTo taken known saw knows_end woken future.size fails state.0 state.1 output)
 
 -- what was read at once is at the front of the places, and the rest of them stays; or the reader
 -- failed, and gave nothing
-module _ {R : Type 0} (taken : R → List ℕ) (saw told : R → Bool) (woken : R → Type 0)
+module _ {R : Type 0} (taken : R → List ℕ) (saw knows_end : R → Bool) (woken : R → Type 0)
     (fails : R → Context → PipeError → Type 0) where
   abbrev pub ReadSome : R → List ℕ → Result (R × Vec ℕ Global × ℕ) (Failed (R × Vec ℕ Global))
       → Type 0
   ReadSome r places (Ok done) =
       Reads {E = PipeError} (Ready (Ok done.2)) places done.1.items
       (taken r) (taken done.0) (saw done.0)
-      × ReaderStays told woken r done.0
+      × ReaderStays knows_end woken r done.0
   ReadSome r places (Err failed) =
       (taken failed.left.0 ≡ taken r) × (failed.left.1.items ≡ places)
-      × FailsOnce fails failed.left.0 failed.error × ReaderStays told woken r failed.left.0
+      × FailsOnce fails failed.left.0 failed.error × ReaderStays knows_end woken r failed.left.0
 
   abbrev pub GivesOnce : ReadOnce R → Result (R × Vec ℕ Global × ℕ) (Failed (R × Vec ℕ Global))
       → Type 0

@@ -71,11 +71,11 @@ module _ {S : Type 0} (remaining : S → Option (List ℕ)) where
   -- before, and all of it unless the pipe was seen closed
   pub record FilledTo (w : OwnedWriter) (s : S) (left : Filled S) : Type 0 where
     pub saw : Bool
-    pub seen : HadSeen left.told saw
+    pub seen : HadSeen left.mark saw
     pub moved :
-        FillsOn (remaining s) (remaining left.source) w.side.end.sent left.told.bytes
+        FillsOn (remaining s) (remaining left.source) w.side.end.sent left.mark.bytes
         w.side.end.saw saw
-    pub closed : left.told.shut ≡ true
+    pub closed : left.mark.shut ≡ true
 
   -- by what is left: the thread's own wait failed; or its fill did, for want of memory for a waker,
   -- or with an error of std
@@ -95,7 +95,7 @@ module _ {D : Type 0} (contents : D → Option (List ℕ)) where
   -- all that was taken since was written, in order
   pub record DrainedTo (r : OwnedReader) (d : D) (left : Drained D) : Type 0 where
     pub moved : List ℕ
-    pub count : left.told.consumed.count ≡ length (r.side.end.taken ++ moved)
+    pub count : left.mark.consumed.count ≡ length (r.side.end.taken ++ moved)
     pub written : Appends (contents d) (contents left.dest) moved
 
   -- likewise

@@ -49,19 +49,19 @@ Reaches answer byte taken_before taken_after before after known saw =
 
 -- the bytes that came are those through the first delimiter, or all up to the end;
 -- or the reader failed, or memory was refused for what is known
-module _ {R : Type 0} (taken known : R → List ℕ) (saw told : R → Bool) (woken : R → Type 0)
+module _ {R : Type 0} (taken known : R → List ℕ) (saw knows_end : R → Bool) (woken : R → Type 0)
     (fails : R → Context → PipeError → Type 0) where
   abbrev pub ReadThrough : ℕ → R → Vec ℕ Global
       → Result (R × Vec ℕ Global) (Failed (R × Vec ℕ Global)) → Type 0
   ReadThrough byte r bytes (Ok done) =
       GrowsBy (taken r) (taken done.0) bytes.items done.1.items (λ more.
       IsThrough byte more ⊎ (Lacks byte more × AtEnd (known done.0) (saw done.0)))
-      × ReaderStays told woken r done.0
+      × ReaderStays knows_end woken r done.0
   ReadThrough byte r bytes (Err failed) =
       GrowsBy (taken r) (taken failed.left.0) bytes.items failed.left.1.items (Lacks byte)
       × IsReported failed.error (FailsOnce fails failed.left.0)
       (LacksSpace (vec_capacity bytes) failed.left.1.items (known failed.left.0))
-      × ReaderStays told woken r failed.left.0
+      × ReaderStays knows_end woken r failed.left.0
 
   -- what the future may give, of the reader that it holds
   abbrev pub GivesThrough : ReadUntil R → Result (R × Vec ℕ Global) (Failed (R × Vec ℕ Global))

@@ -41,18 +41,18 @@ impl<R: AsyncBufRead + Drop, W: AsyncWrite + Drop> Future for Copying<R, W> {
 
     ghost can_poll = { λ future. IsSome (copy_ends future) };
 
-    ghost gives = { GivesCopied R.taken R.known R.saw R.told R.woken R.fails
+    ghost gives = { GivesCopied R.taken R.known R.saw R.knows_end R.woken R.fails
         W.sent W.saw W.woken W.fails };
 
     fn poll(&mut self, cx: &mut Context<'_>) -> Poll<Self::Output>
         requires { IsSome (copy_ends self.old) }
-        ensures value { IfReady result (GivesCopied R.taken R.known R.saw R.told R.woken R.fails
+        ensures value { IfReady result (GivesCopied R.taken R.known R.saw R.knows_end R.woken R.fails
             W.sent W.saw W.woken W.fails self.old) }
         ensures again { OnPending result (IsSome (copy_ends self.new)) }
         ensures same { OnPending result ((x : _) →
-            GivesCopied R.taken R.known R.saw R.told R.woken R.fails
+            GivesCopied R.taken R.known R.saw R.knows_end R.woken R.fails
             W.sent W.saw W.woken W.fails self.new x
-            → GivesCopied R.taken R.known R.saw R.told R.woken R.fails
+            → GivesCopied R.taken R.known R.saw R.knows_end R.woken R.fails
             W.sent W.saw W.woken W.fails self.old x) }
         ensures registered { OnPending result (IsArmed cx.new) }
         ensures waits { OnPending result (CopyWaits R.taken R.waits W.waits

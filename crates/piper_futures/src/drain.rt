@@ -53,18 +53,18 @@ impl<R: AsyncBufRead + Drop, D: Write + Drop> Future for Draining<R, D> {
 
     ghost needs = { λ future. Needs R.needs (drain_ends future) };
 
-    ghost gives = { GivesDrained R.taken R.known R.saw R.told R.woken R.fails D.contents };
+    ghost gives = { GivesDrained R.taken R.known R.saw R.knows_end R.woken R.fails D.contents };
 
     fn poll(&mut self, cx: &mut Context<'_>) -> Poll<Self::Output>
         requires { IsSome (drain_ends self.old) }
         ensures value { IfReady result
-            (GivesDrained R.taken R.known R.saw R.told R.woken R.fails D.contents self.old) }
+            (GivesDrained R.taken R.known R.saw R.knows_end R.woken R.fails D.contents self.old) }
         ensures again { OnPending result (IsSome (drain_ends self.new)) }
         ensures same { OnPending result ((x : _) →
-            GivesDrained R.taken R.known R.saw R.told R.woken R.fails D.contents self.new x
-            → GivesDrained R.taken R.known R.saw R.told R.woken R.fails D.contents self.old x) }
+            GivesDrained R.taken R.known R.saw R.knows_end R.woken R.fails D.contents self.new x
+            → GivesDrained R.taken R.known R.saw R.knows_end R.woken R.fails D.contents self.old x) }
         ensures registered { OnPending result (Covers cx.new (Needs R.needs (drain_ends self.new))) }
-        ensures waits { OnPending result (WaitsOrTook R.taken R.known R.told R.waits
+        ensures waits { OnPending result (WaitsOrTook R.taken R.known R.knows_end R.waits
             (drain_ends self.old) (drain_ends self.new) cx.new) }
         ensures kept { Keeps cx.old cx.new }
     {
@@ -101,9 +101,9 @@ pub fn poll_drain_into<R: AsyncBufRead, D: Write>(
         AtEnd (R.known reader.new) (R.saw reader.new) × R.ended reader.new }
     ensures error { IfReadyErr result (λ e. R.fails reader.new cx.new e
         ⊎ (IsOfWrite e × (0 < length (R.known reader.new)))) }
-    ensures stays { ReaderStays R.told R.woken reader.old reader.new }
+    ensures stays { ReaderStays R.knows_end R.woken reader.old reader.new }
     ensures pending { OnPending result (Covers cx.new (R.needs reader.new)
-        × Pends R.known R.told R.waits reader.new
+        × Pends R.known R.knows_end R.waits reader.new
         (WentOn (length (R.taken reader.old)) (length (R.taken reader.new))) cx.new) }
     ensures kept { Keeps cx.old cx.new }
 {

@@ -50,18 +50,18 @@ impl<R: AsyncBufRead + Drop> Future for ReadToEnd<R> {
 
     ghost needs = { λ future. Needs R.needs (all_ends future) };
 
-    ghost gives = { GivesAll R.taken R.known R.saw R.told R.woken R.fails };
+    ghost gives = { GivesAll R.taken R.known R.saw R.knows_end R.woken R.fails };
 
     fn poll(&mut self, cx: &mut Context<'_>) -> Poll<Self::Output>
         requires { IsSome (all_ends self.old) }
         ensures value { IfReady result
-            (GivesAll R.taken R.known R.saw R.told R.woken R.fails self.old) }
+            (GivesAll R.taken R.known R.saw R.knows_end R.woken R.fails self.old) }
         ensures again { OnPending result (IsSome (all_ends self.new)) }
         ensures same { OnPending result ((x : _) →
-            GivesAll R.taken R.known R.saw R.told R.woken R.fails self.new x
-            → GivesAll R.taken R.known R.saw R.told R.woken R.fails self.old x) }
+            GivesAll R.taken R.known R.saw R.knows_end R.woken R.fails self.new x
+            → GivesAll R.taken R.known R.saw R.knows_end R.woken R.fails self.old x) }
         ensures registered { OnPending result (Covers cx.new (Needs R.needs (all_ends self.new))) }
-        ensures waits { OnPending result (WaitsOrTook R.taken R.known R.told R.waits
+        ensures waits { OnPending result (WaitsOrTook R.taken R.known R.knows_end R.waits
             (all_ends self.old) (all_ends self.new) cx.new) }
         ensures kept { Keeps cx.old cx.new }
     {
@@ -98,9 +98,9 @@ pub fn poll_read_to_end<R: AsyncBufRead>(
         AtEnd (R.known reader.new) (R.saw reader.new) × R.ended reader.new }
     ensures error { IfReadyErr result (λ e. IsReported e (R.fails reader.new cx.new)
         (LacksSpace (vec_capacity bytes.old) bytes.new.items (R.known reader.new))) }
-    ensures stays { ReaderStays R.told R.woken reader.old reader.new }
+    ensures stays { ReaderStays R.knows_end R.woken reader.old reader.new }
     ensures pending { OnPending result (Covers cx.new (R.needs reader.new)
-        × Pends R.known R.told R.waits reader.new
+        × Pends R.known R.knows_end R.waits reader.new
         (WentOn (length (R.taken reader.old)) (length (R.taken reader.new))) cx.new) }
     ensures kept { Keeps cx.old cx.new }
 {

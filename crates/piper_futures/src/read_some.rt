@@ -41,16 +41,16 @@ impl<R: AsyncRead + Drop> Future for ReadOnce<R> {
 
     ghost needs = { λ future. Needs R.needs (once_ends future) };
 
-    ghost gives = { GivesOnce R.taken R.saw R.told R.woken R.fails };
+    ghost gives = { GivesOnce R.taken R.saw R.knows_end R.woken R.fails };
 
     fn poll(&mut self, cx: &mut Context<'_>) -> Poll<Self::Output>
         requires { IsSome (once_ends self.old) }
         ensures value { IfReady result
-            (GivesOnce R.taken R.saw R.told R.woken R.fails self.old) }
+            (GivesOnce R.taken R.saw R.knows_end R.woken R.fails self.old) }
         ensures again { OnPending result (IsSome (once_ends self.new)) }
         ensures same { OnPending result ((x : _) →
-            GivesOnce R.taken R.saw R.told R.woken R.fails self.new x
-            → GivesOnce R.taken R.saw R.told R.woken R.fails self.old x) }
+            GivesOnce R.taken R.saw R.knows_end R.woken R.fails self.new x
+            → GivesOnce R.taken R.saw R.knows_end R.woken R.fails self.old x) }
         ensures registered { OnPending result (Covers cx.new (Needs R.needs (once_ends self.new))) }
         ensures waits { OnPending result (Waits R.waits (once_ends self.new) cx.new) }
         ensures kept { Keeps cx.old cx.new }

@@ -55,18 +55,18 @@ impl<R: AsyncBufRead + Drop> Future for ReadUntil<R> {
 
     ghost needs = { λ future. Needs R.needs (until_ends future) };
 
-    ghost gives = { GivesThrough R.taken R.known R.saw R.told R.woken R.fails };
+    ghost gives = { GivesThrough R.taken R.known R.saw R.knows_end R.woken R.fails };
 
     fn poll(&mut self, cx: &mut Context<'_>) -> Poll<Self::Output>
         requires { IsSome (until_ends self.old) }
         ensures value { IfReady result
-            (GivesThrough R.taken R.known R.saw R.told R.woken R.fails self.old) }
+            (GivesThrough R.taken R.known R.saw R.knows_end R.woken R.fails self.old) }
         ensures again { OnPending result (IsSome (until_ends self.new)) }
         ensures same { OnPending result ((x : _) →
-            GivesThrough R.taken R.known R.saw R.told R.woken R.fails self.new x
-            → GivesThrough R.taken R.known R.saw R.told R.woken R.fails self.old x) }
+            GivesThrough R.taken R.known R.saw R.knows_end R.woken R.fails self.new x
+            → GivesThrough R.taken R.known R.saw R.knows_end R.woken R.fails self.old x) }
         ensures registered { OnPending result (Covers cx.new (Needs R.needs (until_ends self.new))) }
-        ensures waits { OnPending result (WaitsOrTook R.taken R.known R.told R.waits
+        ensures waits { OnPending result (WaitsOrTook R.taken R.known R.knows_end R.waits
             (until_ends self.old) (until_ends self.new) cx.new) }
         ensures kept { Keeps cx.old cx.new }
     {
@@ -104,9 +104,9 @@ pub fn poll_read_until<R: AsyncBufRead>(
     ensures room { vec_capacity bytes.old ≤ vec_capacity bytes.new }
     ensures error { IfReadyErr result (λ e. IsReported e (R.fails reader.new cx.new)
         (LacksSpace (vec_capacity bytes.old) bytes.new.items (R.known reader.new))) }
-    ensures stays { ReaderStays R.told R.woken reader.old reader.new }
+    ensures stays { ReaderStays R.knows_end R.woken reader.old reader.new }
     ensures pending { OnPending result (Covers cx.new (R.needs reader.new)
-        × Pends R.known R.told R.waits reader.new
+        × Pends R.known R.knows_end R.waits reader.new
         (WentOn (length (R.taken reader.old)) (length (R.taken reader.new))) cx.new) }
     ensures kept { Keeps cx.old cx.new }
 {

@@ -47,16 +47,16 @@ impl<R: AsyncBufRead + Drop> Future for ReadExact<R> {
 
     ghost needs = { λ future. Needs R.needs (exact_ends future) };
 
-    ghost gives = { GivesExact R.taken R.known R.saw R.told R.woken R.fails };
+    ghost gives = { GivesExact R.taken R.known R.saw R.knows_end R.woken R.fails };
 
     fn poll(&mut self, cx: &mut Context<'_>) -> Poll<Self::Output>
         requires { WantsMore self.old }
         ensures value { IfReady result
-            (GivesExact R.taken R.known R.saw R.told R.woken R.fails self.old) }
+            (GivesExact R.taken R.known R.saw R.knows_end R.woken R.fails self.old) }
         ensures again { OnPending result (WantsMore self.new) }
         ensures same { OnPending result ((x : _) →
-            GivesExact R.taken R.known R.saw R.told R.woken R.fails self.new x
-            → GivesExact R.taken R.known R.saw R.told R.woken R.fails self.old x) }
+            GivesExact R.taken R.known R.saw R.knows_end R.woken R.fails self.new x
+            → GivesExact R.taken R.known R.saw R.knows_end R.woken R.fails self.old x) }
         ensures registered { OnPending result (Covers cx.new (Needs R.needs (exact_ends self.new))) }
         ensures waits { OnPending result (Waits R.waits (exact_ends self.new) cx.new
             × LacksSome self.new) }

@@ -29,7 +29,7 @@ pub struct Filled<S> {
     /// The source, with what the fill left of it.
     pub source: S,
     /// All that was ever published, and that the pipe is closed.
-    pub told: WriteMark,
+    pub mark: WriteMark,
 }
 
 /// What a drain left that failed, and whose thread dropped the reader.
@@ -38,7 +38,7 @@ pub struct Drained<D> {
     /// The writer of std.
     pub dest: D,
     /// How much was ever consumed, and that the pipe is closed.
-    pub told: LastReadMark,
+    pub mark: LastReadMark,
 }
 
 /// What the thread of [`spawn_fill`] promises of its result.
@@ -164,12 +164,12 @@ where
 
 fn closed_by_writer<S>(writer: OwnedWriter, source: S) -> Filled<S>
     ensures source { result.source ≡ source }
-    ensures bytes { result.told.bytes ≡ sent writer }
-    ensures shut { result.told.shut ≡ true }
-    ensures seen { HadSeen result.told (saw writer) }
+    ensures bytes { result.mark.bytes ≡ sent writer }
+    ensures shut { result.mark.shut ≡ true }
+    ensures seen { HadSeen result.mark (saw writer) }
 {
-    let told = writer.into_inner().drop().told;
-    Filled { source, told }
+    let mark = writer.into_inner().drop().mark;
+    Filled { source, mark }
 }
 
 /// Moves all bytes of the pipe into `dest`, or drops the reader.
@@ -200,8 +200,8 @@ where
 
 fn closed_by_reader<D>(reader: OwnedReader, dest: D) -> Drained<D>
     ensures dest { result.dest ≡ dest }
-    ensures count { result.told.consumed.count ≡ length (taken reader) }
+    ensures count { result.mark.consumed.count ≡ length (taken reader) }
 {
-    let told = reader.into_inner().drop().told;
-    Drained { dest, told }
+    let mark = reader.into_inner().drop().mark;
+    Drained { dest, mark }
 }

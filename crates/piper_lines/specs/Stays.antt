@@ -5,7 +5,7 @@ use Rattle.piper.specs.Contexts.{AsksAgain}
 
 -- a reader is told of no more than before, and whoever it has woken stays woken
 abbrev pub ReaderStays : {R : Type 0} → (R → Bool) → (R → Type 0) → R → R → Type 0
-ReaderStays told woken a b = (told b ≡ told a) × (woken a → woken b)
+ReaderStays knows_end woken a b = (knows_end b ≡ knows_end a) × (woken a → woken b)
 
 -- what a writer saw closed stays seen, and whoever it has woken stays woken
 abbrev pub WriterStays : {W : Type 0} → (W → Bool) → (W → Type 0) → W → W → Type 0
@@ -15,7 +15,7 @@ WriterStays saw woken a b = (saw a ≡ true → saw b ≡ true) × (woken a → 
 -- was pending with this context
 abbrev pub WaitsForBytes : {R : Type 0} → (R → List ℕ) → (R → Bool) → (R → Context → Type 0) → R
     → Context → Type 0
-WaitsForBytes known told waits r cx = (known r ≡ []) × (told r ≡ false) × waits r cx
+WaitsForBytes known knows_end waits r cx = (known r ≡ []) × (knows_end r ≡ false) × waits r cx
 
 -- how far a poll has come where it asks for another one itself: by 64 pieces, each of a byte at
 -- least, or by 64 lines or frames
@@ -26,5 +26,5 @@ WentOn before after = before + 64 ≤ after
 -- asked for another one itself
 abbrev pub Pends : {R : Type 0} → (R → List ℕ) → (R → Bool) → (R → Context → Type 0) → R
     → Type 0 → Context → Type 0
-Pends known told waits r Moved cx =
-    WaitsForBytes known told waits r cx ⊎ (Moved × AsksAgain cx)
+Pends known knows_end waits r Moved cx =
+    WaitsForBytes known knows_end waits r cx ⊎ (Moved × AsksAgain cx)

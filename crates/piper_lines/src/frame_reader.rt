@@ -156,12 +156,12 @@ impl<R: AsyncBufRead> Frames<R> {
             (body_room_of self.old) (header_of self.new) (body_of self.new)
             (R.known (reader_of self.new)))) }
         ensures pending { OnPending result (Covers cx.new (R.needs (reader_of self.new))
-            × Pends R.known R.told R.waits (reader_of self.new)
+            × Pends R.known R.knows_end R.waits (reader_of self.new)
             (WentOn (length (R.taken (reader_of self.old))) (length (R.taken (reader_of self.new))))
             cx.new × LacksBytes (format_of self.old) (skips_of self.old)
             (header_of self.new) (body_of self.new)) }
         ensures rest { (format_of self.new ≡ format_of self.old)
-            × ReaderStays R.told R.woken (reader_of self.old) (reader_of self.new)
+            × ReaderStays R.knows_end R.woken (reader_of self.old) (reader_of self.new)
             × Keeps cx.old cx.new }
     {
         frame.clear();

@@ -40,9 +40,9 @@ pub fn fill_up<R: AsyncBufRead>(
     ensures error { IfReadyErr result (λ e. IsReported e (R.fails reader.new cx.new)
         (LacksRoom size (vec_capacity gathered.old) gathered.new.items (R.known reader.new))) }
     ensures pending { OnPending result (Covers cx.new (R.needs reader.new)
-        × WaitsForBytes R.known R.told R.waits reader.new cx.new
+        × WaitsForBytes R.known R.knows_end R.waits reader.new cx.new
         × (length gathered.new.items < size)) }
-    ensures rest { Keeps cx.old cx.new × ReaderStays R.told R.woken reader.old reader.new
+    ensures rest { Keeps cx.old cx.new × ReaderStays R.knows_end R.woken reader.old reader.new
         × (vec_capacity gathered.old ≤ vec_capacity gathered.new) }
 {
     while gathered.len() < size {
@@ -78,8 +78,8 @@ pub(crate) fn pass_over<R: AsyncBufRead>(
     ensures none { left.old ≡ 0 →
         (reader.new ≡ reader.old) × (result ≡ Poll.Ready (Ok true)) }
     ensures error { IfReadyErr result (R.fails reader.new cx.new) }
-    ensures stays { ReaderStays R.told R.woken reader.old reader.new }
-    ensures pends { OnPending result (Pends R.known R.told R.waits reader.new
+    ensures stays { ReaderStays R.knows_end R.woken reader.old reader.new }
+    ensures pends { OnPending result (Pends R.known R.knows_end R.waits reader.new
         (WentOn (length (R.taken reader.old)) (length (R.taken reader.new))) cx.new) }
     ensures covered { OnPending result (Covers cx.new (R.needs reader.new)) }
     ensures kept { Keeps cx.old cx.new }

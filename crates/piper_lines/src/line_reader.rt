@@ -129,9 +129,9 @@ impl<R: AsyncBufRead> Lines<R> {
         ensures error { IfReadyErr result (λ e. IsReported e (R.fails (reader_of self.new) cx.new)
             (LacksRoom limit (room_of self.old) (kept_of self.new) (R.known (reader_of self.new)))) }
         ensures pending { OnPending result (Covers cx.new (R.needs (reader_of self.new))
-            × WaitsForBytes R.known R.told R.waits (reader_of self.new) cx.new) }
+            × WaitsForBytes R.known R.knows_end R.waits (reader_of self.new) cx.new) }
         ensures rest { (end_of self.new ≡ end_of self.old)
-            × ReaderStays R.told R.woken (reader_of self.old) (reader_of self.new)
+            × ReaderStays R.knows_end R.woken (reader_of self.old) (reader_of self.new)
             × Keeps cx.old cx.new }
     {
         line.clear();
@@ -163,8 +163,8 @@ fn gather<R: AsyncBufRead>(
         R.ended reader.new × (line.new.items ≡ []) × EndsAgain result }
     ensures error { IfReadyErr result (λ e. IsReported e (R.fails reader.new cx.new)
         (LacksRoom limit (vec_capacity line.old) line.new.items (R.known reader.new))) }
-    ensures stays { ReaderStays R.told R.woken reader.old reader.new }
-    ensures pending { OnPending result ((R.told reader.new ≡ false) × R.waits reader.new cx.new) }
+    ensures stays { ReaderStays R.knows_end R.woken reader.old reader.new }
+    ensures pending { OnPending result ((R.knows_end reader.new ≡ false) × R.waits reader.new cx.new) }
     ensures covered { OnPending result (Covers cx.new (R.needs reader.new)) }
     ensures kept { Keeps cx.old cx.new }
 {

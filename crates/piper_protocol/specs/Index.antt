@@ -11,8 +11,8 @@ abbrev pub distance : ℕ → ℕ → ℕ → ℕ
 distance capacity from to = if nat_le from to then to - from else 2 * capacity - from + to
 
 -- the place in the buffer of an index
-abbrev pub place_of : ℕ → ℕ → ℕ
-place_of capacity i = if nat_lt i capacity then i else i - capacity
+abbrev pub offset_of : ℕ → ℕ → ℕ
+offset_of capacity i = if nat_lt i capacity then i else i - capacity
 
 -- the index n places further on
 abbrev pub advanced : ℕ → ℕ → ℕ → ℕ

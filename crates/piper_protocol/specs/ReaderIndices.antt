@@ -1,6 +1,6 @@
 -- The reader's indices: its own, and the writer's as it last saw it.
 use Rattle.std.specs.Prelude.{ℕ, ◌-◌, ◌*◌, ◌<◌, ◌≤◌, min}
-use Rattle.piper_protocol.specs.Index.{IsCapacity, distance, place_of, advanced}
+use Rattle.piper_protocol.specs.Index.{IsCapacity, distance, offset_of, advanced}
 
 pub record ReaderIndices : Type 0 where
   pub capacity : ℕ
@@ -15,7 +15,7 @@ known_in r = distance r.capacity r.head r.tail
 
 -- those of them that are contiguous
 abbrev pub peekable_in : ReaderIndices → ℕ
-peekable_in r = min (known_in r) (r.capacity - place_of r.capacity r.head)
+peekable_in r = min (known_in r) (r.capacity - offset_of r.capacity r.head)
 
 -- the writer's index was seen there
 abbrev pub tail_seen : ℕ → ReaderIndices → ReaderIndices

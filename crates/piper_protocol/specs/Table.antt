@@ -19,7 +19,7 @@ use Rattle.piper_protocol.specs.declared.table.AfterRead.TheVariants as after_re
 use Rattle.piper_protocol.specs.declared.table.AfterWrite.{AfterWrite}
 use Rattle.piper_protocol.specs.declared.table.AfterWrite.TheVariants as after_write
 use Rattle.piper_protocol.specs.declared.table.Found.{Found}
-use Rattle.piper_protocol.specs.declared.table.Found.TheVariants.{Unread as unread, Refreshed as refreshed, Flag as flag, Granted as granted, Waker as waker, Moved as moved, Failed as failed}
+use Rattle.piper_protocol.specs.declared.table.Found.TheVariants.{Unread as unread, IndexLoaded as index_loaded, Flag as flag, Granted as granted, Waker as waker, Moved as moved, Failed as failed}
 use Rattle.piper_protocol.specs.declared.table.ReadPoint.{ReadPoint}
 use Rattle.piper_protocol.specs.declared.table.ReadPoint.TheVariants as at
 use Rattle.piper_protocol.specs.declared.table.WritePoint.{WritePoint}
@@ -92,10 +92,10 @@ read_action at.Dropped = does.Rest
 read_action (at.QueryHead query) = does.LoadHead
 read_action (at.QueryTail query) = does.LoadTail
 read_action at.QueryClosed = does.LoadClosed
-read_action (at.LookTail l) = does.Refresh
+read_action (at.LookTail l) = does.LoadIndex
 read_action (at.LookRegister l) = does.Register
 read_action (at.LookClosed l) = does.LoadClosed
-read_action (at.LookTailAgain l was_closed) = does.Refresh
+read_action (at.LookTailAgain l was_closed) = does.LoadIndex
 read_action (at.LookTake l) = does.Take Reader
 read_action at.Yield = does.Yield
 read_action (at.CallDestination form sum) = does.CallDestination
@@ -162,10 +162,10 @@ writer_taken next true = goes_on (at.WakeWriter next)
 abbrev pub read_step : ReadPoint → Found → Next ReadPoint
 read_step (at.QueryHead query) found = goes_on (at.QueryTail query)
 read_step at.QueryClosed (flag is_closed) = ends at.Idle (Flag is_closed)
-read_step (at.LookTail l) (refreshed none) = goes_on (reader_looked none l)
+read_step (at.LookTail l) (index_loaded none) = goes_on (reader_looked none l)
 read_step (at.LookRegister l) (granted is_granted) = reader_registered is_granted l
 read_step (at.LookClosed l) (flag is_closed) = goes_on (at.LookTailAgain l is_closed)
-read_step (at.LookTailAgain l was_closed) (refreshed none) = reader_looked_again none l was_closed
+read_step (at.LookTailAgain l was_closed) (index_loaded none) = reader_looked_again none l was_closed
 read_step (at.LookTake l) found = reader_is_true l
 read_step at.Yield (granted is_granted) = ends at.Idle (yield_answer is_granted)
 read_step (at.CallDestination form sum) (moved n) = reader_moved (n == 0) n form sum
@@ -191,9 +191,9 @@ write_action (on.QueryHead query) = does.LoadHead
 write_action (on.QueryTail query count) = does.LoadTail
 write_action on.QueryClosed = does.LoadClosed
 write_action (on.LookClosed l) = does.LoadClosed
-write_action (on.LookHead l) = does.Refresh
+write_action (on.LookHead l) = does.LoadIndex
 write_action (on.LookRegister l) = does.Register
-write_action (on.LookHeadAgain l) = does.Refresh
+write_action (on.LookHeadAgain l) = does.LoadIndex
 write_action (on.LookClosedAgain l) = does.LoadClosed
 write_action (on.LookTake l) = does.Take Writer
 write_action on.Yield = does.Yield
@@ -277,9 +277,9 @@ own_taken true = goes_on on.WakeWriter
 abbrev pub write_step : WritePoint → Found → Next WritePoint
 write_step (on.QueryHead query) (unread count) = goes_on (on.QueryTail query count)
 write_step on.QueryClosed (flag is_closed) = ends on.Idle (Flag is_closed)
-write_step (on.LookHead l) (refreshed none) = goes_on (writer_looked none l)
+write_step (on.LookHead l) (index_loaded none) = goes_on (writer_looked none l)
 write_step (on.LookRegister l) (granted is_granted) = writer_registered is_granted l
-write_step (on.LookHeadAgain l) (refreshed none) = goes_on (writer_looked_again none l)
+write_step (on.LookHeadAgain l) (index_loaded none) = goes_on (writer_looked_again none l)
 write_step (on.LookClosedAgain l) (flag is_closed) =
     ends on.Idle (look_answer l (end_or_pending is_closed))
 write_step (on.LookTake l) found = writer_is_true l

@@ -1,7 +1,7 @@
 -- The writer's indices: its own, and the reader's
 -- as it last saw it; with what is lent between them.
 use Rattle.std.specs.Prelude.{◌≡◌, ℕ, ◌+◌, ◌-◌, ◌*◌, ◌<◌, ◌≤◌, min, max, Bool, true, false, if◌then◌else◌}
-use Rattle.piper_protocol.specs.Index.{IsCapacity, distance, place_of, advanced}
+use Rattle.piper_protocol.specs.Index.{IsCapacity, distance, offset_of, advanced}
 use Rattle.piper_protocol.specs.LendBound.{lend_bound}
 
 pub record WriterIndices : Type 0 where
@@ -22,7 +22,7 @@ room_in w = w.capacity - distance w.capacity w.head w.tail
 
 -- the places from the writer's own up to the end of the buffer
 abbrev pub left_in : WriterIndices → ℕ
-left_in w = w.capacity - place_of w.capacity w.tail
+left_in w = w.capacity - offset_of w.capacity w.tail
 
 -- how many places are lent where `most` are asked for
 abbrev pub lendable_in : ℕ → WriterIndices → ℕ
@@ -32,7 +32,7 @@ lendable_in most w =
 -- lent from the writer's place on, and set up to the end of that
 abbrev pub lent_from : ℕ → WriterIndices → WriterIndices
 lent_from count w =
-    record w { lent = count; zeroed = max w.zeroed (place_of w.capacity w.tail + count) }
+    record w { lent = count; zeroed = max w.zeroed (offset_of w.capacity w.tail + count) }
 
 -- the reader's index was seen there
 abbrev pub head_seen : ℕ → WriterIndices → WriterIndices
@@ -61,5 +61,5 @@ pub record AreWriterIndices (w : WriterIndices) : Type 0 where
   pub lent_room : w.lent ≤ room_in w
   pub lent_place : w.lent ≤ left_in w
   pub zeroed : w.zeroed ≤ w.capacity
-  pub lent_zeroed : place_of w.capacity w.tail + w.lent ≤ w.zeroed
+  pub lent_zeroed : offset_of w.capacity w.tail + w.lent ≤ w.zeroed
   pub shut : w.is_shut ≡ true → w.lent ≡ 0

@@ -1,7 +1,7 @@
 //! Indices of a ring of `cap` places, and what each side keeps of them. They lie in `0..2 * cap`, so
 //! that a full ring differs from an empty one.
 ghost use Rattle.std.specs.Prelude.{◌≡◌, ◌+◌, ◌-◌, ◌*◌, ◌%◌, ◌<◌, ◌≤◌, ◌↔◌, ◌==◌, IsTrue, true};
-ghost use Rattle.piper_protocol.specs.Index.{IsCapacity, distance, place_of, advanced, turned, lap_remainder};
+ghost use Rattle.piper_protocol.specs.Index.{IsCapacity, distance, offset_of, advanced, turned, lap_remainder};
 
 use std::marker::Model;
 
@@ -26,7 +26,7 @@ pub fn distance(cap: usize, from: usize, to: usize) -> usize
 /// The place in the buffer of the index `i`.
 pub fn offset(cap: usize, i: usize) -> usize
     requires { i < 2 * cap }
-    ensures value { result ≡ place_of cap i }
+    ensures value { result ≡ offset_of cap i }
     ensures remainder { result ≡ i % cap }
     ensures below { result < cap }
 {
@@ -116,7 +116,7 @@ impl ReadIndices {
 
     /// The place of the first unread byte.
     pub fn front(&self) -> usize
-        ensures value { result ≡ place_of self.now.capacity self.now.head }
+        ensures value { result ≡ offset_of self.now.capacity self.now.head }
         ensures remainder { result ≡ self.now.head % self.now.capacity }
         ensures below { result < self.now.capacity }
     {
@@ -254,7 +254,7 @@ impl WriteIndices {
 
     /// The place from which on the writer is lent.
     pub fn front(&self) -> usize
-        ensures value { result ≡ place_of self.now.capacity self.now.tail }
+        ensures value { result ≡ offset_of self.now.capacity self.now.tail }
         ensures remainder { result ≡ self.now.tail % self.now.capacity }
         ensures below { result < self.now.capacity }
     {

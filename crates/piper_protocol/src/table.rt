@@ -30,7 +30,7 @@ pub enum Action {
     LoadHead,
     LoadTail,
     /// Loads the other side's index in a look, and takes it in.
-    Refresh,
+    LoadIndex,
     LoadClosed,
     /// Puts the call's waker into the side's own slot, if its clone is granted.
     Register,
@@ -154,7 +154,7 @@ pub enum Found {
     /// So many unread bytes.
     Unread(usize),
     /// The other side's index: whether the side knows of nothing even now.
-    Refreshed { none: bool },
+    IndexLoaded { none: bool },
     /// The closed flag.
     Flag(bool),
     /// Whether a waker's clone was granted.

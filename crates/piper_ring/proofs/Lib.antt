@@ -10,7 +10,7 @@ pub mod Reaching
 pub mod Evidence
 pub mod Crosses
 pub mod Steps
-pub mod Refresh
+pub mod LoadIfNone
 pub mod Reclaim
 pub mod Leaving
 pub mod Meet

@@ -3,7 +3,7 @@
 -- `Logic`.
 use Rattle.piper_ring.proofs.Kit.{◌≡◌, ℕ, ◌+◌, ◌-◌, ◌≤◌, Bool, false, List, [], ◌∷◌, ◌++◌, length, sym, refl, ap, subst, ◌∙◌, arith, Order, numbers, latest, prefix_refl, latest_bounds, latest_shows, run, byte, Ura, SProp, ent, sep, ex, guard, upd, upd_i, Fml, ftrue, fsep, Logic, sem, keep, ‵, raw, ◌⊛◌, some, given, ◌$◌, ◌∵◌, !, qed, move, split, split3, fsplit, fsplit3, fjoin, fjoin3, fpick, fpack, pick, learn, check, show, frame, assume, settle, suffices, rewrite, use1, use2, use3, done, nothing, drop as forget, Ptr, Names, State, Holds, half, other, idle, flag, gone, where_gone, blanks, deeds, raised, announced, began, writer_knows, reader_knows, ends, Inner, common, Stream, Reaches, streams, open_reaches, drop_list}
 use Rattle.std.proofs.Math.Seq.{drop-length}
-use Rattle.piper_ring.proofs.Refresh.{pending_is}
+use Rattle.piper_ring.proofs.LoadIfNone.{pending_is}
 use Rattle.piper_ring.proofs.Steps.{ends_show, flag_small, not_gone, Rest, OneStays, WriterSees, writer_opens, reader_agrees, closes, raise}
 
 module _ {M : Type 1} {𝓤 : Ura M} (𝓛 : Logic 𝓤) (w p : Ptr) (z : Names) (head seen : ℕ) (sent : List ℕ) (limit : ℕ) (shut there : Bool) (have : List ℕ) (heard : Stream) (other_saw : Bool) where

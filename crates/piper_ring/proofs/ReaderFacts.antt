@@ -22,7 +22,7 @@ one_of false b P e f g = g e
 
 -- an end that was told of the pipe's end, or saw it, has heard of it
 pub heard_end : (e : ReadParts) → IsReadEnd e → KnowsEnd (read_view_of e) → e.heard.shut ≡ true
-heard_end e i k = one_of e.told.shut e.saw.shut (e.heard.shut ≡ true) k (ended_still (e.told.bytes, e.told.shut) (e.heard.bytes, e.heard.shut) i.stream.1) (ended_still (e.saw.bytes, e.saw.shut) (e.heard.bytes, e.heard.shut) i.stream.2)
+heard_end e i k = one_of e.observed.shut e.saw.shut (e.heard.shut ≡ true) k (ended_still (e.observed.bytes, e.observed.shut) (e.heard.bytes, e.heard.shut) i.stream.1) (ended_still (e.saw.bytes, e.saw.shut) (e.heard.bytes, e.heard.shut) i.stream.2)
 
 -- what it has heard of does not change after the pipe's end
 pub all_stays : (e : ReadParts) → IsReadEnd e → KnowsEnd (read_view_of e) → (now : Stream) → Reaches (e.heard.bytes, e.heard.shut) now → now.0 ≡ e.heard.bytes

@@ -113,28 +113,28 @@ module _ {M : Type 1} {𝓤 : Ura M} (𝓛 : Logic 𝓤) (w p : Ptr) (z : Names)
 
   -- xs was published, and n is where its end is
   abbrev pub SawTail : ℕ → ℕ → Stream → ℕ → List ℕ → Type 0
-  SawTail head seen told n xs = (n ≡ position_of cap (length xs)) × (seen ≤ length xs) × (length xs ≤ head + cap) × (length told.0 ≤ length xs) × (told.1 ≡ true → xs ≡ told.0)
+  SawTail head seen observed n xs = (n ≡ position_of cap (length xs)) × (seen ≤ length xs) × (length xs ≤ head + cap) × (length observed.0 ≤ length xs) × (observed.1 ≡ true → xs ≡ observed.0)
 
   abbrev pub TailSeen : Share → ℕ → ℕ → ℕ → Stream → ℕ → List ℕ → Fml
-  TailSeen q head seen i told n xs = fsep (fact (SawTail head seen told n xs)) (fsep (began z xs) (RK q head seen i))
+  TailSeen q head seen i observed n xs = fsep (fact (SawTail head seen observed n xs)) (fsep (began z xs) (RK q head seen i))
 
   abbrev pub AfterLook : Share → ℕ → ℕ → ℕ → Stream → ℕ → Fml
-  AfterLook q head seen i told n = fex (List ℕ) (TailSeen q head seen i told n)
+  AfterLook q head seen i observed n = fex (List ℕ) (TailSeen q head seen i observed n)
 
   -- a load of the tail by anyone who has a share of what the reader knows
-  pub looks_tail : (q : Share) (head seen i : ℕ) (told : Stream) → i ≤ 1 → ⟦ C ⟧ ∗ ⟦ RK q head seen i ⟧ ∗ ⟦ announced z told.0 told.1 ⟧ ⊢ access 208 (λ n. n) (AfterLook q head seen i told)
-  looks_tail q head seen i told le = let then : ℕ → Fml = AfterLook q head seen i told in let Z : Pr = ex 𝓤 (Holding 208 (λ n. n) then) in let O : Order Stream = streams in let T : Fml = announced z told.0 told.1 in
+  pub looks_tail : (q : Share) (head seen i : ℕ) (observed : Stream) → i ≤ 1 → ⟦ C ⟧ ∗ ⟦ RK q head seen i ⟧ ∗ ⟦ announced z observed.0 observed.1 ⟧ ⊢ access 208 (λ n. n) (AfterLook q head seen i observed)
+  looks_tail q head seen i observed le = let then : ℕ → Fml = AfterLook q head seen i observed in let Z : Pr = ex 𝓤 (Holding 208 (λ n. n) then) in let O : Order Stream = streams in let T : Fml = announced z observed.0 observed.1 in
       inside 208 (λ n. n) then (⟦ RK q head seen i ⟧ ∗ ⟦ T ⟧) (qed 𝓛 (‵ I ∷ ‵ (RK q head seen i) ∷ ‵ T ∷ []) ∵
       use2 𝓛 (some (λ (s : State). given (ReaderSees head seen i s) (‵ (RK q head seen i) ⊛ ‵ (RK other s.head s.seen s.reader_stage) ⊛ ‵ (WK other s.sent s.limit s.shut s.writer_stage) ⊛ ‵ (Rest s)))) (reader_opens q head seen i le) $ pick ! (λ s. learn ! (λ so. split3 ! $
       move ! (2 ∷ []) $ split ! $ fsplit3 ! $ move ! (0 ∷ 6 ∷ []) $
-      use2 𝓛 (given (Reaches told (s.sent, s.shut)) (‵ (latest O other z.sent (s.sent, s.shut)) ⊛ ‵ T)) (latest_bounds O 𝓛 other z.sent (s.sent, s.shut) told) $ learn ! (λ pt. split ! $
+      use2 𝓛 (given (Reaches observed (s.sent, s.shut)) (‵ (latest O other z.sent (s.sent, s.shut)) ⊛ ‵ T)) (latest_bounds O 𝓛 other z.sent (s.sent, s.shut) observed) $ learn ! (λ pt. split ! $
       use1 𝓛 (‵ (latest O other z.sent (s.sent, s.shut)) ⊛ ‵ (began z s.sent)) (latest_shows O 𝓛 other z.sent (s.sent, s.shut) (s.sent, false) (open_reaches s.sent (s.sent, s.shut) (prefix_refl s.sent))) $ split ! $ move ! (0 ∷ 3 ∷ 4 ∷ []) $ fjoin3 ! $
       move ! (3 ∷ []) $ fsplit ! $ move ! (1 ∷ []) $ fsplit ! $ fsplit3 ! $ move ! (1 ∷ []) $
       let n : ℕ = position_of cap (length s.sent) in let known = so.0.known in let arrived = so.0.arrived in let written = so.0.written in let freed = so.0.freed in let eh = so.1 in let es = so.2 in let ei = so.3 in let top = so.0.stages.1 in let near : OneStays s = omega arith in
-      let long : length (told.0 ++ pt.0.0) ≡ length told.0 + length pt.0.0 = length-append told.0 pt.0.0 in let all : length (told.0 ++ pt.0.0) ≡ length s.sent = ap length pt.0.1 in
+      let long : length (observed.0 ++ pt.0.0) ≡ length observed.0 + length pt.0.0 = length-append observed.0 pt.0.0 in let all : length (observed.0 ++ pt.0.0) ≡ length s.sent = ap length pt.0.1 in
       suffices ! _ (upd_i 𝓤 Z) $ show ! (Holding 208 (λ n. n) then) n $ frame ! $ assume ! (‵ (word w 208 n)) $ suffices ! _ (upd_i 𝓤 (⟦ I ⟧ ∗ ⟦ then n ⟧)) $
       move ! (1 ∷ 0 ∷ []) $ fjoin3 ! $ fjoin ! $ move ! (1 ∷ 0 ∷ []) $ fjoin ! $ move ! (1 ∷ 5 ∷ 0 ∷ []) $ use3 𝓛 (‵ I) (closes s so.0 near) $ frame ! $
-      move ! (1 ∷ []) $ forget ! $ fjoin ! $ nothing ! $ fpack ! (SawTail head seen told n s.sent) (λ _. ftrue) (refl, omega arith, omega arith, omega arith, λ e. ap (λ (x : Stream). x.0) (pt.1 e)) $ fjoin ! $ fpack ! (List ℕ) (TailSeen q head seen i told n) s.sent $ done !))))
+      move ! (1 ∷ []) $ forget ! $ fjoin ! $ nothing ! $ fpack ! (SawTail head seen observed n s.sent) (λ _. ftrue) (refl, omega arith, omega arith, omega arith, λ e. ap (λ (x : Stream). x.0) (pt.1 e)) $ fjoin ! $ fpack ! (List ℕ) (TailSeen q head seen i observed n) s.sent $ done !))))
 
   module _ {X : Type 0} (O : Order X) (γ : GName) where
     -- the two halves of a right agree, and move up together
@@ -166,27 +166,27 @@ module _ {M : Type 1} {𝓤 : Ura M} (𝓛 : Logic 𝓤) (w p : Ptr) (z : Names)
 
   -- h bytes were consumed, and n is where the next one is
   abbrev pub SawHead : List ℕ → ℕ → ℕ → ℕ → ℕ → Type 0
-  SawHead sent limit told n h = (n ≡ position_of cap h) × (h ≤ length sent) × (limit ≤ h + cap) × (told ≤ h)
+  SawHead sent limit observed n h = (n ≡ position_of cap h) × (h ≤ length sent) × (limit ≤ h + cap) × (observed ≤ h)
 
   abbrev pub HeadSeen : Share → List ℕ → ℕ → Bool → ℕ → ℕ → ℕ → ℕ → Fml
-  HeadSeen q sent limit shut i told n h = fsep (fact (SawHead sent limit told n h)) (fsep (took z h) (WK q sent limit shut i))
+  HeadSeen q sent limit shut i observed n h = fsep (fact (SawHead sent limit observed n h)) (fsep (took z h) (WK q sent limit shut i))
 
   abbrev pub AfterPeek : Share → List ℕ → ℕ → Bool → ℕ → ℕ → ℕ → Fml
-  AfterPeek q sent limit shut i told n = fex ℕ (HeadSeen q sent limit shut i told n)
+  AfterPeek q sent limit shut i observed n = fex ℕ (HeadSeen q sent limit shut i observed n)
 
   -- a load of the head by anyone who has a share of what the writer knows
-  pub looks_head : (q : Share) (sent : List ℕ) (limit : ℕ) (shut : Bool) (i : ℕ) (told : ℕ) → i ≤ 1 → ⟦ C ⟧ ∗ ⟦ WK q sent limit shut i ⟧ ∗ ⟦ took z told ⟧ ⊢ access 8 (λ n. n) (AfterPeek q sent limit shut i told)
-  looks_head q sent limit shut i told le = let then : ℕ → Fml = AfterPeek q sent limit shut i told in let Z : Pr = ex 𝓤 (Holding 8 (λ n. n) then) in
-      inside 8 (λ n. n) then (⟦ WK q sent limit shut i ⟧ ∗ ⟦ took z told ⟧) (qed 𝓛 (‵ I ∷ ‵ (WK q sent limit shut i) ∷ ‵ (took z told) ∷ []) ∵
+  pub looks_head : (q : Share) (sent : List ℕ) (limit : ℕ) (shut : Bool) (i : ℕ) (observed : ℕ) → i ≤ 1 → ⟦ C ⟧ ∗ ⟦ WK q sent limit shut i ⟧ ∗ ⟦ took z observed ⟧ ⊢ access 8 (λ n. n) (AfterPeek q sent limit shut i observed)
+  looks_head q sent limit shut i observed le = let then : ℕ → Fml = AfterPeek q sent limit shut i observed in let Z : Pr = ex 𝓤 (Holding 8 (λ n. n) then) in
+      inside 8 (λ n. n) then (⟦ WK q sent limit shut i ⟧ ∗ ⟦ took z observed ⟧) (qed 𝓛 (‵ I ∷ ‵ (WK q sent limit shut i) ∷ ‵ (took z observed) ∷ []) ∵
       use2 𝓛 (some (λ (s : State). given (WriterSees sent limit shut i s) (‵ (WK q sent limit shut i) ⊛ ‵ (WK other s.sent s.limit s.shut s.writer_stage) ⊛ ‵ (RK other s.head s.seen s.reader_stage) ⊛ ‵ (Rest s)))) (writer_opens q sent limit shut i le) $ pick ! (λ s. learn ! (λ so. split3 ! $
       move ! (2 ∷ []) $ split ! $ fsplit ! $ fsplit ! $ move ! (0 ∷ 6 ∷ []) $
-      use2 𝓛 (given (told ≤ s.head) (‵ (latest numbers other z.head s.head) ⊛ ‵ (took z told))) (latest_bounds numbers 𝓛 other z.head s.head told) $ learn ! (λ least. split ! $
+      use2 𝓛 (given (observed ≤ s.head) (‵ (latest numbers other z.head s.head) ⊛ ‵ (took z observed))) (latest_bounds numbers 𝓛 other z.head s.head observed) $ learn ! (λ least. split ! $
       use1 𝓛 (‵ (latest numbers other z.head s.head) ⊛ ‵ (took z s.head)) (latest_shows numbers 𝓛 other z.head s.head s.head (omega arith)) $ split ! $ move ! (0 ∷ 3 ∷ []) $ fjoin ! $ move ! (0 ∷ 3 ∷ []) $ fjoin ! $
       move ! (3 ∷ []) $ fsplit ! $ move ! (1 ∷ []) $ fsplit ! $ fsplit ! $
       let n : ℕ = position_of cap s.head in let known = so.0.known in let arrived = so.0.arrived in let written = so.0.written in let freed = so.0.freed in let es : length sent ≡ length s.sent = ap length so.1 in let el = so.2 in let ei = so.4 in let top = so.0.stages.0 in let near : OneStays s = omega arith in
       suffices ! _ (upd_i 𝓤 Z) $ show ! (Holding 8 (λ n. n) then) n $ frame ! $ assume ! (‵ (word w 8 n)) $ suffices ! _ (upd_i 𝓤 (⟦ I ⟧ ∗ ⟦ then n ⟧)) $
       fjoin ! $ fjoin ! $ move ! (1 ∷ 0 ∷ []) $ fjoin ! $ move ! (5 ∷ 1 ∷ 0 ∷ []) $ use3 𝓛 (‵ I) (closes s so.0 near) $ frame ! $
-      move ! (1 ∷ []) $ forget ! $ fjoin ! $ nothing ! $ fpack ! (SawHead sent limit told n s.head) (λ _. ftrue) (refl, omega arith, omega arith, least) $ fjoin ! $ fpack ! ℕ (HeadSeen q sent limit shut i told n) s.head $ done !))))
+      move ! (1 ∷ []) $ forget ! $ fjoin ! $ nothing ! $ fpack ! (SawHead sent limit observed n s.head) (λ _. ftrue) (refl, omega arith, omega arith, least) $ fjoin ! $ fpack ! ℕ (HeadSeen q sent limit shut i observed n) s.head $ done !))))
 
   module _ (sent : List ℕ) (limit : ℕ) (shut : Bool) (i : ℕ) (le : i ≤ 1) (xs : List ℕ) (new : ℕ) (is : new ≡ position_of cap (length sent + length xs)) (room : length sent + length xs ≤ limit) (open_still : shut ≡ true → xs ≡ []) where
     abbrev Then : Fml

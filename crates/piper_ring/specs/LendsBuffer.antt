@@ -13,7 +13,7 @@ use Rattle.piper_ring.specs.contracts.ends.slots.writer.WriteEndSlotEnd.TheImpl.
 use Rattle.piper_ring.specs.declared.ends.slots.side.Side.{Side}
 
 abbrev pub with_lent : WriteView → List ℕ → List ℕ → WriteView
-with_lent w xs ws = write_view w.ring w.capacity w.sent w.room (written xs ws) w.shut w.told w.saw
+with_lent w xs ws = write_view w.ring w.capacity w.sent w.room (written xs ws) w.shut w.observed w.saw
 
 abbrev pub lends_buffer : MutBor WriteView → MutBor (List ℕ) → Fml
 lends_buffer w r = Lends the_row (Array u8 0) w r (with_lent w.now r.now)

@@ -18,7 +18,7 @@ use Rattle.piper_protocol.specs.declared.table.WritePoint.TheVariants as on
 use Rattle.piper_ring.specs.Loads.{FoundClosed, FoundConsumed, FoundPublished, FoundWaiter}
 use Rattle.piper_ring.specs.Shared.{Names, flag}
 use Rattle.piper_ring.specs.declared.log.Line.{Line}
-use Rattle.piper_ring.specs.declared.log.Line.TheVariants.{Began, Made, Looked, Drew}
+use Rattle.piper_ring.specs.declared.log.Line.TheVariants.{Began, Made, ClosedLoaded, Drew}
 use Rattle.piper_ring.specs.declared.log.Log.{Log as log}
 
 -- the call table of both sides
@@ -59,7 +59,7 @@ abbrev pub comes_to : List Line → Next Point
 comes_to [] = ends (Reader at.Idle) Done
 comes_to (Began first ∷ before) = goes_on first
 comes_to (Made found ∷ before) = step (comes_to before).point found
-comes_to (Looked none is_closed ∷ before) = looks none is_closed (comes_to before).point
+comes_to (ClosedLoaded none is_closed ∷ before) = looks none is_closed (comes_to before).point
 comes_to (Drew is_drawn ∷ before) = goes_on (drawn is_drawn (comes_to before).point)
 
 -- where the last call began, and what was before it
@@ -67,14 +67,14 @@ abbrev pub first_of : List Line → Point
 first_of [] = Reader at.Idle
 first_of (Began first ∷ before) = first
 first_of (Made found ∷ before) = first_of before
-first_of (Looked none is_closed ∷ before) = first_of before
+first_of (ClosedLoaded none is_closed ∷ before) = first_of before
 first_of (Drew is_drawn ∷ before) = first_of before
 
 abbrev pub before_of : List Line → List Line
 before_of [] = []
 before_of (Began first ∷ before) = before
 before_of (Made found ∷ before) = before_of before
-before_of (Looked none is_closed ∷ before) = before_of before
+before_of (ClosedLoaded none is_closed ∷ before) = before_of before
 before_of (Drew is_drawn ∷ before) = before_of before
 
 -- a log, and with one line more
@@ -90,8 +90,8 @@ began first = with_line (Began first)
 abbrev pub made : Found → Log → Log
 made found = with_line (Made found)
 
-abbrev pub looked : Bool → Bool → Log → Log
-looked none is_closed = with_line (Looked none is_closed)
+abbrev pub closed_loaded : Bool → Bool → Log → Log
+closed_loaded none is_closed = with_line (ClosedLoaded none is_closed)
 
 abbrev pub drew : Bool → Log → Log
 drew is_drawn = with_line (Drew is_drawn)

@@ -34,12 +34,12 @@ IfNotReady found P = ⊤
 -- the reader has loaded the tail, and knows, or knew, of just what was published then: also of all
 -- that it was told of
 abbrev pub ReaderIsUpToDate : ReadView → Type 0
-ReaderIsUpToDate r = (r.told ≤ length (r.taken ++ r.known)) × HasLoadedTail r
+ReaderIsUpToDate r = (r.observed ≤ length (r.taken ++ r.known)) × HasLoadedTail r
 
 -- the writer has loaded the head, and knows, or knew, of just the room that there was then: also of
 -- all that it was told of
 abbrev pub WriterIsUpToDate : WriteView → Type 0
-WriterIsUpToDate w = (w.told + w.capacity ≤ length w.sent + w.room) × HasLoadedHead w
+WriterIsUpToDate w = (w.observed + w.capacity ≤ length w.sent + w.room) × HasLoadedHead w
 
 -- the reader found the end: it saw the pipe closed, and all that was ever published has been taken
 pub record IsEnded (r : ReadView) : Type 0 where
@@ -52,7 +52,7 @@ pub record IsEnded (r : ReadView) : Type 0 where
 pub record NothingYet (r : ReadView) : Type 0 where
   pub known : r.known ≡ []
   pub saw : r.saw ≡ false
-  pub told : r.told_shut ≡ false
+  pub observed : r.observed_shut ≡ false
 
 -- what a look of the reader finds: a byte; or none, and the end; or none, and the pipe open
 abbrev pub ReaderSees : Look → ReadView → Type 0

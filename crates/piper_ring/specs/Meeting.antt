@@ -9,7 +9,7 @@ pub record EndsMeet (a b : ReadView) (c d : WriteView) : Type 0 where
   pub fifo : b.taken ++ b.known ≡ d.sent
   pub room : d.room + length b.known ≡ b.capacity
   pub shut : b.saw ≡ true → d.shut ≡ true
-  pub told : b.told_shut ≡ true → d.shut ≡ true
+  pub observed : b.observed_shut ≡ true → d.shut ≡ true
   pub last : KnowsEnd b → b.all ≡ d.sent
   pub other_shut : d.saw ≡ d.shut
   pub reader : KnowsMore a b

@@ -11,7 +11,7 @@ pub record FreshReadEnd (cap : ℕ) (r : ReadView) : Type 0 where
   pub capacity : r.capacity ≡ cap
   pub taken : r.taken ≡ []
   pub known : r.known ≡ []
-  pub told : (r.told ≡ 0) × (r.told_shut ≡ false)
+  pub observed : (r.observed ≡ 0) × (r.observed_shut ≡ false)
   pub saw : r.saw ≡ false
 
 -- nothing was published, all places are its room and nothing is lent, no mark was observed and
@@ -22,7 +22,7 @@ pub record FreshWriteEnd (cap : ℕ) (w : WriteView) : Type 0 where
   pub room : w.room ≡ cap
   pub lent : w.lent ≡ []
   pub shut : w.shut ≡ false
-  pub told : w.told ≡ 0
+  pub observed : w.observed ≡ 0
   pub saw : w.saw ≡ false
 
 -- nobody has waited, and no check followed a store

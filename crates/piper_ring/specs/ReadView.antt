@@ -19,8 +19,8 @@ pub record ReadView : Type 0 where
   pub known : List ℕ
   -- how many published bytes it was told of, and whether a mark said that the writer closed the
   -- pipe
-  pub told : ℕ
-  pub told_shut : Bool
+  pub observed : ℕ
+  pub observed_shut : Bool
   -- whether a call of its own saw the pipe closed
   pub saw : Bool
   -- all bytes that were ever published, once one of the two told it that the pipe is closed
@@ -32,8 +32,8 @@ read_view i c t k n u s a = record {
   capacity = c;
   taken = t;
   known = k;
-  told = n;
-  told_shut = u;
+  observed = n;
+  observed_shut = u;
   saw = s;
   all = a;
 }
@@ -44,14 +44,14 @@ read_view_code =
     (coded× (coded× ring_code coded_ℕ)
     (coded× (coded× (coded_list coded_ℕ) (coded_list coded_ℕ))
     (coded× (coded× coded_ℕ (coded_list coded_ℕ)) (coded× coded_bool coded_bool))))
-    (λ r. ((r.ring, r.capacity), ((r.taken, r.known), ((r.told, r.all), (r.told_shut, r.saw)))))
+    (λ r. ((r.ring, r.capacity), ((r.taken, r.known), ((r.observed, r.all), (r.observed_shut, r.saw)))))
     (λ p. read_view p.0.0 p.0.1 p.1.0.0 p.1.0.1 p.1.1.0.0 p.1.1.1.0 p.1.1.1.1 p.1.1.0.1) (λ _. refl)
 
 abbrev pub read_view_of : ReadParts → ReadView
 read_view_of e =
     read_view (ring_of e.seat.words e.seat.at e.seat.names) e.indices.capacity
     (take e.seat.head e.seat.have) e.known.bytes
-    (length e.told.bytes) e.told.shut e.saw.shut e.heard.bytes
+    (length e.observed.bytes) e.observed.shut e.saw.shut e.heard.bytes
 
 -- the place of the first known byte
 abbrev pub read_place : ReadView → ℕ
@@ -67,7 +67,7 @@ HasLoadedTail r = FoundPublished r.ring.names (length (r.taken ++ r.known))
 
 -- the end learned from a mark that the pipe is closed, or saw it
 abbrev pub KnowsEnd : ReadView → Type 0
-KnowsEnd r = either r.told_shut r.saw ≡ true
+KnowsEnd r = either r.observed_shut r.saw ≡ true
 
 -- what the end took and knows of, and then some bytes that it doesn't know of, are all
 abbrev pub HasTheRest : ReadView → Type 0
@@ -81,7 +81,7 @@ Agree xs ys = (all : List ℕ) × IsPrefix xs all × IsPrefix ys all
 -- of, and no more than fit; and just those up to the end where that is known
 pub record MayBeUnread (r : ReadView) (n : ℕ) : Type 0 where
   pub known : length r.known ≤ n
-  pub told : r.told ≤ length r.taken + n
+  pub observed : r.observed ≤ length r.taken + n
   pub fits : n ≤ r.capacity
   pub end : KnowsEnd r → length r.taken + n ≡ length r.all
   pub found : FoundPublished r.ring.names (length r.taken + n)
@@ -98,12 +98,12 @@ pub record KnowsMore (a b : ReadView) : Type 0 where
 
 -- since a, the end b learned from a mark what that reports
 pub record Observes (mark : WriteMark) (a b : ReadView) : Type 0 where
-  pub told : b.told ≡ max a.told (length mark.bytes)
-  pub shut : b.told_shut ≡ either a.told_shut mark.shut
+  pub observed : b.observed ≡ max a.observed (length mark.bytes)
+  pub shut : b.observed_shut ≡ either a.observed_shut mark.shut
   pub agree : Agree (b.taken ++ b.known) mark.bytes
   pub last : mark.shut ≡ true → (b.all ≡ mark.bytes) × HasTheRest b
   pub all : KeepsAll a b
-  pub rest : b ≡ record a { told = b.told; told_shut = b.told_shut; all = b.all }
+  pub rest : b ≡ record a { observed = b.observed; observed_shut = b.observed_shut; all = b.all }
 
 -- how the end keeps its view
 pub record IsReadEnd (e : ReadParts) : Type 0 where
@@ -120,11 +120,11 @@ pub record IsReadEnd (e : ReadParts) : Type 0 where
       (e.indices.head ≡ position_of e.indices.capacity e.seat.head)
       × (e.indices.tail ≡ position_of e.indices.capacity e.seat.seen)
   pub heard :
-      (e.told.names ≡ e.seat.names) × (e.saw.names ≡ e.seat.names)
+      (e.observed.names ≡ e.seat.names) × (e.saw.names ≡ e.seat.names)
       × (e.heard.names ≡ e.seat.names)
   pub stream :
       IsPrefix e.seat.have e.heard.bytes
-      × Reaches (e.told.bytes, e.told.shut) (e.heard.bytes, e.heard.shut)
+      × Reaches (e.observed.bytes, e.observed.shut) (e.heard.bytes, e.heard.shut)
       × Reaches (e.saw.bytes, e.saw.shut) (e.heard.bytes, e.heard.shut)
   pub leased : (e.lease.life ≡ e.seat.names.life) × (e.lease.first ≡ true)
   pub whole :

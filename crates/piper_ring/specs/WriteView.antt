@@ -22,7 +22,7 @@ pub record WriteView : Type 0 where
   -- whether it closed the pipe for good
   pub shut : Bool
   -- how many consumed bytes it was told of
-  pub told : ℕ
+  pub observed : ℕ
   -- whether a call of its own saw the pipe closed, or closed it
   pub saw : Bool
 
@@ -34,7 +34,7 @@ write_view i c s r l u n w = record {
   room = r;
   lent = l;
   shut = u;
-  told = n;
+  observed = n;
   saw = w;
 }
 
@@ -43,14 +43,14 @@ write_view_code =
     code_by (((Ring × ℕ) × (List ℕ × ℕ)) × ((List ℕ × Bool) × (ℕ × Bool)))
     (coded× (coded× (coded× ring_code coded_ℕ) (coded× (coded_list coded_ℕ) coded_ℕ))
     (coded× (coded× (coded_list coded_ℕ) coded_bool) (coded× coded_ℕ coded_bool)))
-    (λ w. (((w.ring, w.capacity), (w.sent, w.room)), ((w.lent, w.shut), (w.told, w.saw))))
+    (λ w. (((w.ring, w.capacity), (w.sent, w.room)), ((w.lent, w.shut), (w.observed, w.saw))))
     (λ p. write_view p.0.0.0 p.0.0.1 p.0.1.0 p.0.1.1 p.1.0.0 p.1.0.1 p.1.1.0 p.1.1.1) (λ _. refl)
 
 abbrev pub write_view_of : WriteParts → WriteView
 write_view_of e =
     write_view (ring_of e.seat.words e.seat.at e.seat.names) e.indices.capacity
     e.seat.sent (e.seat.limit - length e.seat.sent) e.room.lent.bytes
-    e.seat.shut e.told.count (either e.seat.shut e.saw.seen)
+    e.seat.shut e.observed.count (either e.seat.shut e.saw.seen)
 
 -- the place of the next byte
 abbrev pub write_place : WriteView → ℕ
@@ -78,7 +78,7 @@ Lendable w max n =
 -- bytes that it was told of are consumed
 pub record MayBeUnread (w : WriteView) (n : ℕ) : Type 0 where
   pub room : n + w.room ≤ w.capacity
-  pub told : n + w.told ≤ length w.sent
+  pub observed : n + w.observed ≤ length w.sent
   pub found : FoundConsumed w.ring.names (length w.sent - n)
 
 -- since a the end came to know of room, and of nothing else
@@ -103,6 +103,6 @@ pub record IsWriteEnd (e : WriteParts) : Type 0 where
       × (e.indices.head ≡ position_of e.indices.capacity (e.seat.limit - e.indices.capacity))
   pub leased : (e.lease.life ≡ e.seat.names.life) × (e.lease.first ≡ false)
   pub lending : e.indices.lent ≡ length e.room.lent.bytes
-  pub heard : (e.told.names ≡ e.seat.names) × (e.saw.names ≡ e.seat.names)
+  pub heard : (e.observed.names ≡ e.seat.names) × (e.saw.names ≡ e.seat.names)
   pub closed : e.indices.is_shut ≡ e.seat.shut
   pub lends_none : e.seat.shut ≡ true → e.room.lent.bytes ≡ []

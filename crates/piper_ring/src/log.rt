@@ -15,7 +15,7 @@ pub enum Line {
     /// The step that the table has next was made, and found this.
     Made(Found),
     /// The load of closed that a look of the writer begins with, when no room was known or some.
-    Looked { none: bool, is_closed: bool },
+    ClosedLoaded { none: bool, is_closed: bool },
     /// A copy drew whether it yields.
     Drew(bool),
 }
@@ -43,7 +43,7 @@ impl Drop for Log {
 }
 
 impl Log {
-    ghost use Rattle.piper_ring.specs.Log.{WasClosedLoaded, WasIndexLoaded, WasSlotLoaded, began, drew, looked, made, next, with_line};
+    ghost use Rattle.piper_ring.specs.Log.{WasClosedLoaded, WasIndexLoaded, WasSlotLoaded, began, closed_loaded, drew, made, next, with_line};
 
     pub(crate) fn new() -> Log
         ensures { result.lines ≡ [] }
@@ -63,9 +63,9 @@ impl Log {
     #[inline(always)]
     pub(crate) fn index_loaded(&mut self, none: bool)
         requires { WasIndexLoaded }
-        ensures { self.new ≡ made (Found.Refreshed none) self.old }
+        ensures { self.new ≡ made (Found.IndexLoaded none) self.old }
     {
-        self.note(Found::Refreshed { none });
+        self.note(Found::IndexLoaded { none });
     }
 
     /// Closed was loaded.
@@ -81,9 +81,9 @@ impl Log {
     #[inline(always)]
     pub(crate) fn closed_loaded_first(&mut self, none: bool, is_closed: bool)
         requires { WasClosedLoaded is_closed }
-        ensures { self.new ≡ looked none is_closed self.old }
+        ensures { self.new ≡ closed_loaded none is_closed self.old }
     {
-        self.push(&Line::Looked { none, is_closed });
+        self.push(&Line::ClosedLoaded { none, is_closed });
     }
 
     /// The other side's slot was checked, and a waker was registered there or not.

@@ -23,7 +23,7 @@ pub(crate) fn send(writer: &mut WriteEnd, bytes: &[u8]) -> usize
     ensures count { result ≤ length bytes.now }
     ensures ring { writer.new.ring ≡ writer.old.ring }
 {
-    writer.refresh();
+    writer.load_head_if_full();
     let buf = writer.write_buf(bytes.len());
     let n = buf.len();
     buf.copy_from_slice(&bytes[..n]);
@@ -36,7 +36,7 @@ pub(crate) fn send(writer: &mut WriteEnd, bytes: &[u8]) -> usize
 pub(crate) fn send_due(writer: &mut WriteEnd, sent: usize, most: usize) -> usize
     ensures { writer.new.ring ≡ writer.old.ring }
 {
-    writer.refresh();
+    writer.load_head_if_full();
     let buf = writer.write_buf(most);
     let n = buf.len();
     for (i, place) in buf.iter_mut().enumerate() {
@@ -51,7 +51,7 @@ pub(crate) fn send_due(writer: &mut WriteEnd, sent: usize, most: usize) -> usize
 pub(crate) fn receive_due(reader: &mut ReadEnd, received: usize, most: usize) -> Option<usize>
     ensures { reader.new.ring ≡ reader.old.ring }
 {
-    reader.refresh();
+    reader.load_tail_if_empty();
     let piece = reader.peek_buf();
     let n = piece.len().min(most);
     for (i, byte) in piece[..n].iter().enumerate() {

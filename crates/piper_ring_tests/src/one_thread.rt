@@ -50,7 +50,7 @@ fn leave_in_turn(rt: &(impl Abort + AllocGlobal), left: usize, is_reader_first: 
     let (mut reader, mut writer) = ring_of(rt, 3);
     for _ in 0..2 {
         send(&mut writer, &[7; 3][..left.min(3)]);
-        reader.refresh();
+        reader.load_tail_if_empty();
     }
     if is_reader_first {
         drop(reader);

@@ -74,7 +74,7 @@ fn both_ends_leave_at_once(rt: HostRuntime) {
 fn threads_share_both_ends(rt: HostRuntime) {
     let (mut reader, mut writer) = ring_of(&rt, 8);
     send(&mut writer, &[1, 2, 3]);
-    reader.refresh();
+    reader.load_tail_if_empty();
     let told = thread::join(
         &rt,
         || (reader.peek_buf().len(), writer.is_closed()),

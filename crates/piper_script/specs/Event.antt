@@ -8,7 +8,7 @@ use Rattle.piper_protocol.specs.declared.answer.Polled.TheVariants.{Pending, Rea
 use Rattle.model_sides.specs.declared.events.Seen.{Seen}
 use Rattle.model_sides.specs.declared.events.Seen.TheVariants as seen
 use Rattle.model_sides.specs.declared.events.Event.{Event}
-use Rattle.model_sides.specs.declared.events.Event.TheVariants.{Began, Looked, Published, Consumed, Closed, Registered, Woken, Answered}
+use Rattle.model_sides.specs.declared.events.Event.TheVariants.{Began, Loaded, Published, Consumed, Closed, Registered, Woken, Answered}
 use Rattle.piper_script.specs.Joined.{joined_or_dash}
 use Rattle.piper_script.specs.Reply.{printed_list, flag_text, copied_text}
 
@@ -31,7 +31,7 @@ answer_word Done = codes "ok"
 
 abbrev pub event_word : Event → List ℕ
 event_word (Began side kind waker) = codes "began"
-event_word (Looked side seen) = seen_word seen
+event_word (Loaded side seen) = seen_word seen
 event_word (Published bytes) = codes "published=" ++ printed_list bytes
 event_word (Consumed bytes) = codes "consumed=" ++ printed_list bytes
 event_word (Closed side) = codes "closes"
@@ -46,7 +46,7 @@ printed_events events = joined_or_dash 32 event_word events
 -- the side whose event it is; a waker is called on no side
 abbrev pub side_of_event : Event → Option Side
 side_of_event (Began side kind waker) = Some side
-side_of_event (Looked side seen) = Some side
+side_of_event (Loaded side seen) = Some side
 side_of_event (Published bytes) = Some Writer
 side_of_event (Consumed bytes) = Some Reader
 side_of_event (Closed side) = Some side

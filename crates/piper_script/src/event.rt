@@ -15,7 +15,7 @@ fn side_of(event: &Event) -> Option<Side>
 {
     match event {
         Event::Began(side, _, _)
-        | Event::Looked(side, _)
+        | Event::Loaded(side, _)
         | Event::Closed(side)
         | Event::Registered(side, _)
         | Event::Answered(side, _) => Some(*side),
@@ -60,7 +60,7 @@ impl Reply {
     {
         match event {
             Event::Began(_, _, _) => self.write("began"),
-            Event::Looked(_, seen) => self.write_seen(*seen),
+            Event::Loaded(_, seen) => self.write_seen(*seen),
             Event::Published(bytes) => {
                 self.write("published=")?;
                 self.write_list(bytes.as_slice())

@@ -36,7 +36,7 @@ YieldsFrames taken known saw fails stream =
 -- why a poll failed: the frame that is kept is too long, or was cut off, and the stream is over; or
 -- the reader failed, or memory was refused, and it goes on. And why one is pending: the reader has
 -- nothing to give yet
-module _ {R : Type 0} (taken known : R → List ℕ) (saw told : R → Bool)
+module _ {R : Type 0} (taken known : R → List ℕ) (saw knows_end : R → Bool)
     (fails : R → Context → PipeError → Type 0) (waits : R → Context → Type 0) where
   abbrev pub TellsFrame : Poll (Option Item) → FrameStream R → FrameStream R → Context → Type 0
   TellsFrame (Ready None) a b cx = is_over b ≡ true
@@ -49,5 +49,5 @@ module _ {R : Type 0} (taken known : R → List ℕ) (saw told : R → Bool)
       (body_room_of (frames_of a)) (header_of (frames_of b)) (body_of (frames_of b))
       (known (reader_of (frames_of b)))))
   TellsFrame Pending a b cx =
-      Pends known told waits (reader_of (frames_of b))
+      Pends known knows_end waits (reader_of (frames_of b))
       (length (taken (reader_of (frames_of a))) < length (taken (reader_of (frames_of b)))) cx

@@ -33,7 +33,7 @@ YieldsLines taken known saw fails stream =
 
 -- why a poll failed: the reader did, or memory was refused, and the stream goes on; and why one is
 -- pending: the reader has nothing to give yet
-module _ {R : Type 0} (known : R → List ℕ) (told : R → Bool)
+module _ {R : Type 0} (known : R → List ℕ) (knows_end : R → Bool)
     (fails : R → Context → PipeError → Type 0) (waits : R → Context → Type 0) where
   abbrev pub TellsLine : Poll (Option Item) → LineStream R → LineStream R → Context → Type 0
   TellsLine (Ready None) a b cx = ⊤
@@ -43,4 +43,4 @@ module _ {R : Type 0} (known : R → List ℕ) (told : R → Bool)
       (LacksRoom (limit_of a) (room_of (lines_of a)) (kept_of (lines_of b))
       (known (reader_of (lines_of b))))
   TellsLine Pending a b cx =
-      WaitsForBytes known told waits (reader_of (lines_of b)) cx
+      WaitsForBytes known knows_end waits (reader_of (lines_of b)) cx

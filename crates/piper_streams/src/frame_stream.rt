@@ -112,9 +112,9 @@ impl<R: AsyncBufRead + Drop> Stream for FrameStream<R> {
         ensures registered { OnPending result
             (Covers cx.new (R.needs (reader_of (frames_of self.new)))) }
         ensures kept { Keeps cx.old cx.new }
-        ensures tells { TellsFrame R.taken R.known R.saw R.told R.fails R.waits
+        ensures tells { TellsFrame R.taken R.known R.saw R.knows_end R.fails R.waits
             result self.old self.new cx.new }
-        ensures stays { ReaderStays R.told R.woken
+        ensures stays { ReaderStays R.knows_end R.woken
             (reader_of (frames_of self.old)) (reader_of (frames_of self.new))
             × (format_of (frames_of self.new) ≡ format_of (frames_of self.old)) }
     {

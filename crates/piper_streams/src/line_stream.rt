@@ -112,8 +112,8 @@ impl<R: AsyncBufRead + Drop> Stream for LineStream<R> {
         ensures registered { OnPending result
             (Covers cx.new (R.needs (reader_of (lines_of self.new)))) }
         ensures kept { Keeps cx.old cx.new }
-        ensures tells { TellsLine R.known R.told R.fails R.waits result self.old self.new cx.new }
-        ensures stays { ReaderStays R.told R.woken
+        ensures tells { TellsLine R.known R.knows_end R.fails R.waits result self.old self.new cx.new }
+        ensures stays { ReaderStays R.knows_end R.woken
             (reader_of (lines_of self.old)) (reader_of (lines_of self.new)) }
     {
         if self.is_ended {

@@ -56,6 +56,6 @@ where
 }
 
 #[test]
-fn a_heeded_mark_is_found(rt: HostRuntime) {
+fn an_observed_mark_is_found(rt: HostRuntime) {
     finds_what_was_marked(&rt);
 }

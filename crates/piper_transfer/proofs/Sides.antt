@@ -28,11 +28,11 @@ pub fed_looked : (i j : Option (List ℕ)) (a b c : WriteView) → Fed i j a b �
 fed_looked i j a b c p look = fed_same i j a b c p (ap (λ (v : WriteView). v.sent) look.rest) (ap (λ (v : WriteView). v.ring) look.rest)
 
 -- what was given before the handles met, and after it
-pub fed_refreshed : (i j : Option (List ℕ)) (a b c : WriteView) → Fed i j a b → c ≡ record b { room = c.room } → Fed i j a c
-fed_refreshed i j a b c p met = fed_same i j a b c p (ap (λ (v : WriteView). v.sent) met) (ap (λ (v : WriteView). v.ring) met)
+pub fed_still : (i j : Option (List ℕ)) (a b c : WriteView) → Fed i j a b → c ≡ record b { room = c.room } → Fed i j a c
+fed_still i j a b c p met = fed_same i j a b c p (ap (λ (v : WriteView). v.sent) met) (ap (λ (v : WriteView). v.ring) met)
 
 pub fed_met : (i j : Option (List ℕ)) (a b c : WriteView) → b ≡ record a { room = b.room } → Fed i j b c → Fed i j a c
-fed_met i j a b c met p = fed_more i i j a b c (fed_refreshed i i a a b (fed_none i a) met) p
+fed_met i j a b c met p = fed_more i i j a b c (fed_still i i a a b (fed_none i a) met) p
 
 pub fed_round : (i j k : Option (List ℕ)) (a b c d : WriteView) → Fed i j a b → WriterLooked b c → Fed j k c d → Fed i k a d
 fed_round i j k a b c d p look q = fed_more i j k a c d (fed_looked i j a b c p look) q

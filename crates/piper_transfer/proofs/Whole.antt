@@ -58,7 +58,7 @@ pub none_known : (r1 r2 : ReadView) (w1 w2 : WriteView) → IsDrained r1 w1 → 
     → (KnowsEnd r2 → r2.all ≡ w2.sent) → (KnowsEnd r1 → r2.all ≡ r1.all) → r2.known ≡ []
 none_known r1 r2 w1 w2 (inl ended) met fifo sent all same =
     let knows = ended_knows r1 ended in
-    let knows2 : KnowsEnd r2 = subst (λ (b : Bool × Bool). either b.0 b.1 ≡ true) (λ i. ((sym met i).told_shut, (sym met i).saw)) knows in
+    let knows2 : KnowsEnd r2 = subst (λ (b : Bool × Bool). either b.0 b.1 ≡ true) (λ i. ((sym met i).observed_shut, (sym met i).saw)) knows in
     append_cancel_left r2.taken r2.known [] (fifo ∙ sym (all knows2) ∙ same knows ∙ sym ended.all ∙ sym (ap (λ (v : ReadView). v.taken) met) ∙ sym (append-nil r2.taken))
 none_known r1 r2 w1 w2 (inr whole) met fifo sent all same =
     append_cancel_left r2.taken r2.known [] (fifo ∙ sent ∙ sym whole ∙ sym (ap (λ (v : ReadView). v.taken) met) ∙ sym (append-nil r2.taken))

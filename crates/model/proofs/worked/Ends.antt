@@ -54,7 +54,7 @@ lent_after_the_readers_drop :
 lent_after_the_readers_drop = refl
 
 -- a writer that finds the pipe closed does not look for room
-no_refresh_of_a_closed_pipe :
+no_load_of_a_closed_pipe :
     answers (fresh 2) (Fill (1 to 2) ∷ Drain 1 ∷ Drop Reader ∷ Poll Writer (by 3) ∷ Lend 2 ∷ [])
     ≡ (Count 2 ∷ Bytes 1 (1 ∷ []) ∷ Done ∷ Ready (Flag false) ∷ Count 0 ∷ [])
-no_refresh_of_a_closed_pipe = refl
+no_load_of_a_closed_pipe = refl

@@ -3,7 +3,7 @@ ghost use Rattle.std.specs.Prelude.{◌≡◌, ◌≤◌, ℕ, length, take, IfO
 ghost use Rattle.piper_protocol.specs.Reported.{HasFailed};
 ghost use Rattle.model_sides.specs.Log.{listed};
 ghost use Rattle.model.specs.Places.{peeked_count};
-ghost use Rattle.model.specs.Action.{call_of, logged_of, refresh_event, wake_of, yield_of, registration_of};
+ghost use Rattle.model.specs.Action.{call_of, logged_of, index_event, wake_of, yield_of, registration_of};
 
 use super::Machine;
 use model_sides::bytes::Bytes;
@@ -13,13 +13,13 @@ use model_sides::polling::Context;
 use piper_protocol::memory::OutOfMemory;
 use piper_protocol::table::{Action, Side};
 
-// What a refresh of the side is logged as.
-fn refresh_event(side: Side, count: usize) -> Event
-    ensures { result ≡ refresh_event side count }
+// What the load of the other side's index is logged as.
+fn index_event(side: Side, count: usize) -> Event
+    ensures { result ≡ index_event side count }
 {
     match side {
-        Side::Reader => Event::Looked(side, Seen::Tail(count)),
-        Side::Writer => Event::Looked(side, Seen::Head(count)),
+        Side::Reader => Event::Loaded(side, Seen::Tail(count)),
+        Side::Writer => Event::Loaded(side, Seen::Head(count)),
     }
 }
 
@@ -71,10 +71,10 @@ impl Machine {
         let call = self.call(side);
         let event = match action {
             Action::Rest | Action::Take(_) => None,
-            Action::LoadHead => Some(Event::Looked(side, Seen::Head(self.unread_count()))),
-            Action::LoadTail => Some(Event::Looked(side, Seen::Tail(self.unread_count()))),
-            Action::Refresh => Some(refresh_event(side, self.unread_count())),
-            Action::LoadClosed => Some(Event::Looked(side, Seen::Closed(self.is_closed))),
+            Action::LoadHead => Some(Event::Loaded(side, Seen::Head(self.unread_count()))),
+            Action::LoadTail => Some(Event::Loaded(side, Seen::Tail(self.unread_count()))),
+            Action::LoadIndex => Some(index_event(side, self.unread_count())),
+            Action::LoadClosed => Some(Event::Loaded(side, Seen::Closed(self.is_closed))),
             Action::Register => registration(side, call.context),
             Action::StoreHead(n) => Some(Event::Consumed(self.front_bytes(n)?)),
             Action::StoreTail(n) => Some(Event::Published(self.lent_bytes(n)?)),

@@ -117,12 +117,12 @@ impl Machine {
         settle_reader(&mut self.reader_call, &mut self.destination, answer)
     }
 
-    fn reader_refreshes(&mut self) -> Option<Answer>
-        requires { read_action self.old.reader ≡ Action.Refresh }
-        ensures after { self.new ≡ (reader_stepped Action.Refresh self.old).pipe }
-        ensures answer { result ≡ (reader_stepped Action.Refresh self.old).answer }
+    fn reader_loads_tail(&mut self) -> Option<Answer>
+        requires { read_action self.old.reader ≡ Action.LoadIndex }
+        ensures after { self.new ≡ (reader_stepped Action.LoadIndex self.old).pipe }
+        ensures answer { result ≡ (reader_stepped Action.LoadIndex self.old).answer }
     {
-        let answer = self.read.refreshed(self.write.tail());
+        let answer = self.read.tail_loaded(self.write.tail());
         settle_reader(&mut self.reader_call, &mut self.destination, answer)
     }
 
@@ -149,7 +149,7 @@ impl Machine {
     fn reader_finds(&mut self, action: Action) -> Found
         requires next { action ≡ read_action self.old.reader }
         requires open { action ≢ Action.Rest }
-        requires no_refresh { action ≢ Action.Refresh }
+        requires no_load_of_the_index { action ≢ Action.LoadIndex }
         requires no_store { (n : ℕ) → action ≢ Action.StoreHead n }
         ensures after { self.new ≡ performed Side.Reader action self.old }
         ensures found { result ≡ found_by Side.Reader action self.old }
@@ -195,7 +195,7 @@ impl Machine {
     {
         match action {
             Action::Rest => None,
-            Action::Refresh => self.reader_refreshes(),
+            Action::LoadIndex => self.reader_loads_tail(),
             Action::StoreHead(n) => self.reader_stores_head(n),
             _ => {
                 let found = self.reader_finds(action);
@@ -229,12 +229,12 @@ impl Machine {
         settle_writer(self.alloc, &mut self.writer_call, &mut self.source, answer)
     }
 
-    fn writer_refreshes(&mut self) -> Option<Answer>
-        requires { write_action self.old.writer ≡ Action.Refresh }
-        ensures after { self.new ≡ (writer_stepped Action.Refresh self.old).pipe }
-        ensures answer { result ≡ (writer_stepped Action.Refresh self.old).answer }
+    fn writer_loads_head(&mut self) -> Option<Answer>
+        requires { write_action self.old.writer ≡ Action.LoadIndex }
+        ensures after { self.new ≡ (writer_stepped Action.LoadIndex self.old).pipe }
+        ensures answer { result ≡ (writer_stepped Action.LoadIndex self.old).answer }
     {
-        let answer = self.write.refreshed(self.read.head());
+        let answer = self.write.head_loaded(self.read.head());
         settle_writer(self.alloc, &mut self.writer_call, &mut self.source, answer)
     }
 
@@ -310,7 +310,7 @@ impl Machine {
     fn writer_finds(&mut self, action: Action) -> Found
         requires next { action ≡ write_action self.old.writer }
         requires open { action ≢ Action.Rest }
-        requires no_refresh { action ≢ Action.Refresh }
+        requires no_load_of_the_index { action ≢ Action.LoadIndex }
         requires no_store { (n : ℕ) → action ≢ Action.StoreTail n }
         requires no_close { (is_shut : Bool) → action ≢ Action.StoreClosed is_shut }
         requires no_source { action ≢ Action.CallSource }
@@ -351,7 +351,7 @@ impl Machine {
         match action {
             Action::Rest => None,
             Action::CallSource => self.writer_calls_source(),
-            Action::Refresh => self.writer_refreshes(),
+            Action::LoadIndex => self.writer_loads_head(),
             Action::StoreTail(n) => self.writer_stores_tail(n),
             Action::StoreClosed { is_shut } => if is_shut {
                 self.writer_shuts()

@@ -53,7 +53,7 @@ impl AsyncRead for Reader {
 
     ghost saw = { λ r. r.side.end.saw };
 
-    ghost told = { λ r. r.side.end.told_shut };
+    ghost knows_end = { λ r. r.side.end.observed_shut };
 
     ghost ended = { λ r. IsEnded r.side.end };
 
@@ -91,7 +91,7 @@ impl AsyncBufRead for Reader {
 
     ghost saw = { λ r. r.side.end.saw };
 
-    ghost told = { λ r. r.side.end.told_shut };
+    ghost knows_end = { λ r. r.side.end.observed_shut };
 
     ghost ended = { λ r. IsEnded r.side.end };
 

@@ -11,7 +11,7 @@ use piper_ring::{
 
 impl Reader {
     ghost use Rattle.piper.specs.Handles.{SameReader};
-    ghost use Rattle.piper.specs.OfReader.{end_of, log, ring, capacity, taken, known, told, told_shut};
+    ghost use Rattle.piper.specs.OfReader.{end_of, log, ring, capacity, taken, known, observed, observed_shut};
     ghost use Rattle.piper.specs.OfWriter as of_writer;
     ghost use Rattle.piper_ring.specs.ReadView.{KeepsAll};
     ghost use Rattle.piper.specs.ReaderCalls.{KnowsAll, MeetClosed, MeetMore, MeetSame, MeetWoken, ReaderWasWoken};
@@ -33,15 +33,15 @@ impl Reader {
     /// Requires: the mark is of the same pipe.
     pub fn observe(&mut self, mark: &WriteMark)
         requires { mark.now.names ≡ (ring self.old).names }
-        ensures told { (told self.new ≡ max (told self.old) (length mark.now.bytes))
-            × (told_shut self.new ≡ either (told_shut self.old) mark.now.shut) }
+        ensures observed { (observed self.new ≡ max (observed self.old) (length mark.now.bytes))
+            × (observed_shut self.new ≡ either (observed_shut self.old) mark.now.shut) }
         ensures agree { Agree (taken self.new ++ known self.new) mark.now.bytes }
         ensures last { mark.now.shut ≡ true → KnowsAll self.new mark.now.bytes }
         ensures all { KeepsAll (end_of self.old) (end_of self.new) }
         ensures rest { SameReader (λ s t. t ≡ s) self.old self.new × (log self.new ≡ log self.old)
             × (end_of self.new ≡ record (end_of self.old) {
-              told = told self.new;
-              told_shut = told_shut self.new;
+              observed = observed self.new;
+              observed_shut = observed_shut self.new;
               all = (end_of self.new).all;
             }) }
     {
@@ -79,28 +79,28 @@ impl Reader {
     ///
     /// Requires: the mark is of the same pipe.
     pub fn meet_finished(&mut self, left: &mut FinishedWriter)
-        requires { left.old.told.names ≡ (ring self.old).names }
+        requires { left.old.mark.names ≡ (ring self.old).names }
         ensures woken { ReaderWasWoken self.old left.old }
-        ensures told { (told self.new ≡ max (told self.old) (length left.old.told.bytes))
-            × (told_shut self.new ≡ true) }
-        ensures last { Agree (taken self.new ++ known self.new) left.old.told.bytes
-            × KnowsAll self.new left.old.told.bytes }
+        ensures observed { (observed self.new ≡ max (observed self.old) (length left.old.mark.bytes))
+            × (observed_shut self.new ≡ true) }
+        ensures last { Agree (taken self.new ++ known self.new) left.old.mark.bytes
+            × KnowsAll self.new left.old.mark.bytes }
         ensures rest { SameReader (λ s t. t ≡ s) self.old self.new × (log self.new ≡ log self.old)
             × (end_of self.new ≡ record (end_of self.old) {
-              told = told self.new;
-              told_shut = told_shut self.new;
+              observed = observed self.new;
+              observed_shut = observed_shut self.new;
               all = (end_of self.new).all;
             })
             × (left.new ≡ left.old) }
     {
         self.side.meet_slot(&mut left.slots);
-        self.side.observe(&left.told);
+        self.side.observe(&left.mark);
     }
 }
 
 impl Writer {
     ghost use Rattle.piper.specs.Handles.{SameWriter, lends_room};
-    ghost use Rattle.piper.specs.OfWriter.{end_of, log, ring, told};
+    ghost use Rattle.piper.specs.OfWriter.{end_of, log, ring, observed};
     ghost use Rattle.piper.specs.WriterCalls.{MayLend, MustLend, WriterWasWoken};
 
     /// Its end of the ring.
@@ -117,7 +117,7 @@ impl Writer {
     pub fn observe(&mut self, mark: &ReadMark)
         requires { mark.now.names ≡ (ring self.old).names }
         ensures view { end_of self.new
-            ≡ record (end_of self.old) { told = max (told self.old) mark.now.count } }
+            ≡ record (end_of self.old) { observed = max (observed self.old) mark.now.count } }
         ensures rest { SameWriter (λ s t. t ≡ s) self.old self.new
             × (log self.new ≡ log self.old) }
     {
@@ -132,7 +132,7 @@ impl Writer {
     pub fn observe_last(&mut self, mark: &LastReadMark)
         requires { mark.now.consumed.names ≡ (ring self.old).names }
         ensures view { end_of self.new ≡ record (end_of self.old)
-            { told = max (told self.old) mark.now.consumed.count; saw = true } }
+            { observed = max (observed self.old) mark.now.consumed.count; saw = true } }
         ensures rest { SameWriter (λ s t. t ≡ s) self.old self.new
             × (log self.new ≡ log self.old) }
     {
@@ -146,15 +146,15 @@ impl Writer {
     ///
     /// Requires: the mark is of the same pipe.
     pub fn meet_finished(&mut self, left: &mut FinishedReader)
-        requires { left.old.told.consumed.names ≡ (ring self.old).names }
+        requires { left.old.mark.consumed.names ≡ (ring self.old).names }
         ensures woken { WriterWasWoken self.old left.old }
         ensures view { end_of self.new ≡ record (end_of self.old)
-            { told = max (told self.old) left.old.told.consumed.count; saw = true } }
+            { observed = max (observed self.old) left.old.mark.consumed.count; saw = true } }
         ensures rest { SameWriter (λ s t. t ≡ s) self.old self.new
             × (log self.new ≡ log self.old) × (left.new ≡ left.old) }
     {
         self.side.meet_slot(&mut left.slots);
-        self.side.observe_last(&left.told);
+        self.side.observe_last(&left.mark);
     }
 
     /// Lends at most `max` bytes of the known room, in one piece, to be written.

@@ -8,7 +8,7 @@ impl<R: AsyncRead> AsyncRead for &mut R {
 
     ghost saw = { λ r. R.saw r.now };
 
-    ghost told = { λ r. R.told r.now };
+    ghost knows_end = { λ r. R.knows_end r.now };
 
     ghost ended = { λ r. R.ended r.now };
 
@@ -40,7 +40,7 @@ impl<R: AsyncBufRead> AsyncBufRead for &mut R {
 
     ghost saw = { λ r. R.saw r.now };
 
-    ghost told = { λ r. R.told r.now };
+    ghost knows_end = { λ r. R.knows_end r.now };
 
     ghost ended = { λ r. R.ended r.now };
 

@@ -46,7 +46,7 @@ pub fn poll_copy<R: AsyncBufRead, W: AsyncWrite>(
     ensures over { W.saw writer.old ≡ true →
         (R.taken reader.new ≡ R.taken reader.old) × (W.sent writer.new ≡ W.sent writer.old) }
     ensures stays { (W.saw writer.old ≡ true → W.saw writer.new ≡ true)
-        × (R.told reader.new ≡ R.told reader.old)
+        × (R.knows_end reader.new ≡ R.knows_end reader.old)
         × (R.woken reader.old → R.woken reader.new)
         × (W.woken writer.old → W.woken writer.new) }
     ensures ends { (result ≡ Poll.Ready (Ok Copied.ToTheEnd) →
@@ -55,7 +55,7 @@ pub fn poll_copy<R: AsyncBufRead, W: AsyncWrite>(
     ensures error { IfReadyErr result (λ e.
         R.fails reader.new cx.new e ⊎ W.fails writer.new cx.new e) }
     ensures pending { OnPending result (
-        (R.told reader.new ≡ true → Covers cx.new (W.needs writer.new))
+        (R.knows_end reader.new ≡ true → Covers cx.new (W.needs writer.new))
         × (Covers cx.new (R.needs reader.new) ⊎ Covers cx.new (W.needs writer.new))
         × CopyPends (R.waits reader.new cx.new) (W.waits writer.new cx.new)
         (R.taken reader.old) (R.taken reader.new) cx.new) }

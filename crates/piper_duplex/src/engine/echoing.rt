@@ -93,12 +93,12 @@ impl LineEcho {
             (LacksRoom limit 0 (kept_of lines.new) (R.known (reader_of lines.new)))) }
         ensures pending { OnPending result (Covers cx.new
             (WaitsFor (R.needs (reader_of lines.new)) (W.needs writer.new) (left_of self.new))
-            × EchoPends R.known R.told R.waits (reader_of lines.new)
+            × EchoPends R.known R.knows_end R.waits (reader_of lines.new)
             (W.waits writer.new cx.new) (left_of self.new) (W.saw writer.old)
             (length (R.taken (reader_of lines.old)) < length (R.taken (reader_of lines.new)))
             cx.new) }
         ensures stays { WriterStays W.saw W.woken writer.old writer.new
-            × ReaderStays R.told R.woken (reader_of lines.old) (reader_of lines.new)
+            × ReaderStays R.knows_end R.woken (reader_of lines.old) (reader_of lines.new)
             × Keeps cx.old cx.new }
     {
         for _ in 0..MOST_LINES {

@@ -122,7 +122,7 @@ impl<R: AsyncBufRead + Drop, W: AsyncWrite + Drop> Future for EchoAll<R, W> {
         ensures registered { OnPending result (Covers cx.new
             (WaitsFor (R.needs (reader_of self.new.lines)) (W.needs self.new.writer)
             (left_of self.new.echo))) }
-        ensures waits { OnPending result (EchoPends R.known R.told R.waits
+        ensures waits { OnPending result (EchoPends R.known R.knows_end R.waits
             (reader_of self.new.lines) (W.waits self.new.writer cx.new)
             (left_of self.new.echo) (W.saw self.old.writer)
             (length (R.taken (reader_of self.old.lines))

@@ -47,14 +47,14 @@ pub fn poll_frames<R: AsyncBufRead>(
         (LacksFrameRoom (format_of frames.old) limit 0 0 (header_of frames.new) (body_of frames.new)
         (R.known (reader_of frames.new)) ⊎ (vec_capacity out.old ≤ vec_len out.new))) }
     ensures pending { OnPending result (Covers cx.new (R.needs (reader_of frames.new))
-        × Pends R.known R.told R.waits (reader_of frames.new)
+        × Pends R.known R.knows_end R.waits (reader_of frames.new)
         (WentOn (length out.old.items) (length out.new.items)
         ⊎ WentOn (length (R.taken (reader_of frames.old)))
         (length (R.taken (reader_of frames.new))))
         cx.new) }
     ensures kept { Keeps cx.old cx.new }
     ensures rest { (format_of frames.new ≡ format_of frames.old)
-        × ReaderStays R.told R.woken (reader_of frames.old) (reader_of frames.new) }
+        × ReaderStays R.knows_end R.woken (reader_of frames.old) (reader_of frames.new) }
 {
     for _ in 0..MOST_PIECES {
         if out.reserve(1).is_err() {

@@ -51,11 +51,11 @@ pub fn poll_lines<R: AsyncBufRead>(
         (LacksRoom limit 0 (kept_of lines.new) (R.known (reader_of lines.new))
         ⊎ (vec_capacity out.old ≤ vec_len out.new))) }
     ensures pending { OnPending result (Covers cx.new (R.needs (reader_of lines.new))
-        × Pends R.known R.told R.waits (reader_of lines.new)
+        × Pends R.known R.knows_end R.waits (reader_of lines.new)
         (WentOn (length out.old.items) (length out.new.items)) cx.new) }
     ensures kept { Keeps cx.old cx.new }
     ensures rest { (end_of lines.new ≡ end_of lines.old)
-        × ReaderStays R.told R.woken (reader_of lines.old) (reader_of lines.new) }
+        × ReaderStays R.knows_end R.woken (reader_of lines.old) (reader_of lines.new) }
 {
     for _ in 0..MOST_PIECES {
         if out.reserve(1).is_err() {

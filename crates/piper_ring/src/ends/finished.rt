@@ -22,11 +22,11 @@ pub struct Finished<S, T> {
 #[derive(Drop)]
 pub struct FinishedReader {
     /// All that was ever consumed, and that the reader left.
-    pub told: LastReadMark,
+    pub mark: LastReadMark,
     pub slots: ReadRegistrations,
     /// What the side did.
     pub log: Log,
-    ghost of_one_ring: { slots.names ≡ told.consumed.names },
+    ghost of_one_ring: { slots.names ≡ mark.consumed.names },
     ghost after_its_close: { slots.stored.closed ≡ true },
 }
 
@@ -35,10 +35,10 @@ pub struct FinishedReader {
 #[derive(Drop)]
 pub struct FinishedWriter {
     /// All that was ever published, and that the pipe is closed.
-    pub told: WriteMark,
+    pub mark: WriteMark,
     pub slots: WriteRegistrations,
     /// What the side did.
     pub log: Log,
-    ghost of_one_ring: { slots.names ≡ told.names },
-    ghost after_its_close: { (told.shut ≡ true) × (slots.stored.closed ≡ true) },
+    ghost of_one_ring: { slots.names ≡ mark.names },
+    ghost after_its_close: { (mark.shut ≡ true) × (slots.stored.closed ≡ true) },
 }

@@ -123,16 +123,16 @@ fn open_ends(
 {
     let (read_seat, write_seat, mut blank, reader_waits, writer_wakes, writer_waits, reader_wakes) =
         open(parts, lender, &reader_token, &writer_token);
-    let told_reader = write_seat.mark();
-    let told_writer = read_seat.mark();
-    let read_saw = told_reader.duplicate();
-    let heard = told_reader.duplicate();
+    let observed_by_reader = write_seat.mark();
+    let observed_by_writer = read_seat.mark();
+    let read_saw = observed_by_reader.duplicate();
+    let heard = observed_by_reader.duplicate();
     let write_saw = read_seat.unseen();
     let read_slots = SlotParts {
         waits: reader_waits,
         right: Some(reader_token),
         maybe_registered: false,
-        heard: told_reader.duplicate(),
+        heard: observed_by_reader.duplicate(),
         wakes: reader_wakes,
     };
     let write_slots = SlotParts {
@@ -140,7 +140,7 @@ fn open_ends(
         right: Some(writer_token),
         maybe_registered: false,
         heard: ReadStored {
-            count: told_writer.duplicate(),
+            count: observed_by_writer.duplicate(),
             closed: read_seat.unseen(),
         },
         wakes: writer_wakes,
@@ -148,7 +148,7 @@ fn open_ends(
     let reader = ReadParts {
         seat: read_seat,
         known: blank.none(0),
-        told: told_reader,
+        observed: observed_by_reader,
         saw: read_saw,
         heard,
         lease: first,
@@ -158,7 +158,7 @@ fn open_ends(
     let writer = WriteParts {
         seat: write_seat,
         room: Room::new(blank, capacity),
-        told: told_writer,
+        observed: observed_by_writer,
         saw: write_saw,
         lease: second,
         alloc,

@@ -17,7 +17,7 @@ pub(crate) struct ReadParts {
     /// The places of the known bytes.
     pub(crate) known: Places,
     /// What the marks tell that it observed.
-    pub(crate) told: WriteMark,
+    pub(crate) observed: WriteMark,
     /// What it saw of the pipe's end.
     pub(crate) saw: WriteMark,
     /// All that it knows of what was published: what it loaded, was reported and saw.
@@ -103,11 +103,11 @@ impl ReadEnd {
     /// writer closed it, the result is `true`.
     pub fn is_closed(&self) -> bool
         ensures stays { (self.now.saw ≡ true → IsTrue result)
-            × (self.now.told_shut ≡ true → IsTrue result) }
+            × (self.now.observed_shut ≡ true → IsTrue result) }
         ensures found { FoundClosed self.now.ring.names result }
     {
         let mut saw = self.parts.saw.duplicate();
-        self.parts.seat.load_closed(&mut saw, &self.parts.told) != 0
+        self.parts.seat.load_closed(&mut saw, &self.parts.observed) != 0
     }
 
     /// The known bytes that are contiguous, at least one if any is known. The slice stays as it
@@ -137,7 +137,7 @@ impl ReadEnd {
         requires { mark.now.names ≡ self.old.ring.names }
         ensures { Observes mark.now self.old self.new }
     {
-        self.parts.told.observe(mark);
+        self.parts.observed.observe(mark);
         self.parts.heard.observe(mark);
     }
 
@@ -147,7 +147,7 @@ impl ReadEnd {
     pub fn load_tail(&mut self)
         requires { length self.old.known ≡ 0 }
         ensures heard { length self.old.all ≤ length (self.new.taken ++ self.new.known) }
-        ensures fresh { (self.old.told ≤ length (self.new.taken ++ self.new.known))
+        ensures fresh { (self.old.observed ≤ length (self.new.taken ++ self.new.known))
             × HasLoadedTail self.new }
         ensures end { KnowsEnd self.old → self.new.taken ++ self.new.known ≡ self.new.all }
         ensures kept { KnowsMore self.old self.new }
@@ -170,9 +170,9 @@ impl ReadEnd {
     }
 
     /// `load_tail`, if it knows of no byte.
-    pub fn refresh(&mut self)
+    pub fn load_tail_if_empty(&mut self)
         ensures fresh { self.old.known ≡ [] →
-            (self.old.told ≤ length (self.new.taken ++ self.new.known))
+            (self.old.observed ≤ length (self.new.taken ++ self.new.known))
             × HasLoadedTail self.new }
         ensures end { self.old.known ≡ [] → KnowsEnd self.old →
             self.new.taken ++ self.new.known ≡ self.new.all }
@@ -208,13 +208,13 @@ impl ReadEnd {
     pub fn load_closed(&mut self) -> bool
         ensures end { IsTrue result → HasTheRest self.new }
         ensures stays { (self.old.saw ≡ true → result ≡ true)
-            × (self.old.told_shut ≡ true → result ≡ true) }
+            × (self.old.observed_shut ≡ true → result ≡ true) }
         ensures found { FoundClosed self.old.ring.names result }
         ensures all { KeepsAll self.old self.new }
         ensures rest { self.new ≡ record self.old { saw = result; all = self.new.all } }
     {
-        let told = self.parts.told.duplicate();
-        self.load_closed_knowing(&told)
+        let observed = self.parts.observed.duplicate();
+        self.load_closed_knowing(&observed)
     }
 
     /// `load_closed`, with evidence of what the writer did besides: it finds that, too.
@@ -223,15 +223,15 @@ impl ReadEnd {
         ensures more { more.now.shut ≡ true → result ≡ true }
         ensures end { HasTheRest self.new }
         ensures stays { (self.old.saw ≡ true → result ≡ true)
-            × (self.old.told_shut ≡ true → result ≡ true) }
+            × (self.old.observed_shut ≡ true → result ≡ true) }
         ensures found { FoundClosed self.old.ring.names result }
         ensures all { KeepsAll self.old self.new }
         ensures rest { self.new ≡ record self.old { saw = result; all = self.new.all } }
     {
         let parts = &mut self.parts;
-        let mut told = parts.told.duplicate();
-        told.observe(more);
-        let is_closed = parts.seat.load_closed(&mut parts.saw, &told) != 0;
+        let mut observed = parts.observed.duplicate();
+        observed.observe(more);
+        let is_closed = parts.seat.load_closed(&mut parts.saw, &observed) != 0;
         parts.heard.observe(&parts.saw);
         is_closed
     }
@@ -278,7 +278,7 @@ impl ReadEnd {
         let ReadParts {
             mut seat,
             known,
-            told: _,
+            observed: _,
             saw: _,
             heard: _,
             lease,

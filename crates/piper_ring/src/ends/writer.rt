@@ -15,7 +15,7 @@ pub(crate) struct WriteParts {
     pub(crate) seat: WriteSeat,
     pub(crate) room: Room,
     /// What the marks tell that it observed.
-    pub(crate) told: ReadMark,
+    pub(crate) observed: ReadMark,
     pub(crate) saw: ClosedMark,
     /// It keeps the space of the wakers' places lent.
     pub(crate) lease: Lease,
@@ -83,7 +83,7 @@ impl WriteEnd {
     pub fn len(&self) -> usize
         ensures { MayBeUnread self.now result }
     {
-        let (head, _) = self.parts.seat.load_head(&self.parts.told);
+        let (head, _) = self.parts.seat.load_head(&self.parts.observed);
         self.parts.indices.unread_from(head as usize)
     }
 
@@ -124,9 +124,9 @@ impl WriteEnd {
     /// was given back before it.
     pub fn observe(&mut self, mark: &ReadMark)
         requires { mark.now.names ≡ self.old.ring.names }
-        ensures { self.new ≡ record self.old { told = max self.old.told mark.now.count } }
+        ensures { self.new ≡ record self.old { observed = max self.old.observed mark.now.count } }
     {
-        self.parts.told.observe(mark);
+        self.parts.observed.observe(mark);
     }
 
     /// From now on it knows that the reader's end left: the pipe counts as seen closed. And it
@@ -134,9 +134,9 @@ impl WriteEnd {
     pub fn observe_last(&mut self, mark: &LastReadMark)
         requires { mark.now.consumed.names ≡ self.old.ring.names }
         ensures { self.new ≡ record self.old
-            { told = max self.old.told mark.now.consumed.count; saw = true } }
+            { observed = max self.old.observed mark.now.consumed.count; saw = true } }
     {
-        self.parts.told.observe(&mark.consumed);
+        self.parts.observed.observe(&mark.consumed);
         self.parts.saw = mark.closed.duplicate();
     }
 
@@ -144,12 +144,12 @@ impl WriteEnd {
     /// none, as the reader's `load_tail`.
     pub fn load_head(&mut self)
         requires { self.old.room ≡ 0 }
-        ensures fresh { (self.old.told + self.old.capacity
+        ensures fresh { (self.old.observed + self.old.capacity
             ≤ length self.new.sent + self.new.room) × HasLoadedHead self.new }
         ensures kept { HasMoreRoom self.old self.new }
     {
-        let told = self.parts.told.duplicate();
-        self.load_head_knowing(&told);
+        let observed = self.parts.observed.duplicate();
+        self.load_head_knowing(&observed);
     }
 
     /// `load_head`, with evidence of what was consumed besides: it finds that room, too.
@@ -157,14 +157,14 @@ impl WriteEnd {
         requires none { self.old.room ≡ 0 }
         requires ring { more.now.names ≡ self.old.ring.names }
         ensures more { more.now.count + self.old.capacity ≤ length self.new.sent + self.new.room }
-        ensures fresh { (self.old.told + self.old.capacity
+        ensures fresh { (self.old.observed + self.old.capacity
             ≤ length self.new.sent + self.new.room) × HasLoadedHead self.new }
         ensures kept { HasMoreRoom self.old self.new }
     {
         let parts = &mut self.parts;
-        let mut told = parts.told.duplicate();
-        told.observe(more);
-        let (head, consumed) = parts.seat.load_head(&told);
+        let mut observed = parts.observed.duplicate();
+        observed.observe(more);
+        let (head, consumed) = parts.seat.load_head(&observed);
         parts.seat.accept(&mut parts.room.later, &consumed);
         parts.indices.set_head(head as usize);
     }
@@ -216,8 +216,8 @@ impl WriteEnd {
     }
 
     /// `load_head`, if it knows of no room.
-    pub fn refresh(&mut self)
-        ensures fresh { self.old.room ≡ 0 → (self.old.told + self.old.capacity
+    pub fn load_head_if_full(&mut self)
+        ensures fresh { self.old.room ≡ 0 → (self.old.observed + self.old.capacity
             ≤ length self.new.sent + self.new.room) × HasLoadedHead self.new }
         ensures known { 0 < self.old.room → self.new ≡ self.old }
         ensures kept { HasMoreRoom self.old self.new }
@@ -313,7 +313,7 @@ impl WriteEnd {
         let WriteParts {
             mut seat,
             room,
-            told: _,
+            observed: _,
             saw: _,
             lease,
             alloc,

@@ -161,14 +161,14 @@ impl ReadSeat {
 
     /// Where the tail is: no less than the reader has seen or was told of, and right at the end
     /// if it was told of that. With it comes evidence of the bytes that were published.
-    pub(crate) fn load_tail(&self, told: &WriteMark) -> (u64, WriteMark)
-        requires { told.now.names ≡ self.now.names }
+    pub(crate) fn load_tail(&self, observed: &WriteMark) -> (u64, WriteMark)
+        requires { observed.now.names ≡ self.now.names }
         ensures ring { result.1.names ≡ self.now.names }
         ensures tail { result.0 ≡ position_of self.now.names.capacity (length result.1.bytes) }
         ensures seen { self.now.seen ≤ length result.1.bytes }
         ensures within { length result.1.bytes ≤ self.now.head + self.now.names.capacity }
-        ensures told { length told.now.bytes ≤ length result.1.bytes }
-        ensures end { told.now.shut ≡ true → result.1.bytes ≡ told.now.bytes }
+        ensures observed { length observed.now.bytes ≤ length result.1.bytes }
+        ensures end { observed.now.shut ≡ true → result.1.bytes ≡ observed.now.bytes }
         ensures found { FoundPublished self.now.names (length result.1.bytes) }
     {
         // SAFETY: the seat owns or shares the ring's words (`also_owns`, `also_shares`), which live
@@ -190,13 +190,13 @@ impl ReadSeat {
     /// 1 if the ring is closed, else 0. Once it was seen closed, or the reader learned from a mark
     /// that the writer closed it, the result is 1. While the reader is there only the writer closes
     /// the ring: so with a 1 comes evidence of all that was published.
-    pub(crate) fn load_closed(&self, saw: &mut WriteMark, told: &WriteMark) -> u64
-        requires { (saw.old.names ≡ self.now.names) × (told.now.names ≡ self.now.names)
+    pub(crate) fn load_closed(&self, saw: &mut WriteMark, observed: &WriteMark) -> u64
+        requires { (saw.old.names ≡ self.now.names) × (observed.now.names ≡ self.now.names)
             × (self.now.leaving ≡ false) }
         ensures ring { saw.new.names ≡ saw.old.names }
         ensures answer { result ≡ flag saw.new.shut }
         ensures stays { Reaches (saw.old.bytes, saw.old.shut) (saw.new.bytes, saw.new.shut) }
-        ensures told { flag told.now.shut ≤ result }
+        ensures observed { flag observed.now.shut ≤ result }
         ensures found { FoundClosed self.now.names saw.new.shut }
     {
         // SAFETY: the seat owns or shares the ring's words (`also_owns`, `also_shares`), which live
@@ -302,13 +302,13 @@ impl WriteSeat {
 
     /// Where the head is: no less than the writer was told of, and no room that it knows of is
     /// taken away. With it comes evidence of how many bytes were consumed.
-    pub(crate) fn load_head(&self, told: &ReadMark) -> (u64, ReadMark)
-        requires { told.now.names ≡ self.now.names }
+    pub(crate) fn load_head(&self, observed: &ReadMark) -> (u64, ReadMark)
+        requires { observed.now.names ≡ self.now.names }
         ensures ring { result.1.names ≡ self.now.names }
         ensures head { result.0 ≡ position_of self.now.names.capacity result.1.count }
         ensures sent { result.1.count ≤ length self.now.sent }
         ensures room { self.now.limit ≤ result.1.count + self.now.names.capacity }
-        ensures told { told.now.count ≤ result.1.count }
+        ensures observed { observed.now.count ≤ result.1.count }
         ensures found { FoundConsumed self.now.names result.1.count }
     {
         // SAFETY: the seat owns or shares the ring's words (`also_owns`, `also_shares`), which live

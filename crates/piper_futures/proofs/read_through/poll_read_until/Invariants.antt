@@ -10,6 +10,6 @@ invariant-loop g l = record {
   grown : GrowsBy (g.R.AsyncBufRead.taken l.initial.reader) (g.R.AsyncBufRead.taken l.reader) l.initial.bytes.items l.bytes.items (Lacks l.byte);
   room : vec_capacity l.initial.bytes ≤ vec_capacity l.bytes;
   moved : length (g.R.AsyncBufRead.taken l.initial.reader) + l.counter ≤ length (g.R.AsyncBufRead.taken l.reader);
-  stays : ReaderStays g.R.AsyncBufRead.told g.R.AsyncBufRead.woken l.initial.reader l.reader;
+  stays : ReaderStays g.R.AsyncBufRead.knows_end g.R.AsyncBufRead.woken l.initial.reader l.reader;
   kept : Keeps l.initial.cx l.cx;
 }

@@ -11,7 +11,7 @@ invariant-loop-reader g l = record {
   within : length l.gathered.items ≤ l.size;
   room : vec_capacity l.fn.gathered ≤ vec_capacity l.gathered;
   ended : g.R.AsyncBufRead.ended l.fn.reader → g.R.AsyncBufRead.ended l.reader × (l.gathered.items ≡ l.fn.gathered.items);
-  stays : ReaderStays g.R.AsyncBufRead.told g.R.AsyncBufRead.woken l.fn.reader l.reader;
+  stays : ReaderStays g.R.AsyncBufRead.knows_end g.R.AsyncBufRead.woken l.fn.reader l.reader;
   kept : Keeps l.fn.cx l.cx;
 }
 

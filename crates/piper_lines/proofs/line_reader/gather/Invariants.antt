@@ -13,7 +13,7 @@ invariant-loop-end g l = record {
   within : (length l.line.items ≤ l.limit) ⊎ (l.line.items ≡ l.fn.line.items);
   room : vec_capacity l.fn.line ≤ vec_capacity l.line;
   ended : g.R.AsyncBufRead.ended l.fn.reader → g.R.AsyncBufRead.ended l.reader × (l.line.items ≡ l.fn.line.items);
-  stays : ReaderStays g.R.AsyncBufRead.told g.R.AsyncBufRead.woken l.fn.reader l.reader;
+  stays : ReaderStays g.R.AsyncBufRead.knows_end g.R.AsyncBufRead.woken l.fn.reader l.reader;
   kept : Keeps l.fn.cx l.cx;
 }
 

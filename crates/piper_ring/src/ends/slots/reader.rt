@@ -67,13 +67,13 @@ impl<T> Side<ReadEnd, T> {
     /// slot ahead of the registration.
     #[inline(always)]
     pub fn load_tail(&mut self) -> bool
-        requires turn { next self.old.log ≡ Action.Refresh }
+        requires turn { next self.old.log ≡ Action.LoadIndex }
         requires none { length self.old.end.known ≡ 0 }
-        ensures log { self.new.log ≡ made (Found.Refreshed result) self.old.log }
+        ensures log { self.new.log ≡ made (Found.IndexLoaded result) self.old.log }
         ensures none { IsTrue result ↔ (length self.new.end.known ≡ 0) }
         ensures after { length self.old.slots.heard.bytes
             ≤ length (self.new.end.taken ++ self.new.end.known) }
-        ensures fresh { (self.old.end.told ≤ length (self.new.end.taken ++ self.new.end.known))
+        ensures fresh { (self.old.end.observed ≤ length (self.new.end.taken ++ self.new.end.known))
             × HasLoadedTail self.new.end }
         ensures end { KnowsEnd self.old.end →
             self.new.end.taken ++ self.new.end.known ≡ self.new.end.all }
@@ -95,7 +95,7 @@ impl<T> Side<ReadEnd, T> {
         ensures log { self.new.log ≡ made (Found.Flag result) self.old.log }
         ensures after { self.old.slots.heard.closed ≡ true → result ≡ true }
         ensures stays { (self.old.end.saw ≡ true → result ≡ true)
-            × (self.old.end.told_shut ≡ true → result ≡ true) }
+            × (self.old.end.observed_shut ≡ true → result ≡ true) }
         ensures found { FoundClosed self.old.end.ring.names result }
         ensures all { (IsTrue result → HasTheRest self.new.end)
             × KeepsAll self.old.end self.new.end }
@@ -131,8 +131,8 @@ impl<T> Side<ReadEnd, T> {
         requires turn { next self.log ≡ Action.StoreClosed false }
         ensures log { Comes (then (then (now self.log) Found.Nothing)
             (Found.Waker (is_some result.taken))) self.log result.side.log }
-        ensures last { (result.side.told.consumed.names ≡ self.end.ring.names)
-            × (result.side.told.consumed.count ≡ length self.end.taken) }
+        ensures last { (result.side.mark.consumed.names ≡ self.end.ring.names)
+            × (result.side.mark.consumed.count ≡ length self.end.taken) }
         ensures looked { (result.side.slots.stored.count ≡ length self.end.taken)
             × (result.side.slots.stored.closed ≡ true) × WaitsAsBefore self.slots result.side.slots }
         ensures ticket { (result.taken ≡ None → result.side.slots.taken ≡ self.slots.taken)
@@ -164,8 +164,8 @@ impl<T> Side<ReadEnd, T> {
         };
         log.slot_loaded(taken.is_some());
         let left = leaving.leave(Some(&cells));
-        let told = LastReadMark { consumed, closed };
-        let side = FinishedReader { told, slots, log };
+        let mark = LastReadMark { consumed, closed };
+        let side = FinishedReader { mark, slots, log };
         Finished { side, taken, left }
     }
 

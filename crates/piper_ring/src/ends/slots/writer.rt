@@ -1,7 +1,7 @@
 //! The writer's side: how it waits in its slot, and wakes whoever waits in the reader's.
 ghost use Rattle.std.specs.Prelude.{◌≡◌, ◌+◌, ◌-◌, ◌<◌, ◌≤◌, ◌++◌, ◌↔◌, ◌==◌, [], length, take, drop, max, None, IsSome, true, false, is_some, IsTrue};
 ghost use Rattle.std.specs.Borrow.{sem};
-ghost use Rattle.piper_ring.specs.Log.{Comes, looked, made, next, now, then};
+ghost use Rattle.piper_ring.specs.Log.{Comes, closed_loaded, made, next, now, then};
 
 use crate::ends::finished::{Finished, FinishedWriter};
 use crate::ends::slots::side::Side;
@@ -75,13 +75,13 @@ impl<T> Side<WriteEnd, T> {
     /// the slot ahead of the registration.
     #[inline(always)]
     pub fn load_head(&mut self) -> bool
-        requires turn { next self.old.log ≡ Action.Refresh }
+        requires turn { next self.old.log ≡ Action.LoadIndex }
         requires none { self.old.end.room ≡ 0 }
-        ensures log { self.new.log ≡ made (Found.Refreshed result) self.old.log }
+        ensures log { self.new.log ≡ made (Found.IndexLoaded result) self.old.log }
         ensures none { IsTrue result ↔ (self.new.end.room ≡ 0) }
         ensures after { self.old.slots.heard.count + self.old.end.capacity
             ≤ length self.new.end.sent + self.new.end.room }
-        ensures fresh { (self.old.end.told + self.old.end.capacity
+        ensures fresh { (self.old.end.observed + self.old.end.capacity
             ≤ length self.new.end.sent + self.new.end.room) × HasLoadedHead self.new.end }
         ensures kept { HasMoreRoom self.old.end self.new.end }
         ensures rest { (self.new.slots ≡ self.old.slots) × (self.new.cells ≡ self.old.cells) }
@@ -96,7 +96,7 @@ impl<T> Side<WriteEnd, T> {
     #[inline(always)]
     pub fn load_closed_first(&mut self) -> bool
         requires turn { next self.old.log ≡ Action.LoadClosed }
-        ensures log { self.new.log ≡ looked (self.old.end.room == 0) result self.old.log }
+        ensures log { self.new.log ≡ closed_loaded (self.old.end.room == 0) result self.old.log }
         ensures end { self.new.end ≡ record self.old.end { saw = result } }
         ensures stays { (self.new.end.shut ≡ true → result ≡ true)
             × (self.old.end.saw ≡ true → result ≡ true) }
@@ -198,8 +198,8 @@ impl<T> Side<WriteEnd, T> {
         requires turn { next self.log ≡ Action.StoreClosed false }
         ensures log { Comes (then (then (now self.log) Found.Nothing)
             (Found.Waker (is_some result.taken))) self.log result.side.log }
-        ensures last { (result.side.told.names ≡ self.end.ring.names)
-            × (result.side.told.bytes ≡ self.end.sent) × (result.side.told.shut ≡ true) }
+        ensures last { (result.side.mark.names ≡ self.end.ring.names)
+            × (result.side.mark.bytes ≡ self.end.sent) × (result.side.mark.shut ≡ true) }
         ensures looked { (result.side.slots.stored.bytes ≡ self.end.sent)
             × (result.side.slots.stored.closed ≡ true) × WaitsAsBefore self.slots result.side.slots }
         ensures ticket { (result.taken ≡ None → result.side.slots.taken ≡ self.slots.taken)
@@ -217,7 +217,7 @@ impl<T> Side<WriteEnd, T> {
         } = self;
         let leaving = end.close();
         log.note(Found::Nothing);
-        let told = leaving.seat.mark();
+        let mark = leaving.seat.mark();
         let wakes = &mut slots.parts.wakes;
         let (found, mut right) = leaving.seat.slot_words().take_waker(wakes, READER_FLAG);
         let taken = if found == 0 {
@@ -230,7 +230,7 @@ impl<T> Side<WriteEnd, T> {
         };
         log.slot_loaded(taken.is_some());
         let left = leaving.leave(Some(&cells));
-        let side = FinishedWriter { told, slots, log };
+        let side = FinishedWriter { mark, slots, log };
         Finished { side, taken, left }
     }
 
@@ -238,7 +238,7 @@ impl<T> Side<WriteEnd, T> {
     pub fn observe(&mut self, mark: &ReadMark)
         requires { mark.now.names ≡ self.old.end.ring.names }
         ensures end { self.new.end
-            ≡ record self.old.end { told = max self.old.end.told mark.now.count } }
+            ≡ record self.old.end { observed = max self.old.end.observed mark.now.count } }
         ensures rest { (self.new.slots ≡ self.old.slots) × (self.new.cells ≡ self.old.cells)
             × (self.new.log ≡ self.old.log) }
     {
@@ -249,7 +249,7 @@ impl<T> Side<WriteEnd, T> {
     pub fn observe_last(&mut self, mark: &LastReadMark)
         requires { mark.now.consumed.names ≡ self.old.end.ring.names }
         ensures end { self.new.end ≡ record self.old.end
-            { told = max self.old.end.told mark.now.consumed.count; saw = true } }
+            { observed = max self.old.end.observed mark.now.consumed.count; saw = true } }
         ensures rest { (self.new.slots ≡ self.old.slots) × (self.new.cells ≡ self.old.cells)
             × (self.new.log ≡ self.old.log) }
     {

@@ -1,5 +1,5 @@
 -- What earlier turns read and wrote, and what the last one does.
-use Rattle.piper_transfer.proofs.Sides.{fed_none, fed_more, fed_refreshed, poured_none, poured_more}
+use Rattle.piper_transfer.proofs.Sides.{fed_none, fed_more, fed_still, poured_none, poured_more}
 use Rattle.piper_transfer.proofs.one_thread.take_turns.Goals as goal
 
 pub loop-init : goal.loop-init
@@ -7,7 +7,7 @@ loop-init g c = (tt, tt, fed_none _ _, c.requires.is_open, poured_none _ _ _ _, 
 
 pub returns-in_err-pass_on-in-Ok-eq0-clause-fed : goal.returns-in_err-pass_on-in-Ok-eq0-clause-fed
 returns-in_err-pass_on-in-Ok-eq0-clause-fed g c =
-    fed_refreshed _ _ _ _ _ (fed_more _ _ _ _ _ _ (fed_refreshed _ _ _ _ _ c.loop.invariant.2 c.pass_on_from.ensures.writer) c.read_chunk.ensures.fed) c.pass_on.ensures.writer
+    fed_still _ _ _ _ _ (fed_more _ _ _ _ _ _ (fed_still _ _ _ _ _ c.loop.invariant.2 c.pass_on_from.ensures.writer) c.read_chunk.ensures.fed) c.pass_on.ensures.writer
 
 pub returns-in_err-pass_on-in-Ok-eq0-clause-poured : goal.returns-in_err-pass_on-in-Ok-eq0-clause-poured
 returns-in_err-pass_on-in-Ok-eq0-clause-poured g c =
@@ -15,7 +15,7 @@ returns-in_err-pass_on-in-Ok-eq0-clause-poured g c =
 
 pub returns-in_err-pass_on-in-Err-Failed-clause-fed : goal.returns-in_err-pass_on-in-Err-Failed-clause-fed
 returns-in_err-pass_on-in-Err-Failed-clause-fed g c =
-    fed_refreshed _ _ _ _ _ (fed_more _ _ _ _ _ _ (fed_refreshed _ _ _ _ _ c.loop.invariant.2 c.pass_on_from.ensures.writer) c.read_chunk.ensures.fed) c.pass_on-in-Err-Failed.ensures.writer
+    fed_still _ _ _ _ _ (fed_more _ _ _ _ _ _ (fed_still _ _ _ _ _ c.loop.invariant.2 c.pass_on_from.ensures.writer) c.read_chunk.ensures.fed) c.pass_on-in-Err-Failed.ensures.writer
 
 pub returns-in_err-pass_on-in-Err-Failed-clause-poured : goal.returns-in_err-pass_on-in-Err-Failed-clause-poured
 returns-in_err-pass_on-in-Err-Failed-clause-poured g c =
@@ -23,7 +23,7 @@ returns-in_err-pass_on-in-Err-Failed-clause-poured g c =
 
 pub returns-in-Err-Failed-clause-fed : goal.returns-in-Err-Failed-clause-fed
 returns-in-Err-Failed-clause-fed g c =
-    fed_refreshed _ _ _ _ _ (fed_more _ _ _ _ _ _ (fed_refreshed _ _ _ _ _ c.loop.invariant.2 c.pass_on_from.ensures.writer) c.read_chunk.ensures.fed) c.pass_on-in-Err-Failed.ensures.writer
+    fed_still _ _ _ _ _ (fed_more _ _ _ _ _ _ (fed_still _ _ _ _ _ c.loop.invariant.2 c.pass_on_from.ensures.writer) c.read_chunk.ensures.fed) c.pass_on-in-Err-Failed.ensures.writer
 
 pub returns-in-Err-Failed-clause-poured : goal.returns-in-Err-Failed-clause-poured
 returns-in-Err-Failed-clause-poured g c =

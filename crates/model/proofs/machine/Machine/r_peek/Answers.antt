@@ -1,7 +1,7 @@
 use Rattle.std.proofs.Common.{◌≡◌, ◌+◌, ◌-◌, ap, sym, arith}
 use Rattle.model.specs.Pipe.{Pipe}
 use Rattle.model.specs.Places.{peeked}
-use Rattle.model.proofs.Indices.{place_below, place_of_low}
+use Rattle.model.proofs.Indices.{place_below, offset_of_low}
 use Rattle.model.proofs.Between.{take-between}
 use Rattle.model.proofs.Soundness.{tail_below, sound}
 use Rattle.model.proofs.Disjointness.{disjoint}
@@ -29,7 +29,7 @@ returns-clause-held c i within =
     record {
       number = i;
       is_known = omega arith;
-      valid = sym (place_of_low p.capacity (p.start + i) (omega (arith, (returns-clause-sound c).start)));
+      valid = sym (offset_of_low p.capacity (p.start + i) (omega (arith, (returns-clause-sound c).start)));
     }
 
 pub returns-clause-disjoint : goal.returns-clause-disjoint

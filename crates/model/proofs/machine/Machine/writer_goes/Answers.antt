@@ -13,7 +13,7 @@ returns-in_default-clause-after c =
     let p = c.args.self.now in
     let finds = c.writer_finds-found.ensures in
     let found = c.writer_finds-found.result in
-    let makes = writer-makes p (λ is. c.in_default.not-Refresh (c.requires ∙ is)) (λ n is. c.in_default.not-StoreTail n (c.requires ∙ is)) (λ is. c.in_default.not-StoreClosed true (c.requires ∙ is)) (λ is. c.in_default.not-CallSource (c.requires ∙ is)) in
+    let makes = writer-makes p (λ is. c.in_default.not-LoadIndex (c.requires ∙ is)) (λ n is. c.in_default.not-StoreTail n (c.requires ∙ is)) (λ is. c.in_default.not-StoreClosed true (c.requires ∙ is)) (λ is. c.in_default.not-CallSource (c.requires ∙ is)) in
     c.writer_found.ensures.after
     ∙ ap (λ (q : Pipe). round_left found q) finds.after
     ∙ ap (λ (f : Found). round_left f (performed Writer c.args.action p)) finds.found
@@ -25,7 +25,7 @@ returns-in_default-clause-answer c =
     let p = c.args.self.now in
     let finds = c.writer_finds-found.ensures in
     let found = c.writer_finds-found.result in
-    let makes = writer-makes p (λ is. c.in_default.not-Refresh (c.requires ∙ is)) (λ n is. c.in_default.not-StoreTail n (c.requires ∙ is)) (λ is. c.in_default.not-StoreClosed true (c.requires ∙ is)) (λ is. c.in_default.not-CallSource (c.requires ∙ is)) in
+    let makes = writer-makes p (λ is. c.in_default.not-LoadIndex (c.requires ∙ is)) (λ n is. c.in_default.not-StoreTail n (c.requires ∙ is)) (λ is. c.in_default.not-StoreClosed true (c.requires ∙ is)) (λ is. c.in_default.not-CallSource (c.requires ∙ is)) in
     c.writer_found.ensures.answer
     ∙ ap (λ (q : Pipe). round_answer found q) finds.after
     ∙ ap (λ (f : Found). round_answer f (performed Writer c.args.action p)) finds.found
@@ -35,5 +35,5 @@ returns-in_default-clause-answer c =
 pub returns-in_default-clause-lent : goal.returns-in_default-clause-lent
 returns-in_default-clause-lent c =
     let p = c.args.self.now in
-    let makes = writer-makes p (λ is. c.in_default.not-Refresh (c.requires ∙ is)) (λ n is. c.in_default.not-StoreTail n (c.requires ∙ is)) (λ is. c.in_default.not-StoreClosed true (c.requires ∙ is)) (λ is. c.in_default.not-CallSource (c.requires ∙ is)) in
+    let makes = writer-makes p (λ is. c.in_default.not-LoadIndex (c.requires ∙ is)) (λ n is. c.in_default.not-StoreTail n (c.requires ∙ is)) (λ is. c.in_default.not-StoreClosed true (c.requires ∙ is)) (λ is. c.in_default.not-CallSource (c.requires ∙ is)) in
     makes.may c.writer_found.new.self.lent

@@ -9,7 +9,7 @@ invariant-loop g l = record {
   carried : Carries (g.R.AsyncBufRead.taken l.initial.reader) (g.R.AsyncBufRead.taken l.reader) (g.W.AsyncWrite.sent l.initial.writer) (g.W.AsyncWrite.sent l.writer) (g.W.AsyncWrite.saw l.writer);
   over : g.W.AsyncWrite.saw l.initial.writer ≡ true → (g.R.AsyncBufRead.taken l.reader ≡ g.R.AsyncBufRead.taken l.initial.reader) × (g.W.AsyncWrite.sent l.writer ≡ g.W.AsyncWrite.sent l.initial.writer);
   stays : g.W.AsyncWrite.saw l.initial.writer ≡ true → g.W.AsyncWrite.saw l.writer ≡ true;
-  told : g.R.AsyncBufRead.told l.reader ≡ g.R.AsyncBufRead.told l.initial.reader;
+  knows_end : g.R.AsyncBufRead.knows_end l.reader ≡ g.R.AsyncBufRead.knows_end l.initial.reader;
   reader_woken : g.R.AsyncBufRead.woken l.initial.reader → g.R.AsyncBufRead.woken l.reader;
   writer_woken : g.W.AsyncWrite.woken l.initial.writer → g.W.AsyncWrite.woken l.writer;
   moved : length (g.R.AsyncBufRead.taken l.initial.reader) + l.counter ≤ length (g.R.AsyncBufRead.taken l.reader);

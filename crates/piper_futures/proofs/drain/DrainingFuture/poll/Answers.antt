@@ -7,7 +7,7 @@ use Rattle.piper_futures.proofs.drain.DrainingFuture.poll.Goals as goal
 
 pub returns-in-Pending-clause-same : goal.returns-in-Pending-clause-same
 returns-in-Pending-clause-same g c = λ output gave.
-    let before = drained_then g.R.AsyncBufRead.taken g.R.AsyncBufRead.known g.R.AsyncBufRead.saw g.R.AsyncBufRead.told g.R.AsyncBufRead.woken g.R.AsyncBufRead.fails g.D.Write.contents _ _ _ _ c.poll_drain_into.ensures.drains c.poll_drain_into.ensures.stays output gave in
+    let before = drained_then g.R.AsyncBufRead.taken g.R.AsyncBufRead.known g.R.AsyncBufRead.saw g.R.AsyncBufRead.knows_end g.R.AsyncBufRead.woken g.R.AsyncBufRead.fails g.D.Write.contents _ _ _ _ c.poll_drain_into.ensures.drains c.poll_drain_into.ensures.stays output gave in
     search rules
 
 pub returns-in-Ready-Err-clause-value : goal.returns-in-Ready-Err-clause-value

@@ -8,7 +8,7 @@ use Rattle.piper_futures.proofs.read_through.ReadUntilFuture.poll.Goals as goal
 
 pub returns-in-Pending-clause-same : goal.returns-in-Pending-clause-same
 returns-in-Pending-clause-same g c = λ output gave.
-    let before = read_through_then g.R.AsyncBufRead.taken g.R.AsyncBufRead.known g.R.AsyncBufRead.saw g.R.AsyncBufRead.told g.R.AsyncBufRead.woken g.R.AsyncBufRead.fails c.args.self.now.byte c.in-Some.reader c.poll_read_until.new.reader c.in-Some.bytes c.poll_read_until.new.bytes c.in-Pending.ensures.reaches c.poll_read_until.ensures.room c.poll_read_until.ensures.stays output gave in
+    let before = read_through_then g.R.AsyncBufRead.taken g.R.AsyncBufRead.known g.R.AsyncBufRead.saw g.R.AsyncBufRead.knows_end g.R.AsyncBufRead.woken g.R.AsyncBufRead.fails c.args.self.now.byte c.in-Some.reader c.poll_read_until.new.reader c.in-Some.bytes c.poll_read_until.new.bytes c.in-Pending.ensures.reaches c.poll_read_until.ensures.room c.poll_read_until.ensures.stays output gave in
     search rules
 
 pub returns-in-Ready-Err-clause-value : goal.returns-in-Ready-Err-clause-value

@@ -54,7 +54,7 @@ returns-in-Pending-clause-pending g c =
     let longer : length (g.R.AsyncBufRead.taken (reader_of c.args.frames.now)) ≤ length (g.R.AsyncBufRead.taken (reader_of c.loop.frames)) =
     passes_longer (g.R.AsyncBufRead.taken (reader_of c.args.frames.now)) (g.R.AsyncBufRead.taken (reader_of c.loop.frames)) (joined_frames (format_of c.args.frames.now) c.args.out.now.items ++ kept_of c.args.frames.now) (joined_frames (format_of c.args.frames.now) c.loop.out.items) (kept_of c.loop.frames)
     (skips_of c.args.frames.now) (skips_of c.loop.frames) c.loop.invariant.moved in
-    (pending.0, pends_so g.R.AsyncBufRead.known g.R.AsyncBufRead.told g.R.AsyncBufRead.waits _ _ _ _ (λ grew. inr (omega (arith, grew, longer))) pending.1)
+    (pending.0, pends_so g.R.AsyncBufRead.known g.R.AsyncBufRead.knows_end g.R.AsyncBufRead.waits _ _ _ _ (λ grew. inr (omega (arith, grew, longer))) pending.1)
 
 pub loop-preserved : goal.loop-preserved
 loop-preserved g c =

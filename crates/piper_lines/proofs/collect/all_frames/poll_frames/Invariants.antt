@@ -18,6 +18,6 @@ invariant-loop g l = record {
   room : vec_capacity l.initial.out ≤ vec_capacity l.out;
   format : format_of l.frames ≡ format_of l.initial.frames;
   more : length l.initial.out.items + l.counter ≤ length l.out.items;
-  stays : ReaderStays g.R.AsyncBufRead.told g.R.AsyncBufRead.woken (reader_of l.initial.frames) (reader_of l.frames);
+  stays : ReaderStays g.R.AsyncBufRead.knows_end g.R.AsyncBufRead.woken (reader_of l.initial.frames) (reader_of l.frames);
   kept : Keeps l.initial.cx l.cx;
 }

@@ -16,6 +16,6 @@ invariant-loop g l = record {
   room : vec_capacity l.initial.out ≤ vec_capacity l.out;
   end : end_of l.lines ≡ end_of l.initial.lines;
   more : length l.initial.out.items + l.counter ≤ length l.out.items;
-  stays : ReaderStays g.R.AsyncBufRead.told g.R.AsyncBufRead.woken (reader_of l.initial.lines) (reader_of l.lines);
+  stays : ReaderStays g.R.AsyncBufRead.knows_end g.R.AsyncBufRead.woken (reader_of l.initial.lines) (reader_of l.lines);
   kept : Keeps l.initial.cx l.cx;
 }

@@ -45,7 +45,7 @@ loop-init g c = record {
   none_kept = λ some. absurd (omega (arith, some));
   more = λ some. absurd (omega (arith, some));
   stays = (λ seen. seen, λ woken. woken);
-  told = (refl, λ woken. woken);
+  knows = (refl, λ woken. woken);
   kept = λ fact held. held;
 }
 
@@ -72,6 +72,6 @@ loop-preserved g c =
       none_kept = λ some. piece.0;
       more = λ some. omega (arith, moves_some _ _ _ _ _ c.poll_line.ensures.moved (c.loop.invariant.none_kept (omega (arith, some))) piece.1, moves_longer _ _ _ (concat c.loop.invariant.echoing.pieces) (kept_of c.loop.lines) c.loop.invariant.echoing.moved);
       stays = writer_stays g.W.AsyncWrite.saw g.W.AsyncWrite.woken _ _ _ c.loop.invariant.stays c.poll_write_all.ensures.stays;
-      told = reader_stays g.R.AsyncBufRead.told g.R.AsyncBufRead.woken _ _ _ c.loop.invariant.told c.poll_line.ensures.rest.1;
+      knows = reader_stays g.R.AsyncBufRead.knows_end g.R.AsyncBufRead.woken _ _ _ c.loop.invariant.knows c.poll_line.ensures.rest.1;
       kept = search rules;
     }

@@ -19,6 +19,6 @@ invariant-loop g l = record {
   none_kept : 0 < l.counter → kept_of l.lines ≡ [];
   more : 1 < l.counter → length (g.R.AsyncBufRead.taken (reader_of l.initial.lines)) < length (g.R.AsyncBufRead.taken (reader_of l.lines));
   stays : WriterStays g.W.AsyncWrite.saw g.W.AsyncWrite.woken l.initial.writer l.writer;
-  told : ReaderStays g.R.AsyncBufRead.told g.R.AsyncBufRead.woken (reader_of l.initial.lines) (reader_of l.lines);
+  knows : ReaderStays g.R.AsyncBufRead.knows_end g.R.AsyncBufRead.woken (reader_of l.initial.lines) (reader_of l.lines);
   kept : Keeps l.initial.cx l.cx;
 }

@@ -13,7 +13,7 @@ unread_to-requires c = let e = c.self.inside.parts in let i = c.self.invariant i
 
 pub returns : goal.returns
 returns c = let e = c.self.inside.parts in let i = c.self.invariant in let k : ℕ = length e.known.bytes in let sum : e.seat.seen ≡ e.seat.head + k = i.counts.0 in let cap : e.indices.capacity ≡ e.seat.names.capacity = i.fits.0 in
-    let saw = c.load_tail-tail.ensures in let t : ℕ = length c.load_tail-tail.result.1.bytes in let least : e.seat.seen ≤ t = saw.seen in let most : t ≤ e.seat.head + e.seat.names.capacity = saw.within in let heard : length e.heard.bytes ≤ t = saw.told in let told = prefix_length e.told.bytes e.heard.bytes i.stream.1.0 in
+    let saw = c.load_tail-tail.ensures in let t : ℕ = length c.load_tail-tail.result.1.bytes in let least : e.seat.seen ≤ t = saw.seen in let most : t ≤ e.seat.head + e.seat.names.capacity = saw.within in let heard : length e.heard.bytes ≤ t = saw.observed in let observed = prefix_length e.observed.bytes e.heard.bytes i.stream.1.0 in
     let far : c.unread_to.result ≡ t - e.seat.head = c.unread_to.ensures.value ∙ apart _ _ _ e.seat.head t (omega arith) (omega arith) i.cached.0 (saw.tail ∙ ap (λ (n : ℕ). position_of n t) (sym cap)) in
     let taken : length (take e.seat.head e.seat.have) ≡ e.seat.head = length-take-le e.seat.head e.seat.have i.whole.0 in
-    subst (λ (r : ReadView). MayBeUnread r c.unread_to.result) c.self.view_is (record { found = subst (FoundPublished _) (omega arith) saw.found; known = omega arith; told = omega arith; fits = omega arith; end = λ known. let all : t ≡ length e.heard.bytes = ap length (saw.end (heard_end e i known)) in omega arith })
+    subst (λ (r : ReadView). MayBeUnread r c.unread_to.result) c.self.view_is (record { found = subst (FoundPublished _) (omega arith) saw.found; known = omega arith; observed = omega arith; fits = omega arith; end = λ known. let all : t ≡ length e.heard.bytes = ap length (saw.end (heard_end e i known)) in omega arith })

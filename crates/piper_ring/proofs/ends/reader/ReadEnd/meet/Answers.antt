@@ -43,7 +43,7 @@ invariant_of-self c = let e = c.self.inside.parts in let i = c.self.invariant in
     let seen : c.meet-arrived.new.self.seen ≡ length sent = (λ j. (s j).seen) in let top : c.meet-arrived.new.self.head ≡ head = (λ j. (s j).head) in let have : c.meet-arrived.new.self.have ≡ sent = (λ j. (s j).have) in
     let own : e.indices.capacity ≡ e.seat.names.capacity = i.fits.0 in let below : length sent ≤ w.seat.limit = sent_below w o in let turn : w.seat.limit + length c.meet-arrived.result.1.bytes ≡ head + e.seat.names.capacity = m.room in
     let pos : 0 < e.indices.capacity = i.fits.1 in let small : e.indices.capacity < 2 ^ 63 = i.fits.2 in let low : head ≤ length e.seat.have = i.whole.0 in
-    let told : Stream = (e.told.bytes, e.told.shut) in let saw : Stream = (e.saw.bytes, e.saw.shut) in let heard : Stream = (e.heard.bytes, e.heard.shut) in let now : Stream = (c.observe.new.self.bytes, c.observe.new.self.shut) in
+    let observed : Stream = (e.observed.bytes, e.observed.shut) in let saw : Stream = (e.saw.bytes, e.saw.shut) in let heard : Stream = (e.heard.bytes, e.heard.shut) in let now : Stream = (c.observe.new.self.bytes, c.observe.new.self.shut) in
     let mark : c.mark.result.bytes ≡ c.meet-arrived.new.self.have = c.mark.ensures.1 ∙ (λ j. (m.writer j).sent) ∙ sym have in let long : length c.meet-arrived.new.self.have ≡ length sent = ap length have in
     record {
       fits = (cap ∙ i.fits.0 ∙ ap (λ (z : Names). z.capacity) (sym (λ j. (s j).names)), omega arith, omega arith);
@@ -51,7 +51,7 @@ invariant_of-self c = let e = c.self.inside.parts in let i = c.self.invariant in
       counts = (omega arith, omega arith);
       cached = (ap (λ (r : ReaderIndices). r.head) after ∙ i.cached.0 ∙ sym (λ j. position_of (cap j) (top j)), ap (λ (r : ReaderIndices). r.tail) after ∙ c.tail.ensures.value ∙ o.cached.0 ∙ (λ j. position_of ((theirs ∙ sym cap) j) (sym seen j)));
       heard = (i.heard.0 ∙ sym (λ j. (s j).names), i.heard.1 ∙ sym (λ j. (s j).names), h.ring ∙ i.heard.2 ∙ sym (λ j. (s j).names));
-      stream = (subst (λ (l : List ℕ). IsPrefix l c.observe.new.self.bytes) mark h.observed.0, reaches_trans told heard now i.stream.1 h.kept, reaches_trans saw heard now i.stream.2 h.kept);
+      stream = (subst (λ (l : List ℕ). IsPrefix l c.observe.new.self.bytes) mark h.observed.0, reaches_trans observed heard now i.stream.1 h.kept, reaches_trans saw heard now i.stream.2 h.kept);
       leased = (i.leased.0 ∙ ap (λ (z : Names). z.life) (sym (λ j. (s j).names)), i.leased.1);
       whole = (omega arith, have ∙ sym m.published ∙ whole_with_more e.seat.have e.known.bytes more head i.whole.0 i.whole.1 ∙ (λ j. take (sym top j) ((m.published ∙ sym have) j) ++ (sym k j).bytes));
       here = (λ j. (s j).leaving) ∙ i.here;
@@ -90,12 +90,12 @@ invariant_of-other c = let e = c.self.inside.parts in let i = c.self.invariant i
 
 pub returns : goal.returns
 returns c = let e = c.self.inside.parts in let i = c.self.invariant in let m = c.meet-arrived.ensures in let s = m.reader in let k = c.join.ensures in let head : ℕ = e.seat.head in let more : List ℕ = c.meet-arrived.result.0.bytes in let now : Stream = (c.observe.new.self.bytes, c.observe.new.self.shut) in
-    let cap : c.set_tail.new.self.capacity ≡ e.indices.capacity = ap (λ (r : ReaderIndices). r.capacity) c.set_tail.ensures.after in let next : ReadView = read_view (ring_of c.meet-arrived.new.self.words c.meet-arrived.new.self.at c.meet-arrived.new.self.names) c.set_tail.new.self.capacity (take c.meet-arrived.new.self.head c.meet-arrived.new.self.have) c.join.new.self.bytes (length e.told.bytes) e.told.shut e.saw.shut c.observe.new.self.bytes in
+    let cap : c.set_tail.new.self.capacity ≡ e.indices.capacity = ap (λ (r : ReaderIndices). r.capacity) c.set_tail.ensures.after in let next : ReadView = read_view (ring_of c.meet-arrived.new.self.words c.meet-arrived.new.self.at c.meet-arrived.new.self.names) c.set_tail.new.self.capacity (take c.meet-arrived.new.self.head c.meet-arrived.new.self.have) c.join.new.self.bytes (length e.observed.bytes) e.observed.shut e.saw.shut c.observe.new.self.bytes in
     record {
       fifo = grind (arith, common_steps);
       room = grind (arith, common_steps);
       shut = grind (arith, common_steps);
-      told = grind (arith, common_steps);
+      observed = grind (arith, common_steps);
       last = grind (arith, common_steps);
       other_shut = grind (arith, common_steps);
       writer = grind (arith, common_steps);
@@ -103,6 +103,6 @@ returns c = let e = c.self.inside.parts in let i = c.self.invariant in let m = c
         more = (more, λ j. (k j).bytes);
         all = λ known. all_stays e i known now c.observe.ensures.kept;
         rest = let taken = (λ j. take ((s j).head) ((s j).have)) ∙ ap (take head) (sym m.published) ∙ taken_stays e.seat.have e.known.bytes more head i.whole.0 i.whole.1 in
-            λ j. read_view (ring_of (s j).words (s j).at (s j).names) (cap j) (taken j) c.join.new.self.bytes (length e.told.bytes) e.told.shut e.saw.shut c.observe.new.self.bytes;
+            λ j. read_view (ring_of (s j).words (s j).at (s j).names) (cap j) (taken j) c.join.new.self.bytes (length e.observed.bytes) e.observed.shut e.saw.shut c.observe.new.self.bytes;
       });
     }

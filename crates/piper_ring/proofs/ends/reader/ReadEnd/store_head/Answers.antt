@@ -44,5 +44,5 @@ returns c = let e = c.self.inside.parts in let i = c.self.invariant in let s = c
     let top : c.store_head.new.self.head ≡ head + n = (λ j. (s j).head) ∙ ap (λ (m : ℕ). head + m) back in
     let taken : take c.store_head.new.self.head c.store_head.new.self.have ≡ take head e.seat.have ++ take n K = (λ j. take (top j) ((s j).have)) ∙ taken_more e.seat.have K head n i.whole.0 i.whole.1 in
     let cap : c.consume.new.self.capacity ≡ e.indices.capacity = ap (λ (r : ReaderIndices). r.capacity) c.consume.ensures.after in
-    (λ j. read_view (ring_of (s j).words (s j).at (s j).names) (cap j) (taken j) ((d.rest j).bytes) (length e.told.bytes) e.told.shut e.saw.shut e.heard.bytes)
+    (λ j. read_view (ring_of (s j).words (s j).at (s j).names) (cap j) (taken j) ((d.rest j).bytes) (length e.observed.bytes) e.observed.shut e.saw.shut e.heard.bytes)
     ∙ ap (λ (r : ReadView). record r { taken = r.taken ++ take n r.known; known = drop_list n r.known }) c.self.view_is

@@ -32,11 +32,11 @@ returns c = let e = c.self.inside.parts in let i = c.self.invariant in let w = e
     let most : len ≤ min (min c.args.max (lend_bound w.zeroed)) (min (room_in w) (left_in w)) = lends_within c.args.max w len count in
     let room : room_in w ≡ e.seat.limit - s = room_apart e i in let left : left_in w ≡ cap - from = ap (λ (k : ℕ). cap - k) (sym c.front-from.ensures.value) in
     let may : Lendable (write_view_of e) c.args.max len = ((λ shut. lends_none c.args.max w len count (i.closed ∙ shut)), omega arith, λ open_still. let most_of = lends_most e i c.args.max len count (i.closed ∙ open_still) in omega arith) in
-    let told : Lendable c.args.self.now c.args.max len = subst (λ (v : WriteView). Lendable v c.args.max len) c.self.view_is may in (
-      (refl, λ ws. (λ j. write_view (ring_of e.seat.words e.seat.at e.seat.names) (kept j) e.seat.sent (e.seat.limit - s) (written c.slice_mut.result.now ws) e.seat.shut e.told.count (either e.seat.shut e.saw.seen)) ∙ ap (λ (v : WriteView). with_lent v c.slice_mut.result.now ws) c.self.view_is),
+    let observed : Lendable c.args.self.now c.args.max len = subst (λ (v : WriteView). Lendable v c.args.max len) c.self.view_is may in (
+      (refl, λ ws. (λ j. write_view (ring_of e.seat.words e.seat.at e.seat.names) (kept j) e.seat.sent (e.seat.limit - s) (written c.slice_mut.result.now ws) e.seat.shut e.observed.count (either e.seat.shut e.saw.seen)) ∙ ap (λ (v : WriteView). with_lent v c.slice_mut.result.now ws) c.self.view_is),
       record {
         writes = tt;
-        length = subst (λ (k : ℕ). Lendable c.args.self.now c.args.max k) (sym long) told;
+        length = subst (λ (k : ℕ). Lendable c.args.self.now c.args.max k) (sym long) observed;
         some = λ open_still any asked. let all = lends_all c.args.max w len count (i.closed ∙ ap (λ (v : WriteView). v.shut) c.self.view_is ∙ open_still) in let same : e.seat.limit - s ≡ c.args.self.now.room = ap (λ (v : WriteView). v.room) c.self.view_is in omega arith;
       },
     )

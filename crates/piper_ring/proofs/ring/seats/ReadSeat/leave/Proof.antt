@@ -41,13 +41,13 @@ leave_spec 𝓤 𝓛 𝓜 𝓡 wired =
     Calls-last ! (fm 𝓛 𝓜 𝓡) (found out) (and_then ! (get ! refl) (and_then ! (lit ! tt) (and_then ! (get ! refl) (no_more !)))) (λ u. finds ! out (λ n fits.
     lands_last ! refl (tt, record { fits = fits }) $ exec ! 𝓣.C 𝓣.Λ Ev (from_on 2 fn.body) (at_ret Ev Post) $ sets ! (of_opd ! (get ! refl)) refl (tt, record { fits = fits }) $
     sets ! (agg ! (and_then ! (get ! refl) (no_more !))) refl (tt, (tt, tt)) $ sets ! (agg ! (and_then ! (get ! refl) (and_then ! (get ! refl) (no_more !)))) refl (tt, (record { fits = fits }, ((tt, tt), tt))) $
-    fpick ! (λ last. fsplit ! $ fpick ! (λ told. drop ! $ rewrite ! 0 (λ (r : Ptr). ‵ (where_gone last (shared.whole r p z))) isw refl $
+    fpick ! (λ last. fsplit ! $ fpick ! (λ observed. drop ! $ rewrite ! 0 (λ (r : Ptr). ‵ (where_gone last (shared.whole r p z))) isw refl $
     let rest : Remains.the_row.Denot = record { words = w'; at = p; names = z; last = last } in
     nothing ! $ fpack ! (Placed w' p z) (λ _. ftrue) (tt, at.1, at.2) $ fjoin ! $ use0 𝓛 (‵ (PointerData.own_val (w', tt) (pointer_val w' ∷ []))) (pointer_made 𝓛 w') $ fjoin ! $
     flt_i ! n (2 ^ 64) fits $ feq_i ! (List Val) (vint w64 n ∷ []) (vint w64 n ∷ []) refl $ fjoin ! $
     use2 𝓛 (‵ ((denote.Struct.Tuple.Tuple (u64 ∷ Remains.the_row ∷ [])).own_val (n, rest) (pair_val (vint w64 n) (pointer_val w') ∷ []))) (pair_of 𝓛 u64 Remains.the_row n rest (vint w64 n) (pointer_val w')) $
     use0 𝓛 (raw (fact 𝓤 (FoundGone z n))) (fact_i 𝓤 (FoundGone z n) (emp 𝓤) (as_gone z n)) $
     use0 𝓛 (raw (fact 𝓤 (z ≡ z))) (fact_i 𝓤 (z ≡ z) (emp 𝓤) refl) $ join ! $ use0 𝓛 (raw (fact 𝓤 ((w' ≡ w) × (p ≡ p)))) (fact_i 𝓤 ((w' ≡ w) × (p ≡ p)) (emp 𝓤) (sym isw, refl)) $ join ! $
-    use0 𝓛 (raw (fact 𝓤 (n ≡ flag last))) (fact_i 𝓤 (n ≡ flag last) (emp 𝓤) told) $ join ! $
+    use0 𝓛 (raw (fact 𝓤 (n ≡ flag last))) (fact_i 𝓤 (n ≡ flag last) (emp 𝓤) observed) $ join ! $
     nothing ! $ nothing ! $ fjoin ! $ nothing ! $ fjoin ! $ nothing ! $ fjoin ! $ nothing ! $
     returns ! (look_at ! 0 refl) $ free_all ! refl $ keep ! (0 ∷ 1 ∷ 3 ∷ 2 ∷ []) $ by ! (leaves 𝓛 En hs c y (pair_val (vint w64 n) (pointer_val w')) (n, rest) (tt, (tt, (tt, tt))) (tt, (tt, (tt, tt))))))))))))

@@ -38,12 +38,12 @@ load_closed_spec 𝓤 𝓛 𝓜 𝓡 wired =
     sets ! (agg ! (and_then ! (lit ! tt) (no_more !))) refl (tt, (record { fits = lit< tt }, tt)) $
     Calls-last ! (fm 𝓛 𝓜 𝓡) (found out) (and_then ! (get ! refl) (and_then ! (get ! refl) (no_more !))) (λ u. finds ! out (λ n fits.
     lands_last ! refl (tt, record { fits = fits }) $ exec ! 𝓣.C 𝓣.Λ Ev (tail fn.body) (at_ret Ev Post) $ sets ! (of_opd ! (get ! refl)) refl (tt, record { fits = fits }) $
-    fsplit ! $ fpick ! (λ over. fsplit ! $ fpick ! (λ told. drop ! $ move ! (2 ∷ 1 ∷ []) $ obor_close ! tt $ drop ! $
+    fsplit ! $ fpick ! (λ over. fsplit ! $ fpick ! (λ observed. drop ! $ move ! (2 ∷ 1 ∷ []) $ obor_close ! tt $ drop ! $
     let k' : SRow.Denot = record k { bytes = over.0; shut = over.1 } in
     rewrite ! 1 (λ (m : Names). ‵ (announced m over.0 over.1)) {x = k.names} {y = z} (sym asked.0) refl $ move ! (2 ∷ 1 ∷ []) $ fjoin ! $ move ! (2 ∷ 0 ∷ 3 ∷ 4 ∷ 5 ∷ []) $ closes ! tt SRow k' vs' b' o' $
     feq_i ! (List Val) (vptr b' o' ∷ []) (vptr b' o' ∷ []) refl $ fjoin3 ! $ nothing ! $ nothing ! $ fjoin ! $ move ! (1 ∷ 0 ∷ []) $ fjoin ! $ nothing ! $ fjoin ! $ nothing ! $ move ! (4 ∷ 0 ∷ []) $ join ! $ move ! (2 ∷ 0 ∷ []) $ join ! $ move ! (2 ∷ 0 ∷ []) $ join ! $
-    let answer : n ≡ flag over.1 = told.0 in let heard : flag t.shut ≤ flag over.1 = told.2 in
+    let answer : n ≡ flag over.1 = observed.0 in let heard : flag t.shut ≤ flag over.1 = observed.2 in
     use0 𝓛 (raw (fact 𝓤 (FoundClosed z over.1))) (fact_i 𝓤 (FoundClosed z over.1) (emp 𝓤) (as_closed z over.1)) $
-    use0 𝓛 (raw (fact 𝓤 (flag t.shut ≤ n))) (fact_i 𝓤 (flag t.shut ≤ n) (emp 𝓤) (omega arith)) $ join ! $ use0 𝓛 (raw (fact 𝓤 (Reaches old over))) (fact_i 𝓤 (Reaches old over) (emp 𝓤) told.1) $ join ! $
+    use0 𝓛 (raw (fact 𝓤 (flag t.shut ≤ n))) (fact_i 𝓤 (flag t.shut ≤ n) (emp 𝓤) (omega arith)) $ join ! $ use0 𝓛 (raw (fact 𝓤 (Reaches old over))) (fact_i 𝓤 (Reaches old over) (emp 𝓤) observed.1) $ join ! $
     use0 𝓛 (raw (fact 𝓤 (n ≡ flag over.1))) (fact_i 𝓤 (n ≡ flag over.1) (emp 𝓤) answer) $ join ! $ use0 𝓛 (raw (fact 𝓤 (k.names ≡ k.names))) (fact_i 𝓤 (k.names ≡ k.names) (emp 𝓤) refl) $ join ! $ flt_i ! n (2 ^ 64) fits $ feq_i ! (List Val) (vint w64 n ∷ []) (vint w64 n ∷ []) refl $ fjoin ! $
     returns ! (look_at ! 0 refl) $ free_all ! refl $ keep ! (2 ∷ 3 ∷ 0 ∷ 1 ∷ []) $ by ! (leaves 𝓛 En hs c y (vint w64 n) n (tt, (k', (tt, tt))) (tt, (tt, (tt, tt)))))))))))))))

@@ -10,9 +10,9 @@ use Rattle.piper_ring.proofs.ring.seats.ReadSeat.load_tail as own
 pub load_tail_spec : {M : Type 1} → own.Statement.statement M
 load_tail_spec 𝓤 𝓛 𝓜 𝓡 wired =
     let H = 𝓛.H in let 𝓣 = tables 𝓤 H 𝓜 𝓡 𝓡.env in let En = Seat.load_tail.ended in let fn = own.Code.function in let c = Seat.load_tail.clauses 𝓛 𝓜.mem 𝓡.returns in
-    let self = RefOf (0 ∷ []) tt (plain (λ _. Seat.the_row)) (λ _. tt) in let told = RefOf (1 ∷ []) tt (plain (λ _. Mark.the_row)) (λ _. tt) in
-    let hs : Stays En.signature.params En.kept = (stay_dropped self yes, (stay_dropped told yes, tt)) in
-    proved 𝓛 En hs c 𝓜 𝓡 (Goes-dropped 𝓛 2 self yes (λ κs x f. refl), (Goes-dropped 𝓛 2 told yes (λ κs x f. refl), tt)) Seat.load_tail.Key.name fn (own.Code.unfolded 𝓤 H 𝓜 𝓡 wired)
+    let self = RefOf (0 ∷ []) tt (plain (λ _. Seat.the_row)) (λ _. tt) in let observed = RefOf (1 ∷ []) tt (plain (λ _. Mark.the_row)) (λ _. tt) in
+    let hs : Stays En.signature.params En.kept = (stay_dropped self yes, (stay_dropped observed yes, tt)) in
+    proved 𝓛 En hs c 𝓜 𝓡 (Goes-dropped 𝓛 2 self yes (λ κs x f. refl), (Goes-dropped 𝓛 2 observed yes (λ κs x f. refl), tt)) Seat.load_tail.Key.name fn (own.Code.unfolded 𝓤 H 𝓜 𝓡 wired)
     (λ κs. (shr_vals, (shr_vals, tt))) (λ κs. (shr_Tells (named 0) κs.0 Seat.the_row, (shr_Tells (named 1) κs.1.0 Mark.the_row, tt))) (λ κs qs bounds a gh are.
     let b : ℕ = a.0.ref_ptr.0 in let o : ℕ = a.0.ref_ptr.1 in let h = a.0.now in let w : Ptr = h.words in let p : Ptr = h.at in let z : Names = h.names in let t = a.1.0.now in let b2 : ℕ = a.1.0.ref_ptr.0 in let o2 : ℕ = a.1.0.ref_ptr.1 in let κ = κs.0 in
     let C : Fml = common w p z in let Φ : Share → Fml = λ s. reader_knows w p z s h.head h.seen (flag h.leaving) in

@@ -38,10 +38,10 @@ publish_waker_spec 𝓤 𝓛 𝓜 𝓡 wired =
     sets ! (agg ! (and_then ! (lit ! tt) (no_more !))) refl (tt, (record { fits = lit< tt }, tt)) $
     Calls-last ! (fm 𝓛 𝓜 𝓡) (stored (out 0)) (and_then ! (get ! refl) (and_then ! (lit ! tt) (and_then ! (get ! refl) (no_more !)))) (λ u. has_stored ! (out 0) (
     lands_last ! refl (tt, tt) $ exec ! 𝓣.C 𝓣.Λ Ev (tail fn.body) (at_ret Ev Post) $ sets ! (agg ! (no_more !)) refl (tt, tt) $ sets ! (agg ! (and_then ! (get ! refl) (no_more !))) refl (tt, (tt, tt)) $
-    fpick ! (λ r. let v : Waits Stored = r.1.0 in fsplit3 ! $ fpick ! (λ told. drop ! $ use0 𝓛 (‵ (GhostData.own_val (record {}, tt) (ghost_val ∷ []))) (ghost_made 𝓛) $ fjoin ! $ move ! (1 ∷ []) $ fsplit ! $ move ! (3 ∷ 1 ∷ []) $ obor_close ! tt $ drop ! $ move ! (1 ∷ []) $ fsplit ! $ move ! (1 ∷ []) $ drop ! $ move ! (1 ∷ 0 ∷ []) $
+    fpick ! (λ r. let v : Waits Stored = r.1.0 in fsplit3 ! $ fpick ! (λ observed. drop ! $ use0 𝓛 (‵ (GhostData.own_val (record {}, tt) (ghost_val ∷ []))) (ghost_made 𝓛) $ fjoin ! $ move ! (1 ∷ []) $ fsplit ! $ move ! (3 ∷ 1 ∷ []) $ obor_close ! tt $ drop ! $ move ! (1 ∷ []) $ fsplit ! $ move ! (1 ∷ []) $ drop ! $ move ! (1 ∷ 0 ∷ []) $
     let k' : SRow.Denot = record k { owns = v.0; tickets = v.1.0; heard = v.1.1 } in let mark : Mark.the_row.Denot = record { mark = record {}; names = z; bytes = r.0.bytes; shut = r.0.closed } in
     rewrite ! 1 (λ (m : Names × Bool). ‵ (waits_in m.0 m.1 v.0 v.1.0 v.1.1)) {x = (k.names, k.for_reader)} {y = (z, true)} (λ i. (sym asked.0 i, sym asked.1 i)) refl $ move ! (3 ∷ 1 ∷ []) $ fjoin ! $ move ! (3 ∷ 0 ∷ 4 ∷ 5 ∷ 6 ∷ []) $ closes ! tt SRow k' vs' b' o' $
     feq_i ! (List Val) (vptr b' o' ∷ []) (vptr b' o' ∷ []) refl $ fjoin3 ! $ nothing ! $ nothing ! $ fjoin ! $ move ! (1 ∷ 0 ∷ []) $ fjoin ! $ nothing ! $ fjoin ! $ nothing ! $ move ! (2 ∷ 0 ∷ []) $ join ! $ move ! (2 ∷ 0 ∷ []) $ join ! $
-    use0 𝓛 (raw (fact 𝓤 (PublishesWaker Stored view v.1.1 0 v))) (fact_i 𝓤 (PublishesWaker Stored view v.1.1 0 v) (emp 𝓤) (told ∙ ap (λ (u : Stored). (false, (view.1.0 + 1, u))) (sym (ap (λ (u : Waits Stored). u.1.1) told)))) $
-    let Heard : Type 0 = (v.1.1.bytes ≡ r.0.bytes) × (v.1.1.closed ≡ r.0.closed) in use0 𝓛 (raw (fact 𝓤 Heard)) (fact_i 𝓤 Heard (emp 𝓤) (ap (λ (u : Waits Stored). u.1.1.bytes) told, ap (λ (u : Waits Stored). u.1.1.closed) told)) $ join ! $ use0 𝓛 (raw (fact 𝓤 (z ≡ z))) (fact_i 𝓤 (z ≡ z) (emp 𝓤) refl) $ join ! $ let Same : Type 0 = k' ≡ record k { owns = k'.owns; tickets = k'.tickets; heard = k'.heard } in use0 𝓛 (raw (fact 𝓤 Same)) (fact_i 𝓤 Same (emp 𝓤) refl) $ join ! $ move ! (3 ∷ []) $
+    use0 𝓛 (raw (fact 𝓤 (PublishesWaker Stored view v.1.1 0 v))) (fact_i 𝓤 (PublishesWaker Stored view v.1.1 0 v) (emp 𝓤) (observed ∙ ap (λ (u : Stored). (false, (view.1.0 + 1, u))) (sym (ap (λ (u : Waits Stored). u.1.1) observed)))) $
+    let Heard : Type 0 = (v.1.1.bytes ≡ r.0.bytes) × (v.1.1.closed ≡ r.0.closed) in use0 𝓛 (raw (fact 𝓤 Heard)) (fact_i 𝓤 Heard (emp 𝓤) (ap (λ (u : Waits Stored). u.1.1.bytes) observed, ap (λ (u : Waits Stored). u.1.1.closed) observed)) $ join ! $ use0 𝓛 (raw (fact 𝓤 (z ≡ z))) (fact_i 𝓤 (z ≡ z) (emp 𝓤) refl) $ join ! $ let Same : Type 0 = k' ≡ record k { owns = k'.owns; tickets = k'.tickets; heard = k'.heard } in use0 𝓛 (raw (fact 𝓤 Same)) (fact_i 𝓤 Same (emp 𝓤) refl) $ join ! $ move ! (3 ∷ []) $
     returns ! (look_at ! 0 refl) $ free_all ! refl $ keep ! (2 ∷ 3 ∷ 0 ∷ 1 ∷ []) $ by ! (leaves 𝓛 En hs c y ghost_val mark (tt, (k', (tt, tt))) (tt, (tt, (tt, tt)))))))))))))))

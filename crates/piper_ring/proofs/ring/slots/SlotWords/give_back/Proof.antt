@@ -33,8 +33,8 @@ give_back_spec 𝓤 𝓛 𝓜 𝓡 wired =
     use3 𝓛 (raw (𝓣.C _ (vptr bw e ∷ vint w64 1 ∷ seq_cst ∷ []) (λ u. mean 𝓛 (stored (out 0) u)))) (via 𝓤 _ (give_back 𝓛 w p z s who r view x asked.2) (stores 𝓛 𝓜 𝓡 (own.Code.calls-core::raw_atomic::store 𝓡.env wired) (block_ptr bw e) 1 (lit< tt) (out 0))) $
     sets ! (agg ! (and_then ! (lit ! tt) (no_more !))) refl (tt, (record { fits = lit< tt }, tt)) $ Calls-last ! (fm 𝓛 𝓜 𝓡) (stored (out 0)) (and_then ! (get ! refl) (and_then ! (lit ! tt) (and_then ! (get ! refl) (no_more !)))) (λ u. has_stored ! (out 0) (
     lands_last ! refl (tt, tt) $ exec ! 𝓣.C 𝓣.Λ Ev (from_on 2 fn.body) (at_ret Ev Post) $ sets ! (of_opd ! (unit_lit !)) refl (tt, tt) $
-    fpick ! (λ got. let v : Wakes Stored = got.0 in fsplit3 ! $ fpick ! (λ told. drop ! $ move ! (2 ∷ 1 ∷ []) $ obor_close ! tt $ drop ! $ move ! (1 ∷ []) $ fsplit ! $ move ! (1 ∷ []) $ drop ! $ let k' : SRow.Denot = record k { holds = v.0; taken = v.1.0; stored = v.1.1 } in
+    fpick ! (λ got. let v : Wakes Stored = got.0 in fsplit3 ! $ fpick ! (λ observed. drop ! $ move ! (2 ∷ 1 ∷ []) $ obor_close ! tt $ drop ! $ move ! (1 ∷ []) $ fsplit ! $ move ! (1 ∷ []) $ drop ! $ let k' : SRow.Denot = record k { holds = v.0; taken = v.1.0; stored = v.1.1 } in
     rewrite ! 0 (λ (m : Names). ‵ (wakes_in m r v.0 v.1.0 v.1.1)) {x = k.names} {y = z} (sym asked.0) refl $ move ! (2 ∷ 0 ∷ []) $ fjoin ! $ move ! (2 ∷ 0 ∷ 3 ∷ 4 ∷ 5 ∷ []) $ closes ! tt SRow k' vs b o $
     feq_i ! (List Val) (vptr b o ∷ []) (vptr b o ∷ []) refl $ fjoin3 ! $ nothing ! $ nothing ! $ fjoin ! $ nothing ! $ fjoin ! $ move ! (1 ∷ 0 ∷ []) $ fjoin ! $ nothing ! $ fjoin ! $ nothing ! $ move ! (2 ∷ 0 ∷ []) $ join ! $ move ! (2 ∷ 0 ∷ []) $ join ! $
-    use0 𝓛 (raw (fact 𝓤 (GivesBack Stored view x 0 v))) (fact_i 𝓤 (GivesBack Stored view x 0 v) (emp 𝓤) told) $ let Same : Type 0 = k' ≡ record k { holds = k'.holds; taken = k'.taken; stored = k'.stored } in use0 𝓛 (raw (fact 𝓤 Same)) (fact_i 𝓤 Same (emp 𝓤) refl) $ join ! $ feq_i ! (List Val) (vunit ∷ []) (vunit ∷ []) refl $
+    use0 𝓛 (raw (fact 𝓤 (GivesBack Stored view x 0 v))) (fact_i 𝓤 (GivesBack Stored view x 0 v) (emp 𝓤) observed) $ let Same : Type 0 = k' ≡ record k { holds = k'.holds; taken = k'.taken; stored = k'.stored } in use0 𝓛 (raw (fact 𝓤 Same)) (fact_i 𝓤 Same (emp 𝓤) refl) $ join ! $ feq_i ! (List Val) (vunit ∷ []) (vunit ∷ []) refl $
     returns ! (look_at ! 0 refl) $ free_all ! refl $ keep ! (2 ∷ 3 ∷ 0 ∷ 1 ∷ []) $ by ! (leaves 𝓛 En hs c y vunit tt (tt, (k', (tt, (tt, tt)))) (tt, (tt, (tt, (tt, tt))))))))))))))))

@@ -26,11 +26,11 @@ meet_slot_spec 𝓤 𝓛 𝓜 𝓡 wired =
     move ! (12 ∷ 14 ∷ []) $ shr_bor-open ! tt (known_halves 𝓛 w p z who) (λ s. move ! (14 ∷ 1 ∷ 3 ∷ 5 ∷ []) $
     rewrite ! 2 (λ (u : Names). ‵ (V u)) {x = z} {y = k.names} asked.0 refl $ rewrite ! 3 (λ (u : Names × Bool). ‵ (U u)) {x = (z, r)} {y = (m.names, m.for_reader)} (λ i. (asked.1 i, asked.2 i)) refl $
     move ! (2 ∷ 3 ∷ []) $ join ! $ move ! (2 ∷ 0 ∷ []) $ join ! $ move ! (1 ∷ 0 ∷ []) $
-    use2 𝓛 (later (given (IsRemembered Stored view other) (‵ (knows w p z who s) ⊛ ‵ (V z) ⊛ ‵ (U (z, r))))) (meet 𝓛 w p z s who r view other) $ await ! tt $ learn ! (λ told. split3 ! $ move ! (3 ∷ 0 ∷ []) $ obor_close ! tt $ drop ! $
+    use2 𝓛 (later (given (IsRemembered Stored view other) (‵ (knows w p z who s) ⊛ ‵ (V z) ⊛ ‵ (U (z, r))))) (meet 𝓛 w p z s who r view other) $ await ! tt $ learn ! (λ observed. split3 ! $ move ! (3 ∷ 0 ∷ []) $ obor_close ! tt $ drop ! $
     rewrite ! 1 (λ (u : Names). ‵ (V u)) {x = k.names} {y = z} (sym asked.0) refl $ rewrite ! 2 (λ (u : Names × Bool). ‵ (U u)) {x = (m.names, m.for_reader)} {y = (z, r)} (λ i. (sym asked.1 i, sym asked.2 i)) refl $
     move ! (4 ∷ 2 ∷ []) $ fjoin ! $ move ! (4 ∷ 0 ∷ 5 ∷ 6 ∷ 7 ∷ []) $ closes ! tt TRow m vs2 b2 o2 $ feq_i ! (List Val) (vptr b2 o2 ∷ []) (vptr b2 o2 ∷ []) refl $ fjoin3 ! $
     move ! (4 ∷ 3 ∷ []) $ fjoin ! $ move ! (4 ∷ 0 ∷ 5 ∷ 6 ∷ 7 ∷ []) $ closes ! tt ORow k vs b o $ feq_i ! (List Val) (vptr b o ∷ []) (vptr b o ∷ []) refl $ fjoin3 ! $
     sets ! (of_opd ! (unit_lit !)) refl (tt, tt) $
     nothing ! $ move ! (3 ∷ 0 ∷ []) $ fjoin ! $ move ! (1 ∷ 0 ∷ []) $ fjoin ! $ nothing ! $ fjoin ! $ nothing ! $ move ! (3 ∷ 0 ∷ []) $ join ! $ move ! (2 ∷ 0 ∷ []) $ join ! $ move ! (2 ∷ 0 ∷ []) $ join ! $
-    use0 𝓛 (raw (fact 𝓤 ((k ≡ k) × (m ≡ m)))) (fact_i 𝓤 ((k ≡ k) × (m ≡ m)) (emp 𝓤) (refl, refl)) $ use0 𝓛 (raw (fact 𝓤 (IsRemembered Stored view other))) (fact_i 𝓤 (IsRemembered Stored view other) (emp 𝓤) told) $ join ! $
+    use0 𝓛 (raw (fact 𝓤 ((k ≡ k) × (m ≡ m)))) (fact_i 𝓤 ((k ≡ k) × (m ≡ m)) (emp 𝓤) (refl, refl)) $ use0 𝓛 (raw (fact 𝓤 (IsRemembered Stored view other))) (fact_i 𝓤 (IsRemembered Stored view other) (emp 𝓤) observed) $ join ! $
     feq_i ! (List Val) (vunit ∷ []) (vunit ∷ []) refl $ returns ! (look_at ! 0 refl) $ free_all ! refl $ keep ! (2 ∷ 3 ∷ 0 ∷ 1 ∷ []) $ by ! (leaves 𝓛 En hs c y vunit tt (tt, (k, (m, tt))) (tt, (tt, (tt, tt)))))))))))))

@@ -31,12 +31,12 @@ reclaim_spec 𝓤 𝓛 𝓜 𝓡 wired =
     sets ! (agg ! (and_then ! (lit ! tt) (no_more !))) refl (tt, (record { fits = lit< tt }, tt)) $ Calls-last ! (fm 𝓛 𝓜 𝓡) (found out) (and_then ! (get ! refl) (and_then ! (lit ! tt) (and_then ! (get ! refl) (no_more !)))) (λ u. finds ! out (λ n fits.
     lands_last ! refl (tt, record { fits = fits }) $ exec ! 𝓣.C 𝓣.Λ Ev (from_on 2 fn.body) (at_ret Ev Post) $ sets ! (of_opd ! (get ! refl)) refl (tt, record { fits = fits }) $
     sets ! (agg ! (no_more !)) refl (tt, tt) $ sets ! (agg ! (and_then ! (get ! refl) (no_more !))) refl (tt, (tt, tt)) $ sets ! (agg ! (and_then ! (get ! refl) (and_then ! (get ! refl) (no_more !)))) refl (tt, (record { fits = fits }, ((tt, tt), tt))) $
-    fpick ! (λ got. let v : Waits Stored = got.1.0 in fsplit3 ! $ fpick ! (λ told. drop ! $ drop ! $ fsplit ! $ move ! (2 ∷ 1 ∷ []) $ obor_close ! tt $ drop ! $ move ! (1 ∷ []) $ fsplit ! $ let k' : SRow.Denot = record k { owns = v.0; tickets = v.1.0; heard = v.1.1 } in
+    fpick ! (λ got. let v : Waits Stored = got.1.0 in fsplit3 ! $ fpick ! (λ observed. drop ! $ drop ! $ fsplit ! $ move ! (2 ∷ 1 ∷ []) $ obor_close ! tt $ drop ! $ move ! (1 ∷ []) $ fsplit ! $ let k' : SRow.Denot = record k { owns = v.0; tickets = v.1.0; heard = v.1.1 } in
     rewrite ! 0 (λ (m : Names). ‵ (waits_in m r v.0 v.1.0 v.1.1)) {x = k.names} {y = z} (sym asked.0) refl $ move ! (3 ∷ 0 ∷ []) $ fjoin ! $ move ! (3 ∷ 0 ∷ 4 ∷ 5 ∷ 6 ∷ []) $ closes ! tt SRow k' vs b o $
     feq_i ! (List Val) (vptr b o ∷ []) (vptr b o ∷ []) refl $ fjoin3 ! $ nothing ! $ nothing ! $ fjoin ! $ move ! (1 ∷ 0 ∷ []) $ fjoin ! $ nothing ! $ fjoin ! $ nothing ! $ move ! (2 ∷ 0 ∷ []) $ join ! $ move ! (3 ∷ 0 ∷ []) $ join ! $
     let token : Token.the_row.Denot = record { mark = record {}; name = waker_place z r; there = got.1.1.0; filled = got.1.1.1 } in let Righted : Type 0 = (waker_place z r ≡ waker_place k.names r) × (got.1.1.0 ≡ v.0) × (got.1.1.1 ≡ false) in
     move ! (2 ∷ []) $ use0 𝓛 (‵ (GhostData.own_val (record {}, tt) (ghost_val ∷ []))) (ghost_made 𝓛) $ fjoin ! $ flt_i ! n (2 ^ 64) fits $ feq_i ! (List Val) (vint w64 n ∷ []) (vint w64 n ∷ []) refl $ fjoin ! $
     use2 𝓛 (‵ ((denote.Struct.Tuple.Tuple (u64 ∷ Token.the_row ∷ [])).own_val (n, token) (pair_val (vint w64 n) ghost_val ∷ []))) (pair_of 𝓛 u64 Token.the_row n token (vint w64 n) ghost_val) $
-    use0 𝓛 (raw (fact 𝓤 (FoundBack k.names n))) (fact_i 𝓤 (FoundBack k.names n) (emp 𝓤) (as_handed_back k.names n)) $ use0 𝓛 (raw (fact 𝓤 (Righted))) (fact_i 𝓤 (Righted) (emp 𝓤) (ap (λ (m : Names). waker_place m r) (sym asked.0), (λ j. (told.1 j).0), λ j. (told.1 j).1)) $ join ! $
-    use0 𝓛 (raw (fact 𝓤 (Reclaims Stored view k.heard n v))) (fact_i 𝓤 (Reclaims Stored view k.heard n v) (emp 𝓤) told.0) $ join ! $ let Same : Type 0 = k' ≡ record k { owns = k'.owns; tickets = k'.tickets; heard = k'.heard } in use0 𝓛 (raw (fact 𝓤 Same)) (fact_i 𝓤 Same (emp 𝓤) refl) $ join ! $
+    use0 𝓛 (raw (fact 𝓤 (FoundBack k.names n))) (fact_i 𝓤 (FoundBack k.names n) (emp 𝓤) (as_handed_back k.names n)) $ use0 𝓛 (raw (fact 𝓤 (Righted))) (fact_i 𝓤 (Righted) (emp 𝓤) (ap (λ (m : Names). waker_place m r) (sym asked.0), (λ j. (observed.1 j).0), λ j. (observed.1 j).1)) $ join ! $
+    use0 𝓛 (raw (fact 𝓤 (Reclaims Stored view k.heard n v))) (fact_i 𝓤 (Reclaims Stored view k.heard n v) (emp 𝓤) observed.0) $ join ! $ let Same : Type 0 = k' ≡ record k { owns = k'.owns; tickets = k'.tickets; heard = k'.heard } in use0 𝓛 (raw (fact 𝓤 Same)) (fact_i 𝓤 Same (emp 𝓤) refl) $ join ! $
     returns ! (look_at ! 0 refl) $ free_all ! refl $ keep ! (2 ∷ 3 ∷ 1 ∷ 0 ∷ []) $ by ! (leaves 𝓛 En hs c y (pair_val (vint w64 n) ghost_val) (n, token) (tt, (k', (tt, tt))) (tt, (tt, (tt, tt)))))))))))))))

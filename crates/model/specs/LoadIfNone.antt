@@ -2,9 +2,9 @@
 use Rattle.std.specs.Prelude.{◌-◌, length, if◌then◌else◌, ◌==◌}
 use Rattle.model.specs.Pipe.{Pipe}
 
-abbrev pub reader_refreshed : Pipe → Pipe
-reader_refreshed p = record p { known = if p.known == 0 then length p.unread else p.known }
+abbrev pub tail_loaded_if_empty : Pipe → Pipe
+tail_loaded_if_empty p = record p { known = if p.known == 0 then length p.unread else p.known }
 
-abbrev pub writer_refreshed : Pipe → Pipe
-writer_refreshed p =
+abbrev pub head_loaded_if_full : Pipe → Pipe
+head_loaded_if_full p =
     record p { room = if p.room == 0 then p.capacity - length p.unread else p.room }

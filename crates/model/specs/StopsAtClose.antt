@@ -1,5 +1,4 @@
--- A close that is seen is heeded: a call of the writer that checked closed and found it publishes
--- nothing after that.
+-- A call of the writer that loaded closed and found it set publishes nothing after that.
 use Rattle.std.specs.Prelude.{◌≡◌, ℕ, List, ◌∷◌, ◌++◌, false}
 use Rattle.piper_protocol.specs.declared.table.Side.TheVariants.{Writer}
 use Rattle.model_sides.specs.declared.events.Event.{Event}
@@ -7,6 +6,6 @@ use Rattle.model_sides.specs.declared.events.Event.TheVariants.{Published}
 use Rattle.model.specs.End.{saw_closed}
 
 -- wherever bytes are published
-abbrev pub IsHeeded : List Event → Type 0
-IsHeeded events = (before after : List Event) (bytes : List ℕ) →
+abbrev pub StopsAtClose : List Event → Type 0
+StopsAtClose events = (before after : List Event) (bytes : List ℕ) →
     events ≡ before ++ Published bytes ∷ after → saw_closed Writer before ≡ false
