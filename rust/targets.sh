@@ -5,11 +5,12 @@
 #     rust/targets.sh FOLDER
 #
 # It downloads packages into FOLDER (web.sh), and checks std for each target, which takes a minute of processor time each. It needs
-# cargo, the sources of other packages as for check.sh, and to link ld64.lld (Debian's lld-22 or lld-19). The last line is
-# 'targets: N passed, M failed'. The status is 2 if something is missing.
+# cargo and the sources of other packages as for check.sh. For Windows (gnu) it needs x86_64-w64-mingw32-dlltool (Debian's
+# binutils-mingw-w64-x86-64), and to link for macOS ld64.lld (Debian's lld-22 or lld-19): what is missing of these is left out, and it
+# says so. The last line is 'targets: N passed, M failed'. The status is 2 if something else is missing.
 set -uo pipefail
 here=$(cd "$(dirname "$0")" && pwd)
-[ $# -eq 1 ] || { sed -n 's/^# \?//; 2,10p' "$0" >&2; exit 2; }
+[ $# -eq 1 ] || { sed -n 's/^# \?//; 2,11p' "$0" >&2; exit 2; }
 command -v cargo > /dev/null || { echo 'targets.sh: cargo is missing' >&2; exit 2; }
 "$here/web.sh" "$1" || exit 2
 root=$(cd "$1" && pwd)
@@ -65,7 +66,12 @@ links() { # TARGET ARCHITECTURE
         -o "$root/$1.dylib" "$root/checked/$1/debug/libprogram.a"
 }
 
-for target in x86_64-pc-windows-gnu x86_64-pc-windows-msvc {x86_64,aarch64}-unknown-linux-musl riscv64gc-unknown-linux-gnu; do
+if command -v x86_64-w64-mingw32-dlltool > /dev/null; then
+    holds 'x86_64-pc-windows-gnu, proved, built' cargo_for build x86_64-pc-windows-gnu true
+else
+    echo 'x86_64-pc-windows-gnu: left out, there is no x86_64-w64-mingw32-dlltool'
+fi
+for target in x86_64-pc-windows-msvc {x86_64,aarch64}-unknown-linux-musl riscv64gc-unknown-linux-gnu; do
     holds "$target, proved, built" cargo_for build "$target" true
 done
 for target in wasm32-unknown-unknown i686-unknown-linux-gnu aarch64-linux-android x86_64-unknown-freebsd; do
