@@ -103,7 +103,8 @@ pump_rules =
     ∷ size_rule (codes "interval") ∷ []
 
 abbrev pub pump_command : App
-pump_command = on_top (λ s. record s { rules = pump_rules }) (versioned (new_app (codes "piper_pump")))
+pump_command =
+    on_top (λ s. record s { rules = pump_rules }) (versioned (new_app (codes "piper_pump")))
 
 -- what the words, of which the first is the program's name, say of each argument
 abbrev pub said_by : List Text → List Row
@@ -154,7 +155,8 @@ HasBoth first second = IsSome first × IsSome second
 
 -- the name of the file that is read: after its option, or without one
 abbrev pub input_of : List Text → Option Text
-input_of words = first_text (first_of (codes "input") (said_by words)) (first_of (codes "file") (said_by words))
+input_of words =
+    first_text (first_of (codes "input") (said_by words)) (first_of (codes "file") (said_by words))
 
 -- what these words ask for
 pub record AskFor (words : List Text) (arguments : Arguments) : Type 0 where
@@ -175,7 +177,8 @@ pub record AskFor (words : List Text) (arguments : Arguments) : Type 0 where
   pub size : IsText (codes "size") words arguments.texts.size
   pub start_at : IsText (codes "start-at") words arguments.texts.start_at
   pub input : text_in arguments.texts.input ≡ input_of words
-  pub one_input : ¬ HasBoth (first_of (codes "input") (said_by words)) (first_of (codes "file") (said_by words))
+  pub one_input : ¬ HasBoth (first_of (codes "input") (said_by words))
+      (first_of (codes "file") (said_by words))
   pub output : IsText (codes "output") words arguments.texts.output
   pub no_sum : one_of (codes "sha256") (said_by words) ≡ Some (codes "false")
       → arguments.shows_sum ≡ false
@@ -206,10 +209,11 @@ pub record AreTaken (words : List Text) : Type 0 where
   pub taken : takes pump_command words ≡ true
   pub capacity : IsSize (capacity_text words)
   pub chunk : IsSize (chunk_text words)
-  pub one_input : ¬ HasBoth (first_of (codes "input") (said_by words)) (first_of (codes "file") (said_by words))
+  pub one_input : ¬ HasBoth (first_of (codes "input") (said_by words))
+      (first_of (codes "file") (said_by words))
 
--- progress is reported if these words ask for it or for a number, and are not to be quiet; else it is
--- not
+-- progress is reported if these words ask for it or for a number, and are not to be quiet; else it
+-- is not
 pub record ShowsAsAsked {W : Type 0} (words : List Text) (reported : Option W) : Type 0 where
   pub shown : one_of (codes "progress") (said_by words) ≡ Some (codes "true")
       → one_of (codes "quiet") (said_by words) ≡ Some (codes "false") → IsSome reported
