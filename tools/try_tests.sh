@@ -1,6 +1,7 @@
 #!/usr/bin/env bash
 # Runs all tests, and each program as its stored run says, without any proof; the program piper_compare plays all
-# stored scripts. Of what fails it prints the output. It writes nothing into the repository.
+# stored scripts, and of wrong handles it is to tell that they differ. Of what fails it prints the output. It writes
+# nothing into the repository.
 set -eu
 cd "$(dirname "$0")/.."
 room=$(mktemp -d)
@@ -36,11 +37,45 @@ stored_run() {
         echo 0 1 > "$said.count"
     fi
 }
-export -f tests stored_run
+
+# The program piper_compare, with these arguments, on handles that a mutant of a crate makes wrong: it is to end with
+# status 1, and to print a line that begins so.
+wrong_handles() { # CRATE MUTANT BEGINNING ARGUMENT..
+    local said=$room/$2.${*: -1}.wrong copy=$room/$2.${*: -1} data=() file
+    mkdir "$copy"
+    tar c --exclude=./crates/*/out ./crates ./crates.txt ./HANDLES | tar x -C "$copy"
+    python3 - "$copy/crates/$1" "crates/$1/mutants/$2.edit" << 'PYTHON'
+import sys
+from pathlib import Path
+for line in Path(sys.argv[2]).read_text().splitlines():
+    word, _, rest = line.partition(": ")
+    if word == "file":
+        path = Path(sys.argv[1], rest)
+    elif word == "old":
+        old = rest
+    elif word == "new":
+        text = path.read_text()
+        assert text.count(old) == 1
+        path.write_text(text.replace(old, rest))
+PYTHON
+    for file in crates/piper_compare/data/*; do
+        data+=(--data "${file##*/}=data/${file##*/}")
+    done
+    (cd "$copy/crates/piper_compare" && rt try --seconds 300 "${data[@]}" -- "${@:4}") > "$said.stdout" 2> "$said" < /dev/null || true
+    cat "$said.stdout" >> "$said"
+    if grep -q '^run=ended status=1 ' "$said" && grep -q "^$3" "$said.stdout"; then
+        echo 1 0 > "$said.count"
+    else
+        echo 0 1 > "$said.count"
+    fi
+}
+export -f tests stored_run wrong_handles
 
 {
     grep -rl --include='*.rt' '#\[test\]' crates/*/src | cut -d/ -f2 | sort -u | sed 's/^/tests /'
     ls crates/*/src/main.rt | cut -d/ -f2 | sed 's/^/stored_run /'
+    echo 'wrong_handles piper consume_wakes_nobody seed twin 1 50'
+    echo 'wrong_handles piper_ring len_answers_what_is_known 400.of.400.scripts vectors'
 } | xargs -P "$(nproc)" -L 1 bash -c '"$@"' work
 
 passed=0
