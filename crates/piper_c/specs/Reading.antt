@@ -1,7 +1,14 @@
 -- What the calls of the reading side find, and what they leave of it.
 use Rattle.std.specs.Prelude.{◌≡◌, ℕ, ◌<◌, ◌≤◌, ◌+◌, ◌-◌, min, ◌++◌, take, drop, Bool, true, false, List, [], ◌⊎◌, length, Option}
+use Rattle.piper_protocol.specs.declared.answer.Answer.TheVariants as answer
+use Rattle.piper_protocol.specs.declared.table.AfterRead.TheVariants as after
+use Rattle.piper_protocol.specs.declared.table.Form.TheVariants as form
+use Rattle.piper_protocol.specs.declared.table.Point.TheVariants as point
+use Rattle.piper_protocol.specs.declared.table.Purpose.TheVariants as purpose
+use Rattle.piper_protocol.specs.declared.table.ReadPoint.TheVariants as at
 use Rattle.piper_ring.specs.Loads.{FoundClosed, IsAway}
-use Rattle.piper_ring.specs.Looks.{IsEnded, ReaderLooked as EndLooked}
+use Rattle.piper_ring.specs.Log.{Log, Ran}
+use Rattle.piper_ring.specs.Looks.{IsEnded, ReaderLooked as EndLooked, looks_at}
 use Rattle.piper_ring.specs.ReadView.{HasLoadedTail, KeepsAll, in_one_piece, read_place}
 use Rattle.piper_ring.specs.SlotsView.{SlotsView, IsReaderPending, IsReaderAtRest, OnlyWaits, WaitsAsBefore}
 use Rattle.piper_c.specs.declared.halves.ReadHalf.{ReadHalf}
@@ -88,6 +95,15 @@ pub record ReadsInto (old new : List ℕ) (n : ℕ) (a b : ReadHalf) : Type 0 wh
       { taken = b.side.end.taken; known = b.side.end.known; saw = b.side.end.saw; all = b.side.end.all }
   pub places : b.side.cells ≡ a.side.cells
 
+-- a read of n bytes made these calls: a look that takes nothing, and a consume, unless n is 0
+pub record ReadRan (n : ℕ) (a b : ReadHalf) : Type 0 where
+  pub between : Log
+  pub looked : Ran (looks_at a.side.end (purpose.Copy form.Try)) (answer.Count 0)
+      a.side.log between
+  pub none : n ≡ 0 → b.side.log ≡ between
+  pub some : 0 < n → Ran (point.Reader (at.StoreHead n after.Answer)) answer.Done
+      between b.side.log
+
 -- the exports
 
 abbrev pub ReaderTold : PiperWords → PiperPolled → ReadHalf → ReadHalf → Type 0
@@ -115,6 +131,7 @@ pub record ReaderConsumes (n : ℕ) (wake : PiperWords) (a b : ReadHalf) : Type 
 
 pub record ReaderReads (old new : List ℕ) (moved : PiperMoved) (a b : ReadHalf) : Type 0 where
   pub read : ReadsInto old new moved.count a b
+  pub ran : ReadRan moved.count a b
   pub none : moved.count ≡ 0 → (moved.wake.vtable ≡ 0) × (b.side.slots ≡ a.side.slots)
   pub some : 0 < moved.count → WakesWriter moved.wake a.side.slots b
 

@@ -1,6 +1,13 @@
 -- What the calls of the writing side find, and what they leave of it.
 use Rattle.std.specs.Prelude.{◌≡◌, ℕ, ◌<◌, ◌≤◌, ◌+◌, ◌-◌, ◌++◌, ◌⊎◌, take, drop, Bool, true, false, List, [], length, Option}
+use Rattle.piper_protocol.specs.declared.answer.Answer.TheVariants as answer
+use Rattle.piper_protocol.specs.declared.table.AfterWrite.TheVariants as after
+use Rattle.piper_protocol.specs.declared.table.Form.TheVariants as form
+use Rattle.piper_protocol.specs.declared.table.Point.TheVariants as point
+use Rattle.piper_protocol.specs.declared.table.Purpose.TheVariants as purpose
+use Rattle.piper_protocol.specs.declared.table.WritePoint.TheVariants as at
 use Rattle.piper_ring.specs.Loads.{FoundClosed, IsAway}
+use Rattle.piper_ring.specs.Log.{Log, Ran}
 use Rattle.piper_ring.specs.Looks.{WriterLooked as EndLooked}
 use Rattle.piper_ring.specs.WriteView.{HasLoadedHead, Lendable}
 use Rattle.piper_ring.specs.SlotsView.{SlotsView, IsWriterPending, IsWriterAtRest, OnlyWaits, WaitsAsBefore}
@@ -101,6 +108,15 @@ pub record WritesFrom (from : List ℕ) (n : ℕ) (a b : WriteHalf) : Type 0 whe
       { sent = b.side.end.sent; room = b.side.end.room; lent = []; saw = b.side.end.saw }
   pub places : b.side.cells ≡ a.side.cells
 
+-- a write of n bytes made these calls: a look that gives nothing, and a publish, unless n is 0
+pub record WriteRan (n : ℕ) (a b : WriteHalf) : Type 0 where
+  pub between : Log
+  pub looked : Ran (point.Writer (at.LookClosed (purpose.Copy form.Try))) (answer.Count 0)
+      a.side.log between
+  pub none : n ≡ 0 → b.side.log ≡ between
+  pub some : 0 < n → Ran (point.Writer (at.StoreTail n after.Answer)) answer.Done
+      between b.side.log
+
 -- the exports
 
 pub record WriterSeen (result : ℕ) (a b : WriteHalf) : Type 0 where
@@ -122,6 +138,7 @@ pub record WakesReader (wake : PiperWords) (old : SlotsView) (b : WriteHalf) : T
 
 pub record WriterWrites (from : List ℕ) (moved : PiperMoved) (a b : WriteHalf) : Type 0 where
   pub wrote : WritesFrom from moved.count a b
+  pub ran : WriteRan moved.count a b
   pub none : moved.count ≡ 0 → (moved.wake.vtable ≡ 0) × (b.side.slots ≡ a.side.slots)
   pub some : 0 < moved.count → WakesReader moved.wake a.side.slots b
 

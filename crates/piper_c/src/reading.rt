@@ -17,7 +17,7 @@ impl ReadHalf {
     ghost use Rattle.piper_ring.specs.Loads.{FoundWaiter};
     ghost use Rattle.piper_c.specs.Leaving.{HasLeft};
     ghost use Rattle.piper_c.specs.Waiting.{TookBack};
-    ghost use Rattle.piper_c.specs.Reading.{ReaderFound, ReaderLooked, ReaderGotBack, ReaderSaw, ReadsInto, ReaderAsked, TookWriter, LeftReading};
+    ghost use Rattle.piper_c.specs.Reading.{ReaderFound, ReaderLooked, ReaderGotBack, ReaderSaw, ReadRan, ReadsInto, ReaderAsked, TookWriter, LeftReading};
 
     /// Waits for a byte or for the end. `mine` is left where there is neither.
     pub(crate) fn poll(&mut self, mine: Waiter) -> Polled
@@ -82,6 +82,7 @@ impl ReadHalf {
     /// and a `consume`. Returns how many, and who has to be woken.
     pub(crate) fn read(&mut self, to: &mut [u8]) -> (usize, Option<Waiter>)
         ensures read { ReadsInto to.old to.new result.0 self.old self.new }
+        ensures ran { ReadRan result.0 self.old self.new }
         ensures none { result.0 ≡ 0 →
             (result.1 ≡ None) × (self.new.side.slots ≡ self.old.side.slots) }
         ensures some { 0 < result.0 → TookWriter result.1 self.old.side.slots self.new }

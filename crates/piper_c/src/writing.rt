@@ -16,7 +16,7 @@ impl WriteHalf {
     ghost use Rattle.piper_ring.specs.Looks.{WriterIsUpToDate};
     ghost use Rattle.piper_c.specs.Leaving.{HasLeft};
     ghost use Rattle.piper_c.specs.Waiting.{TookBack};
-    ghost use Rattle.piper_c.specs.Writing.{LeftWriting, WriterAsked, WriterFound, WriterSaw, WritesFrom, WriterLooked, WriterGotBack, TookReader, TookReaderLast};
+    ghost use Rattle.piper_c.specs.Writing.{LeftWriting, WriterAsked, WriterFound, WriterSaw, WriteRan, WritesFrom, WriterLooked, WriterGotBack, TookReader, TookReaderLast};
 
     /// Waits for room or for the end. `mine` is left where there is neither.
     pub(crate) fn poll(&mut self, mine: Waiter) -> Polled
@@ -80,6 +80,7 @@ impl WriteHalf {
     /// is a `look` and a `publish`. Returns how many, and who has to be woken.
     pub(crate) fn write(&mut self, from: &[u8]) -> (usize, Option<Waiter>)
         ensures wrote { WritesFrom from.now result.0 self.old self.new }
+        ensures ran { WriteRan result.0 self.old self.new }
         ensures none { result.0 ≡ 0 →
             (result.1 ≡ None) × (self.new.side.slots ≡ self.old.side.slots) }
         ensures some { 0 < result.0 → TookReader result.1 self.old.side.slots self.new }
