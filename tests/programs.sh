@@ -237,6 +237,25 @@ try 'a bench to a full output' 20 2 '^piper_bench: No space left' './piper_bench
 try 'a bench without a thread' 20 2 'no thread is granted' '$alone prlimit --nproc=1 ./piper_bench ring2 64 16 1000'
 try 'a word that is no text, to a comparison' 10 2 '^usage' './piper_compare $'"'\\xff'"
 try 'a word that is no text, to a replay' 10 1 '^usage' './piper_replay $'"'\\xff'"
+export steps='pipe 2\nbegin lend 2\ngo w\n' both='pipe 4\nfill 1\nbegin len r\nbegin len w\n'
+for words in '' run all; do
+    try "a replay that can't read ($words)" 10 2 '^read failed$' "./piper_replay $words < /"
+    note "a replay that can't read ($words): nothing is printed" test ! -s out
+done
+try 'a replay to a full output' 10 2 '^write failed$' 'echo pipe 1 | ./piper_replay > /dev/full'
+try 'a run to a full output' 10 2 '^write failed$' 'printf "$steps" | ./piper_replay run > /dev/full'
+try 'all orders to a full output' 10 2 '^write failed$' 'printf "$both" | ./piper_replay all > /dev/full'
+try 'all orders of a script with a line that is too long' 10 1 '' '{ echo pipe 4; head -c 65537 /dev/zero | tr "\\0" x; } | ./piper_replay all'
+note 'it is past its limit' test "$(cat out)" = 'line 2: Limit'
+for words in 'twin 1' 'twin x 1' 'twin 1 x' 'twin 1 2 3' 'twin 1 1048577' 'vectors 1' 'handles 1 1' ''; do
+    try "words that are none, to a comparison: $words" 10 2 '^usage' "./piper_compare $words < /dev/null"
+    note 'nothing is printed' test ! -s out
+done
+for words in handles twin; do
+    try "a comparison that can't read: $words" 10 2 '^read failed$' "./piper_compare $words < /"
+    try "a comparison to a full output: $words" 10 2 '^write failed$' "echo pipe 1 | ./piper_compare $words > /dev/full"
+done
+try 'drawn scripts to a full output' 10 2 '^write failed$' './piper_compare twin 1 1 > /dev/full'
 
 # The scripts that are there to be read, each with what is written beside it.
 for script in "$here"/../examples/*.script; do
@@ -249,6 +268,22 @@ cp -r "$here/../crates/piper_compare/data" stored
 sed -i '3s/"ok/"no/' stored/lines.jsonl
 try 'a stored answer that is another' 10 1 '' 'cd stored && ../piper_compare vectors'
 note 'it is named by its line and file' grep -q '^  in line 3 of lines.jsonl' out
+note 'what is given is told beside what is stored' grep -qx 'output line 1: ok in place of no' out
+cp "$here/../crates/piper_compare/data/lines.jsonl" stored
+sed -i '1s/"ok/"no/' stored/upstream-play.jsonl
+try 'an answer of the crate that is another' 10 1 '' 'cd stored && ../piper_compare vectors'
+note 'it is counted' grep -qx '399 of 400 scripts are answered as by the crate' out
+cp "$here/../crates/piper_compare/data/upstream-play.jsonl" stored
+try 'stored answers that nobody can print' 10 2 '^piper_compare: write failed$' 'cd stored && ../piper_compare vectors > /dev/full'
+mv stored/steps.jsonl steps.jsonl
+try 'a stored file that is missing' 10 2 '^piper_compare: steps.jsonl: No such' 'cd stored && ../piper_compare vectors'
+: > stored/steps.jsonl
+try 'a stored file of no script' 10 2 '^piper_compare: steps.jsonl: it has no script$' 'cd stored && ../piper_compare vectors'
+for line in 'no JSON' '{"script": "pipe 1\\n", "status": 0}' '{"script": "", "output": "", "status": 0, "arguments": 1}'; do
+    { head -n 1 steps.jsonl; echo "$line"; } > stored/steps.jsonl
+    try "a stored line that is broken: $line" 10 2 '^piper_compare: line 2 of steps.jsonl: ' 'cd stored && ../piper_compare vectors'
+done
+mv steps.jsonl stored
 try 'a hundred thousand drawn scripts, on handles and machine' 120 0 '' \
     './piper_compare twin 1 100000 | grep -q "^100000 scripts, .*: no difference\$"'
 
