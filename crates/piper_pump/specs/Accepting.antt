@@ -10,8 +10,11 @@ use Rattle.piper_pump.specs.declared.accepting.Accepted.{Accepted}
 use Rattle.piper_pump.specs.declared.ended.Ended.{Ended}
 use Rattle.piper_pump.specs.declared.streams.Streams.{Streams}
 
--- each number that may be left out is the one that is written, of a pipe of this capacity
+-- both sizes are those that were read, and each number that may be left out is the one that is
+-- written, of a pipe of this capacity
 pub record HasRead (arguments : Arguments) (accepted : Accepted) : Type 0 where
+  pub capacity : accepted.sizes.capacity ≡ arguments.amounts.capacity
+  pub chunk : accepted.sizes.chunk ≡ arguments.amounts.chunk
   pub level : IsLevelOf arguments.amounts.capacity (text_in arguments.texts.start_at)
       accepted.sizes.level
   pub rate : IsRead IsSizeOf (text_in arguments.texts.rate) accepted.rate

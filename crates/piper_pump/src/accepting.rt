@@ -34,9 +34,6 @@ pub struct Accepted {
 /// closed, where no file is named in its place.
 pub fn accept(alloc: Global, arguments: &Arguments<'_>, streams: Streams) -> Result<Accepted, Ended>
     ensures early { IfErr result IsEarly }
-    ensures capacity { IfOk result (λ a.
-        a.sizes.capacity ≡ arguments.now.amounts.capacity) }
-    ensures chunk { IfOk result (λ a. a.sizes.chunk ≡ arguments.now.amounts.chunk) }
     ensures read { IfOk result (HasRead arguments.now) }
     ensures input { OnOk result (IsOfStream (text_in arguments.now.texts.input)
         → streams.has_input ≡ true) }
