@@ -152,6 +152,29 @@ try 'a failed copy is told of at once' 10 7 '' '(lines 1000; sleep 1; test -s to
 note 'it is told of once' test "$(grep -c 'it gets no more$' told1)" -eq 1
 try 'a failed copy on one thread' 10 7 '^piper_pump: /dev/full: No space.*; it gets no more$' '$alone prlimit --nproc=1 $pump --tee /dev/full < file > /dev/null'
 
+# A file that the run made is taken away again, if another can't be made, unless it got bytes or lost its name meanwhile: there
+# is a second between the two, in which somebody else does this with the first.
+if command -v strace > /dev/null; then
+    meanwhile() { # COMMAND
+        (until test -e made; do sleep 0.05; done; eval "$1") &
+        strace -f -o calls -P /proc/new -e trace=openat -e inject=openat:delay_enter=1000000 $pump --force -i file -o made --tee /proc/new
+        local status=$?
+        wait
+        return $status
+    }
+    export -f meanwhile
+    try 'a file that the run made, and a copy that can not be made' 10 4 '^piper_pump: /proc/new: ' 'meanwhile true'
+    note 'it is taken away' test ! -e made
+    try 'a file that got bytes of another' 10 4 '^piper_pump: /proc/new: ' 'meanwhile "echo bytes >> made"'
+    note 'it stays, with these bytes' test "$(cat made)" = bytes
+    rm -f made
+    try 'a file whose name an empty file of another has' 10 4 '^piper_pump: /proc/new: ' 'meanwhile "mv made moved; : > made"'
+    note 'both stay' test -e made -a -e moved
+    rm -f made moved
+else
+    echo 'left out, for want of strace: files that are taken away'
+fi
+
 # A terminal that is too narrow, and one of whose lines nobody reads any more.
 cat > terminal.py <<'PYTHON'
 import os, pty, subprocess, sys
