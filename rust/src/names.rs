@@ -4,6 +4,6 @@
 
 macro_rules! own {
     () => {
-        "piper_7ded0a1bd6e2_"
+        "piper_48a2acea8a8f_"
     };
 }

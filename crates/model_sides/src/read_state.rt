@@ -74,14 +74,14 @@ impl ReadState {
         ensures value { result ≡ offset_of self.now.capacity self.now.head }
         ensures below { result < self.now.capacity }
     {
-        self.indices.front()
+        self.indices.piece().from
     }
 
     /// How many known bytes are contiguous.
     pub fn peekable(&self) -> usize
         ensures { result ≡ peekable_of self.now }
     {
-        self.indices.peekable()
+        self.indices.piece().len
     }
 
     /// Where the reader is inside its open call.

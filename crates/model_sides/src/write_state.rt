@@ -95,7 +95,7 @@ impl WriteState {
         ensures after { self.new ≡ lent_out result self.old }
         ensures sound { IsWriting self.new }
     {
-        self.indices.lend(most)
+        self.indices.lend(most).len
     }
 
     /// Takes back what is lent.

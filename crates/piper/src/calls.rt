@@ -43,7 +43,7 @@ impl Reader {
     pub fn is_empty(&self) -> bool
         ensures { ReaderCompares self.now 0 result }
     {
-        self.end().is_empty()
+        self.len() == 0
     }
 
     /// How many bytes the pipe can hold at a time.
@@ -57,7 +57,7 @@ impl Reader {
     pub fn is_full(&self) -> bool
         ensures { ReaderCompares self.now (capacity self.now) result }
     {
-        self.end().is_full()
+        self.len() == self.capacity()
     }
 
     /// Whether the pipe is closed now: the writer was dropped, or closed it. Bytes may still be
@@ -205,7 +205,7 @@ impl Writer {
     pub fn is_empty(&self) -> bool
         ensures { WriterCompares self.now 0 result }
     {
-        self.end().is_empty()
+        self.len() == 0
     }
 
     /// How many bytes the pipe can hold at a time.
@@ -219,7 +219,7 @@ impl Writer {
     pub fn is_full(&self) -> bool
         ensures { WriterCompares self.now (capacity self.now) result }
     {
-        self.end().is_full()
+        self.len() == self.capacity()
     }
 
     /// Whether the pipe is closed now: the reader was dropped, or this writer closed it.

@@ -60,6 +60,28 @@ pub fn turned(cap: usize, i: usize) -> usize
     if i < cap { i + cap } else { i - cap }
 }
 
+/// Places that lie in one piece.
+#[derive(Clone, Copy)]
+pub struct Piece {
+    /// The offset of the first one.
+    pub from: usize,
+    /// How many they are.
+    pub len: usize,
+}
+
+/// Places that the writer is lent, in one piece, and what was so when it was.
+#[derive(Clone, Copy)]
+pub struct Loan {
+    /// How many places the pipe has.
+    pub capacity: usize,
+    /// How many places at the buffer's beginning were set before.
+    pub zeroed: usize,
+    /// The offset of the first place.
+    pub from: usize,
+    /// How many places they are.
+    pub len: usize,
+}
+
 /// What the reader keeps from call to call. All counts are of bytes.
 #[derive(Drop)]
 pub struct ReadIndices {
@@ -114,15 +136,6 @@ impl ReadIndices {
         self.head
     }
 
-    /// The place of the first unread byte.
-    pub fn front(&self) -> usize
-        ensures value { result ≡ offset_of self.now.capacity self.now.head }
-        ensures remainder { result ≡ self.now.head % self.now.capacity }
-        ensures below { result < self.now.capacity }
-    {
-        offset(self.capacity, self.head)
-    }
-
     /// How many bytes the reader knows of.
     pub fn known(&self) -> usize
         ensures value { result ≡ known_in self.now }
@@ -140,11 +153,19 @@ impl ReadIndices {
         self.head == self.tail
     }
 
-    /// How many known bytes are contiguous.
-    pub fn peekable(&self) -> usize
-        ensures { result ≡ peekable_in self.now }
+    /// The known bytes that are contiguous.
+    pub fn piece(&self) -> Piece
+        ensures from { result.from ≡ offset_of self.now.capacity self.now.head }
+        ensures remainder { result.from ≡ self.now.head % self.now.capacity }
+        ensures below { result.from < self.now.capacity }
+        ensures len { result.len ≡ peekable_in self.now }
     {
-        self.known().min(self.capacity - self.front())
+        let from = offset(self.capacity, self.head);
+        let known = distance(self.capacity, self.head, self.tail);
+        Piece {
+            from,
+            len: known.min(self.capacity - from),
+        }
     }
 
     /// How many bytes are unread where the writer's index is here.
@@ -166,15 +187,18 @@ impl ReadIndices {
         self.tail = tail;
     }
 
-    /// The first `n` known bytes are given up. They may go round the end of the buffer.
-    pub fn consume(&mut self, n: usize)
+    /// The first `n` known bytes are given up, which may go round the end of the buffer. Returns the
+    /// reader's index then.
+    pub fn consume(&mut self, n: usize) -> usize
         requires { n ≤ known_in self.old }
+        ensures index { result ≡ self.new.head }
         ensures after { self.new ≡ head_passed n self.old }
         ensures remainder { self.new.head ≡ (self.old.head + n) % (2 * self.old.capacity) }
         ensures known { known_in self.new ≡ known_in self.old - n }
         ensures sound { AreReaderIndices self.new }
     {
         self.head = advance(self.capacity, self.head, n);
+        self.head
     }
 }
 
@@ -307,41 +331,37 @@ impl WriteIndices {
         self.zeroed == self.capacity
     }
 
-    /// How many places are lent where `most` are asked for.
-    pub fn lendable(&self, most: usize) -> usize
-        ensures value { result ≡ lendable_in most self.now }
-        ensures most { result ≤ most }
-        ensures room { result ≤ room_in self.now }
-        ensures place { result ≤ left_in self.now }
-        ensures shut { self.now.is_shut ≡ true → result ≡ 0 }
-    {
-        if self.is_shut {
-            return 0;
-        }
-        let free = most.min(self.room()).min(self.capacity - self.front());
-        // Where all places are set the bound is past the room.
-        if self.is_set() {
-            free
-        } else {
-            free.min((2 * self.zeroed).saturating_add(LEAST_LEND))
-        }
-    }
-
-    /// Lends up to `most` free places in one piece, in place of what was lent before, and returns
-    /// how many.
+    /// Lends up to `most` free places in one piece, in place of what was lent before.
     ///
-    /// Places beyond those that were set already are to be set to zero before they are handed out.
-    pub fn lend(&mut self, most: usize) -> usize
-        ensures count { result ≡ lendable_in most self.old }
-        ensures after { self.new ≡ lent_from result self.old }
+    /// Places from `zeroed` of the loan on are to be set to zero before they are handed out.
+    pub fn lend(&mut self, most: usize) -> Loan
+        ensures of { (result.capacity ≡ self.old.capacity) × (result.zeroed ≡ self.old.zeroed) }
+        ensures from { result.from ≡ offset_of self.old.capacity self.old.tail }
+        ensures remainder { result.from ≡ self.old.tail % self.old.capacity }
+        ensures below { result.from < self.old.capacity }
+        ensures len { result.len ≡ lendable_in most self.old }
+        ensures after { self.new ≡ lent_from result.len self.old }
         ensures sound { AreWriterIndices self.new }
     {
-        let count = self.lendable(most);
-        if !self.is_set() {
-            self.zeroed = self.zeroed.max(self.front() + count);
+        let (capacity, zeroed) = (self.capacity, self.zeroed);
+        let from = offset(capacity, self.tail);
+        let room = distance(capacity, self.tail, self.limit);
+        let mut len = most.min(room).min(capacity - from);
+        if self.is_shut {
+            len = 0;
         }
-        self.lent = count;
-        count
+        // If all places are set the bound is past the room.
+        if zeroed != capacity {
+            len = len.min((2 * zeroed).saturating_add(LEAST_LEND));
+            self.zeroed = zeroed.max(from + len);
+        }
+        self.lent = len;
+        Loan {
+            capacity,
+            zeroed,
+            from,
+            len,
+        }
     }
 
     /// Takes back what is lent.
@@ -372,9 +392,10 @@ impl WriteIndices {
         self.limit = turned(self.capacity, head);
     }
 
-    /// The first `n` lent places are published.
-    pub fn publish(&mut self, n: usize)
+    /// The first `n` lent places are published. Returns the writer's index then.
+    pub fn publish(&mut self, n: usize) -> usize
         requires { n ≤ self.old.lent }
+        ensures index { result ≡ self.new.tail }
         ensures after { self.new ≡ tail_passed n self.old }
         ensures remainder { self.new.tail ≡ (self.old.tail + n) % (2 * self.old.capacity) }
         ensures room { room_in self.new ≡ room_in self.old - n }
@@ -382,5 +403,6 @@ impl WriteIndices {
     {
         self.tail = advance(self.capacity, self.tail, n);
         self.lent -= n;
+        self.tail
     }
 }

@@ -1,5 +1,5 @@
 -- Looks of the two sides: what they find, where they lead, and what they leave of their end.
-use Rattle.std.specs.Prelude.{◌≡◌, ◌+◌, ◌<◌, ◌≤◌, ◌++◌, ◌==◌, true, false, [], length, ⊤}
+use Rattle.std.specs.Prelude.{◌≡◌, ◌+◌, ◌*◌, ◌^◌, ◌<◌, ◌≤◌, ◌++◌, ◌==◌, true, false, [], length, ⊤}
 use Rattle.piper_protocol.specs.Table.{Next, ends, goes_on, look_answer, reader_looks_for, writer_found, writer_found_none}
 use Rattle.piper_protocol.specs.declared.answer.Polled.TheVariants.{Pending, Ready}
 use Rattle.piper_protocol.specs.declared.table.Point.{Point}
@@ -54,9 +54,17 @@ pub record NothingYet (r : ReadView) : Type 0 where
   pub saw : r.saw ≡ false
   pub observed : r.observed_shut ≡ false
 
+-- the reader knows of a byte, and of so few that twice their count is no overflow
+abbrev pub HasBytes : ReadView → Type 0
+HasBytes r = (0 < length r.known) × (2 * length r.known < 2 ^ 64)
+
+-- the writer knows of room for a byte, and for so few that twice their count is no overflow
+abbrev pub HasRoom : WriteView → Type 0
+HasRoom w = (0 < w.room) × (2 * w.room < 2 ^ 64)
+
 -- what a look of the reader finds: a byte; or none, and the end; or none, and the pipe open
 abbrev pub ReaderSees : Look → ReadView → Type 0
-ReaderSees look.Ready r = 0 < length r.known
+ReaderSees look.Ready r = HasBytes r
 ReaderSees look.Closed r = IsEnded r
 ReaderSees look.NotReady r = NothingYet r
 
@@ -70,7 +78,7 @@ pub record ReaderLooked (a b : ReadView) : Type 0 where
 
 -- what a look of the writer finds: room, and the pipe open; or the pipe closed; or neither
 abbrev pub WriterSees : Look → WriteView → Type 0
-WriterSees look.Ready w = (0 < w.room) × (w.shut ≡ false) × (w.saw ≡ false)
+WriterSees look.Ready w = HasRoom w × (w.shut ≡ false) × (w.saw ≡ false)
 WriterSees look.Closed w = w.saw ≡ true
 WriterSees look.NotReady w = (w.room ≡ 0) × (w.shut ≡ false) × (w.saw ≡ false)
 

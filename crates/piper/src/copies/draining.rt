@@ -8,7 +8,7 @@ ghost use Rattle.piper.specs.Copies.{ReaderCopied};
 ghost use Rattle.piper.specs.CopyAnswers.{CountsFailure, IsAtOnce, of_std, of_bytes};
 ghost use Rattle.piper.specs.Drains.{DrainRounds};
 ghost use Rattle.piper.specs.Like.{Counts, passed};
-ghost use Rattle.piper_ring.specs.Looks.{looks_at};
+ghost use Rattle.piper_ring.specs.Looks.{HasBytes, looks_at};
 ghost use Rattle.piper.specs.Runs.{copy_answer};
 
 use crate::error::{CopyError, PipeError};
@@ -79,7 +79,10 @@ impl Reader {
         ensures waiting { DrainsWaiting (of_bytes result) self.old self.new cx.old cx.new }
         ensures rest { WakesWriter self.old self.new × SameReaderButMoved self.old self.new }
     {
-        let mut bytes = WriteBytes::new(dest);
+        let mut bytes = WriteBytes {
+            bytes: dest,
+            place: 0,
+        };
         match self.poll_drain_with(cx, &mut bytes) {
             Poll::Pending => Poll::Pending,
             Poll::Ready(Ok(count)) => Poll::Ready(Ok(count)),
@@ -103,7 +106,10 @@ impl Reader {
         ensures copied { ReaderCopied (end_of self.old) (end_of self.new) }
         ensures rest { SameReader WaitsAsBefore self.old self.new }
     {
-        let mut bytes = WriteBytes::new(dest);
+        let mut bytes = WriteBytes {
+            bytes: dest,
+            place: 0,
+        };
         match self.try_drain_with(&mut bytes) {
             Poll::Ready(Ok(count)) => count,
             Poll::Ready(Err(CopyError::Like(never))) => match never {},
@@ -190,8 +196,9 @@ impl Reader {
         form: Form,
         dest: &mut W,
     ) -> Poll<Result<usize, CopyError<W::Error>>>
-        requires { now self.old.side.log
+        requires at { now self.old.side.log
             ≡ goes_on (Point.Reader (ReadPoint.CallDestination form 0)) }
+        requires some { HasBytes self.old.side.end }
         ensures ran { Comes (ends (Point.Reader ReadPoint.Idle) (copy_answer form result))
             self.old.side.log self.new.side.log }
         ensures drained { DrainRounds W.takes W.is_full W.fails result
@@ -201,8 +208,6 @@ impl Reader {
         ensures woke { WakesWriter self.old self.new }
         ensures rest { SameReader WaitsAsBefore self.old self.new }
     {
-        // No more can be moved than the capacity, so the sum doesn't overflow.
-        let _ = self.end().capacity();
         let mut moved = 0;
         'rounds: loop {
             if dest.asks() == 0 {
@@ -239,7 +244,7 @@ impl Reader {
         ensures end { self.new.side.end ≡ self.old.side.end }
         ensures rest { SameReader (λ s t. t ≡ s) self.old self.new }
     {
-        let piece = self.peek_buf();
+        let piece = self.side.end().peek_buf();
         match dest.write(&piece[..piece.len().min(MOST_A_ROUND)]) {
             Ok(n) => {
                 self.side.note(Action::CallDestination, Found::Moved(n));

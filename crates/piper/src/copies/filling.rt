@@ -3,6 +3,7 @@ ghost use Rattle.std.specs.Prelude.{◌≡◌, ◌<◌, ◌≤◌, ◌⊎◌, le
 ghost use Rattle.futures.specs.Poll.{OnPending};
 ghost use Rattle.piper_protocol.specs.Table.{ends, goes_on};
 ghost use Rattle.piper_ring.specs.Log.{Comes, Ran, made, next, now};
+ghost use Rattle.piper_ring.specs.Looks.{HasRoom};
 ghost use Rattle.piper_ring.specs.SlotsView.{WaitsAsBefore};
 ghost use Rattle.piper.specs.Copies.{WriterCopied};
 ghost use Rattle.piper.specs.CopyAnswers.{OnMemory, CountsFailure, IsAtOnce, of_std, of_bytes};
@@ -81,7 +82,7 @@ impl Writer {
         ensures waiting { FillsWaiting (of_bytes result) self.old self.new cx.old cx.new }
         ensures rest { WakesReader self.old self.new × SameWriterButMoved self.old self.new }
     {
-        let mut source = ReadBytes::new(bytes);
+        let mut source = ReadBytes { rest: bytes };
         match self.poll_fill_with(cx, &mut source) {
             Poll::Pending => Poll::Pending,
             Poll::Ready(Ok(count)) => Poll::Ready(Ok(count)),
@@ -107,7 +108,7 @@ impl Writer {
         ensures copied { WriterCopied (end_of self.old) (end_of self.new) }
         ensures rest { SameWriter WaitsAsBefore self.old self.new }
     {
-        let mut source = ReadBytes::new(bytes);
+        let mut source = ReadBytes { rest: bytes };
         match self.try_fill_with(&mut source) {
             Poll::Ready(Ok(count)) => count,
             Poll::Ready(Err(CopyError::Like(never))) => match never {},
@@ -242,7 +243,7 @@ impl Writer {
     ) -> Poll<Result<usize, CopyError<R::Error>>>
         requires at { now self.old.side.log ≡ goes_on (Point.Writer (WritePoint.CallSource form 0)) }
         requires is_open { (self.old.side.end.shut ≡ false) × (self.old.side.end.saw ≡ false) }
-        requires some { 0 < self.old.side.end.room }
+        requires some { HasRoom self.old.side.end }
         ensures ran { Comes (ends (Point.Writer WritePoint.Idle) (copy_answer form result))
             self.old.side.log self.new.side.log }
         ensures filled { FillRounds R.gives R.is_dry R.fails result
@@ -254,8 +255,6 @@ impl Writer {
         ensures woke { WakesReader self.old self.new }
         ensures rest { SameWriter WaitsAsBefore self.old self.new }
     {
-        // No more can be moved than the capacity, so the sum doesn't overflow.
-        let _ = self.end().capacity();
         let mut moved = 0;
         'rounds: loop {
             let asks = source.asks();
@@ -299,7 +298,7 @@ impl Writer {
             ≡ record self.old.side.end { lent = self.new.side.end.lent } }
         ensures rest { SameWriter (λ s t. t ≡ s) self.old self.new }
     {
-        match source.read(self.write_buf(asks.min(MOST_A_ROUND))) {
+        match source.read(self.side.write_buf(asks.min(MOST_A_ROUND))) {
             Ok(n) => {
                 self.side.note(Action::CallSource, Found::Moved(n));
                 Ok(n)

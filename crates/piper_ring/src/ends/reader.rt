@@ -70,7 +70,8 @@ impl ReadEnd {
 
     /// Whether this end knows of no byte.
     pub fn knows_none(&self) -> bool
-        ensures { IsTrue result ↔ (length self.now.known ≡ 0) }
+        ensures none { IsTrue result ↔ (length self.now.known ≡ 0) }
+        ensures few { 2 * length self.now.known < 2 ^ 64 }
     {
         self.parts.indices.knows_none()
     }
@@ -82,21 +83,6 @@ impl ReadEnd {
     {
         let (tail, _) = self.parts.seat.load_tail(&self.parts.heard);
         self.parts.indices.unread_to(tail as usize)
-    }
-
-    /// Whether nothing is unread now. It compares a count within the bounds of `len` with 0.
-    pub fn is_empty(&self) -> bool
-        ensures { (n : ℕ) × MayBeUnread self.now n × (IsTrue result ↔ (n ≡ 0)) }
-    {
-        self.len() == 0
-    }
-
-    /// Whether the ring is full now. It compares a count within the bounds of `len` with the
-    /// capacity.
-    pub fn is_full(&self) -> bool
-        ensures { (n : ℕ) × MayBeUnread self.now n × (IsTrue result ↔ (n ≡ self.now.capacity)) }
-    {
-        self.len() == self.capacity()
     }
 
     /// Whether the pipe is closed now. Once this end saw it closed, or learned from a mark that the
@@ -117,9 +103,9 @@ impl ReadEnd {
         ensures length { length result.now ≡ in_one_piece self.now }
         ensures some { 0 < length self.now.known → 0 < length result.now }
     {
-        let indices = &self.parts.indices;
-        let (from, len) = (indices.front(), indices.peekable());
-        self.parts.known.slice(self.parts.seat.base(), from, len)
+        let piece = self.parts.indices.piece();
+        let base = self.parts.seat.base();
+        self.parts.known.slice(base, piece.from, piece.len)
     }
 
     /// Evidence of what was consumed, for the other end.
@@ -247,8 +233,8 @@ impl ReadEnd {
     {
         let parts = &mut self.parts;
         let back = parts.known.split(n);
-        parts.indices.consume(n);
-        parts.seat.store_head(back, parts.indices.head() as u64);
+        let head = parts.indices.consume(n);
+        parts.seat.store_head(back, head as u64);
     }
 
     /// Closes the pipe and drops this end. The memory is freed if the writer's end is gone. It

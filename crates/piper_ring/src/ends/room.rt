@@ -4,6 +4,7 @@ ghost use Rattle.piper_ring.specs.RoomOrder.{IsRoom, SameRoom, end_of};
 ghost use Rattle.piper_ring.specs.Stretches.{BeginsAt, IsBlankFrom};
 
 use crate::ring::places::{Base, Blank, Places};
+use piper_protocol::indices::Loan;
 
 /// A writer's room, in the order of its places.
 pub(crate) struct Room {
@@ -49,26 +50,26 @@ impl Room {
         self.ready.put(front);
     }
 
-    /// Lends its first `len` places, which are contiguous from the offset `from` on, in place of
-    /// what was lent before. Those that are not set, from the offset `zeroed` on, are zeroed first.
-    pub(crate) fn lend(
-        &mut self,
-        base: Base,
-        capacity: usize,
-        zeroed: usize,
-        from: usize,
-        len: usize,
-    )
-        requires { IsRoom self.old × (zeroed ≡ self.old.blank.first)
-            × (base.ptr ≡ self.old.lent.at) × (capacity ≡ self.old.lent.capacity)
-            × (self.old.lent.first < capacity → from ≡ self.old.lent.first)
-            × (from + len ≤ capacity) × (self.old.lent.first + len ≤ end_of self.old.later) }
+    /// Lends its first places, those of the loan, in place of what was lent before. Those that are
+    /// not set are zeroed first.
+    pub(crate) fn lend(&mut self, base: Base, loan: Loan)
+        requires { IsRoom self.old × (loan.zeroed ≡ self.old.blank.first)
+            × (base.ptr ≡ self.old.lent.at) × (loan.capacity ≡ self.old.lent.capacity)
+            × (self.old.lent.first < loan.capacity → loan.from ≡ self.old.lent.first)
+            × (loan.from + loan.len ≤ loan.capacity)
+            × (self.old.lent.first + loan.len ≤ end_of self.old.later) }
         ensures room { IsRoom self.new }
-        ensures zeroed { self.new.blank.first ≡ max zeroed (from + len) }
+        ensures zeroed { self.new.blank.first ≡ max loan.zeroed (loan.from + loan.len) }
         ensures same { SameRoom self.old self.new }
-        ensures lent { length self.new.lent.bytes ≡ len }
+        ensures lent { length self.new.lent.bytes ≡ loan.len }
     {
         self.unlend();
+        let Loan {
+            capacity,
+            zeroed,
+            from,
+            len,
+        } = loan;
         let end = from + len;
         if zeroed != capacity && zeroed < end {
             zero(&mut self.ready, &mut self.blank, base, zeroed, end);

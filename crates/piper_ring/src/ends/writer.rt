@@ -74,7 +74,8 @@ impl WriteEnd {
 
     /// Whether this end knows of no room.
     pub fn knows_none(&self) -> bool
-        ensures { IsTrue result ↔ (self.now.room ≡ 0) }
+        ensures none { IsTrue result ↔ (self.now.room ≡ 0) }
+        ensures few { 2 * self.now.room < 2 ^ 64 }
     {
         self.parts.indices.knows_none()
     }
@@ -85,21 +86,6 @@ impl WriteEnd {
     {
         let (head, _) = self.parts.seat.load_head(&self.parts.observed);
         self.parts.indices.unread_from(head as usize)
-    }
-
-    /// Whether nothing is unread now. It compares a count within the bounds of `len` with 0.
-    pub fn is_empty(&self) -> bool
-        ensures { (n : ℕ) × MayBeUnread self.now n × (IsTrue result ↔ (n ≡ 0)) }
-    {
-        self.len() == 0
-    }
-
-    /// Whether the ring is full now. It compares a count within the bounds of `len` with the
-    /// capacity.
-    pub fn is_full(&self) -> bool
-        ensures { (n : ℕ) × MayBeUnread self.now n × (IsTrue result ↔ (n ≡ self.now.capacity)) }
-    {
-        self.len() == self.capacity()
     }
 
     /// Whether the pipe is closed now. Once this end saw it closed, or closed it, the answer is
@@ -211,8 +197,8 @@ impl WriteEnd {
     {
         let parts = &mut self.parts;
         let gift = parts.room.lent.split(n);
-        parts.indices.publish(n);
-        parts.seat.store_tail(gift, parts.indices.tail() as u64);
+        let tail = parts.indices.publish(n);
+        parts.seat.store_tail(gift, tail as u64);
     }
 
     /// `load_head`, if it knows of no room.
@@ -262,11 +248,10 @@ impl WriteEnd {
         ensures length { Lendable self.old max (length result.now) }
         ensures some { self.old.shut ≡ false → 0 < self.old.room → 0 < max → 0 < length result.now }
     {
-        let (base, capacity) = (self.parts.seat.base(), self.parts.indices.capacity());
-        let (from, zeroed) = (self.parts.indices.front(), self.parts.indices.zeroed());
-        let len = self.parts.indices.lend(max);
-        self.parts.room.lend(base, capacity, zeroed, from, len);
-        self.parts.room.lent.slice_mut(base, from, len)
+        let base = self.parts.seat.base();
+        let loan = self.parts.indices.lend(max);
+        self.parts.room.lend(base, loan);
+        self.parts.room.lent.slice_mut(base, loan.from, loan.len)
     }
 
     /// Takes back what is lent.

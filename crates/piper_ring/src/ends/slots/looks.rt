@@ -22,14 +22,14 @@ pub enum Look {
 }
 
 impl<T> Side<ReadEnd, T> {
-    ghost use Rattle.piper_ring.specs.Looks.{IsEnded, ReaderIsUpToDate, ReaderLooked, ReaderSees, look_next, looks_at};
+    ghost use Rattle.piper_ring.specs.Looks.{HasBytes, IsEnded, ReaderIsUpToDate, ReaderLooked, ReaderSees, look_next, looks_at};
 
     /// A call begins, and looks for a byte that is known, or else for one that was published since.
     /// Returns whether there is one.
     pub fn look_first(&mut self, purpose: Purpose) -> bool
         ensures log { Opened (looks_at self.old.end purpose)
             (goes_on (Point.Reader (reader_looked (not result) purpose))) self.old.log self.new.log }
-        ensures some { IsTrue result → 0 < length self.new.end.known }
+        ensures some { IsTrue result → HasBytes self.new.end }
         ensures none { IsFalse result →
             (length self.new.end.known ≡ 0) × ReaderIsUpToDate self.new.end }
         ensures looked { ReaderLooked self.old.end self.new.end }

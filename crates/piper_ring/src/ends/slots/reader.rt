@@ -1,5 +1,5 @@
 //! The reader's side: how it waits in its slot, and wakes whoever waits in the writer's.
-ghost use Rattle.std.specs.Prelude.{◌≡◌, ◌<◌, ◌≤◌, ◌++◌, ◌↔◌, [], length, take, drop, None, IsSome, true, false, is_some, IsTrue};
+ghost use Rattle.std.specs.Prelude.{◌≡◌, ◌<◌, ◌≤◌, ◌++◌, ◌↔◌, [], length, take, drop, None, IsSome, true, false, is_some, IsTrue, IsFalse};
 ghost use Rattle.piper_ring.specs.Log.{Comes, made, next, now, then};
 
 use crate::ends::finished::{Finished, FinishedReader};
@@ -56,11 +56,12 @@ impl SlotEnd for ReadEnd {
 
 impl<T> Side<ReadEnd, T> {
     ghost use Rattle.piper_ring.specs.Cells.{GetsLeft};
-    ghost use Rattle.piper_ring.specs.Loads.{FoundClosed, FoundWaiter, WasTaken};
+    ghost use Rattle.piper_ring.specs.Loads.{FoundClosed, FoundWaiter};
+    ghost use Rattle.piper_ring.specs.Looks.{HasBytes};
     ghost use Rattle.piper_ring.specs.ReadView.{HasLoadedTail, HasTheRest, KeepsAll, KnowsEnd, KnowsMore, Observes, in_one_piece};
     ghost use Rattle.piper_ring.specs.Shared.{flag};
     ghost use Rattle.piper_ring.specs.Meeting.{EndsMeet};
-    ghost use Rattle.piper_ring.specs.SlotsView.{IsReaderPending, ReaderHasNews, WaitsAsBefore, IsWriterPending, WriterHasNews};
+    ghost use Rattle.piper_ring.specs.SlotsView.{IsReaderPending, ReaderHasNews, TakesTicket, WaitsAsBefore, IsWriterPending, WriterHasNews};
 
     /// Loads the tail, as `load_tail` of its end, and returns whether no byte is known even now.
     /// Once it has registered it finds all that the writer had stored before its last check of the
@@ -70,7 +71,8 @@ impl<T> Side<ReadEnd, T> {
         requires turn { next self.old.log ≡ Action.LoadIndex }
         requires none { length self.old.end.known ≡ 0 }
         ensures log { self.new.log ≡ made (Found.IndexLoaded result) self.old.log }
-        ensures none { IsTrue result ↔ (length self.new.end.known ≡ 0) }
+        ensures none { (IsTrue result → length self.new.end.known ≡ 0)
+            × (IsFalse result → HasBytes self.new.end) }
         ensures after { length self.old.slots.heard.bytes
             ≤ length (self.new.end.taken ++ self.new.end.known) }
         ensures fresh { (self.old.end.observed ≤ length (self.new.end.taken ++ self.new.end.known))
@@ -135,10 +137,7 @@ impl<T> Side<ReadEnd, T> {
             × (result.side.mark.consumed.count ≡ length self.end.taken) }
         ensures looked { (result.side.slots.stored.count ≡ length self.end.taken)
             × (result.side.slots.stored.closed ≡ true) × WaitsAsBefore self.slots result.side.slots }
-        ensures ticket { (result.taken ≡ None → result.side.slots.taken ≡ self.slots.taken)
-            × (IsSome result.taken → self.slots.taken < result.side.slots.taken) }
-        ensures waker { WasTaken self.slots.names
-            self.slots.taken result.side.slots.taken result.taken }
+        ensures ticket { TakesTicket self.slots result.side.slots result.taken }
         ensures found { FoundWaiter self.end.ring.names (flag (is_some result.taken)) }
         ensures left { GetsLeft self.end.ring.names result.left }
     {

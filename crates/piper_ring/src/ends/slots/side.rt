@@ -46,9 +46,9 @@ fn place<'a, E: SlotEnd, T>(
 }
 
 impl<E: SlotEnd, T> Side<E, T> {
-    ghost use Rattle.piper_ring.specs.Loads.{CameBack, FoundFlag, FoundWaiter, IsAway, IsUnregistered, WasPut, WasTaken, WasTakenBack};
+    ghost use Rattle.piper_ring.specs.Loads.{CameBack, FoundFlag, FoundWaiter, IsAway, IsUnregistered, WasPut, WasTakenBack};
     ghost use Rattle.piper_ring.specs.Shared.{flag};
-    ghost use Rattle.piper_ring.specs.SlotsView.{Registers, WaitsAsBefore};
+    ghost use Rattle.piper_ring.specs.SlotsView.{Registers, TakesTicket, WaitsAsBefore};
 
     /// Its end of the ring.
     #[inline(always)]
@@ -260,10 +260,7 @@ impl<E: SlotEnd, T> Side<E, T> {
         requires turn { next self.old.log ≡ Action.Take (other E.READS) }
         ensures log { self.new.log ≡ made (Found.Waker (is_some result)) self.old.log }
         ensures rests { self.new.slots.stored ≡ E.stored_of self.new.end }
-        ensures ticket { (result ≡ None → self.new.slots.taken ≡ self.old.slots.taken)
-            × (IsSome result → self.old.slots.taken < self.new.slots.taken) }
-        ensures waker { WasTaken self.old.slots.names
-            self.old.slots.taken self.new.slots.taken result }
+        ensures ticket { TakesTicket self.old.slots self.new.slots result }
         ensures found { FoundWaiter self.old.slots.names (flag (is_some result)) }
         ensures own { WaitsAsBefore self.old.slots self.new.slots }
         ensures rest { (self.new.end ≡ self.old.end) × (self.new.cells ≡ self.old.cells) }

@@ -1,5 +1,5 @@
 //! The writer's side: how it waits in its slot, and wakes whoever waits in the reader's.
-ghost use Rattle.std.specs.Prelude.{◌≡◌, ◌+◌, ◌-◌, ◌<◌, ◌≤◌, ◌++◌, ◌↔◌, ◌==◌, [], length, take, drop, max, None, IsSome, true, false, is_some, IsTrue};
+ghost use Rattle.std.specs.Prelude.{◌≡◌, ◌+◌, ◌-◌, ◌<◌, ◌≤◌, ◌++◌, ◌↔◌, ◌==◌, [], length, take, drop, max, None, IsSome, true, false, is_some, IsTrue, IsFalse};
 ghost use Rattle.std.specs.Borrow.{sem};
 ghost use Rattle.piper_ring.specs.Log.{Comes, closed_loaded, made, next, now, then};
 
@@ -64,9 +64,10 @@ impl SlotEnd for WriteEnd {
 
 impl<T> Side<WriteEnd, T> {
     ghost use Rattle.piper_ring.specs.Cells.{GetsLeft};
-    ghost use Rattle.piper_ring.specs.Loads.{FoundClosed, FoundWaiter, WasTaken};
+    ghost use Rattle.piper_ring.specs.Loads.{FoundClosed, FoundWaiter};
+    ghost use Rattle.piper_ring.specs.Looks.{HasRoom};
     ghost use Rattle.piper_ring.specs.Shared.{flag};
-    ghost use Rattle.piper_ring.specs.SlotsView.{WaitsAsBefore};
+    ghost use Rattle.piper_ring.specs.SlotsView.{TakesTicket, WaitsAsBefore};
     ghost use Rattle.piper_ring.specs.LendsBuffer.{lends_side};
     ghost use Rattle.piper_ring.specs.WriteView.{HasLoadedHead, HasMoreRoom, Lendable};
 
@@ -78,7 +79,8 @@ impl<T> Side<WriteEnd, T> {
         requires turn { next self.old.log ≡ Action.LoadIndex }
         requires none { self.old.end.room ≡ 0 }
         ensures log { self.new.log ≡ made (Found.IndexLoaded result) self.old.log }
-        ensures none { IsTrue result ↔ (self.new.end.room ≡ 0) }
+        ensures none { (IsTrue result → self.new.end.room ≡ 0)
+            × (IsFalse result → HasRoom self.new.end) }
         ensures after { self.old.slots.heard.count + self.old.end.capacity
             ≤ length self.new.end.sent + self.new.end.room }
         ensures fresh { (self.old.end.observed + self.old.end.capacity
@@ -202,10 +204,7 @@ impl<T> Side<WriteEnd, T> {
             × (result.side.mark.bytes ≡ self.end.sent) × (result.side.mark.shut ≡ true) }
         ensures looked { (result.side.slots.stored.bytes ≡ self.end.sent)
             × (result.side.slots.stored.closed ≡ true) × WaitsAsBefore self.slots result.side.slots }
-        ensures ticket { (result.taken ≡ None → result.side.slots.taken ≡ self.slots.taken)
-            × (IsSome result.taken → self.slots.taken < result.side.slots.taken) }
-        ensures waker { WasTaken self.slots.names
-            self.slots.taken result.side.slots.taken result.taken }
+        ensures ticket { TakesTicket self.slots result.side.slots result.taken }
         ensures found { FoundWaiter self.end.ring.names (flag (is_some result.taken)) }
         ensures left { GetsLeft self.end.ring.names result.left }
     {

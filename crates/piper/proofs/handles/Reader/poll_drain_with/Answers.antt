@@ -15,8 +15,8 @@ looked g c = elim c.if-not-look_first.branch [
 
 some : (g : _) (c : goal.After-drain_rounds g) → 0 < length c.if-not-look_first.self.side.end.known
 some g c = elim c.if-not-look_first.branch [
-  | then-not-look_first+in-Ok-Ready w ↦ rw w.self-is (rw w.in-Ok-Ready.field-0-is at w.in-Ok-Ready.ensures.answer)
-  | else-not-look_first w ↦ rw w.self-is (c.look_first.ensures.some w.if-not-look_first.false)
+  | then-not-look_first+in-Ok-Ready w ↦ rw w.self-is (rw w.in-Ok-Ready.field-0-is at w.in-Ok-Ready.ensures.answer).0
+  | else-not-look_first w ↦ rw w.self-is (c.look_first.ensures.some w.if-not-look_first.false).0
 ]
 
 same : (g : _) (c : goal.After-drain_rounds g) → c.if-not-look_first.self.rng ≡ c.args.self.now.rng

@@ -6,8 +6,6 @@ use Rattle.piper.proofs.handles.Reader.try_drain.Goals as goal
 pub returns-in-Ready-Ok-clause-drained : goal.returns-in-Ready-Ok-clause-drained
 returns-in-Ready-Ok-clause-drained c =
     let drained = rw c.in-Ready-Ok.field-0-is at c.in-Ready-Ok.ensures.drained in
-    let is = c.new-bytes.ensures.bytes in
-    let first = c.new-bytes.ensures.place in
     let within : c.in-Ready-Ok.count ≤ length c.args.dest.now = search rules in
-    drained_is _ _ _ _ drained.moved _ _ is first drained.copied.1 drained.copied.0.2 (search rules) c.args.self.now c.try_drain_with.new.self drained.taken drained.known drained.fresh within
-    (λ less. not_other _ _ drained.most (λ full. omega (arith, less, full_is _ _ _ _ drained.moved _ _ is first drained.copied.1 drained.copied.0.2 refl within _ drained.copied.0.1 full)))
+    drained_is _ _ _ _ drained.moved _ _ refl refl drained.copied.1 drained.copied.0.2 (search rules) c.args.self.now c.try_drain_with.new.self drained.taken drained.known drained.fresh within
+    (λ less. not_other _ _ drained.most (λ full. omega (arith, less, full_is _ _ _ _ drained.moved _ _ refl refl drained.copied.1 drained.copied.0.2 refl within _ drained.copied.0.1 full)))

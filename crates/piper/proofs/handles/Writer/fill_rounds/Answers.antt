@@ -12,7 +12,7 @@ returns-then-asks-eq0-clause-filled g c =
     rw c.note.ensures.rest.0 (fill_ended _ g.met.R.ReadLike.gives_in_order _ _ _ _ _ _ _ before.filled
     refl _ _
     (g.met.R.ReadLike.gives_nothing c.rounds.source) (inr (c.asks-asks.ensures.dry c.if-asks-eq0.true))
-    (λ full. omega (arith, before.total, c.requires.some, full)))
+    (λ full. omega (arith, before.total, c.requires.some.0, full)))
 
 pub returns-then-load_closed-clause-filled : goal.returns-then-load_closed-clause-filled
 returns-then-load_closed-clause-filled g c =

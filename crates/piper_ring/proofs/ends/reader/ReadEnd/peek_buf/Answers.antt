@@ -5,25 +5,25 @@ use Rattle.piper_ring.proofs.ReaderFacts.{known_apart}
 use Rattle.piper_ring.proofs.ends.reader.ReadEnd.peek_buf.Goals as goal
 
 pub slice-requires : goal.slice-requires
-slice-requires c = let e = c.self.inside.parts in let i = c.self.invariant in let cap : ℕ = e.indices.capacity in let from : ℕ = c.front-from.result in let many : ℕ = length e.known.bytes in
-    let is : c.peekable-len.result ≡ min many (cap - from) = c.peekable-len.ensures ∙ (λ j. min (known_apart e i j) (cap - sym c.front-from.ensures.value j)) in let below : from < cap = c.front-from.ensures.below in
+slice-requires c = let e = c.self.inside.parts in let i = c.self.invariant in let cap : ℕ = e.indices.capacity in let from : ℕ = c.piece-piece.result.from in let many : ℕ = length e.known.bytes in
+    let is : c.piece-piece.result.len ≡ min many (cap - from) = c.piece-piece.ensures.len ∙ (λ j. min (known_apart e i j) (cap - sym c.piece-piece.ensures.from j)) in let below : from < cap = c.piece-piece.ensures.below in
     let same : cap ≡ e.known.capacity = i.fits.0 ∙ sym i.placed.1 in
-    (c.base.ensures ∙ sym i.placed.0, omega arith, offset_at cap _ e.seat.head _ i.cached.0 c.front-from.ensures.remainder ∙ (λ j. offset_of (same j) (sym i.placed.2 j)), omega arith)
+    (c.base-base.ensures ∙ sym i.placed.0, omega arith, offset_at cap _ e.seat.head _ i.cached.0 c.piece-piece.ensures.remainder ∙ (λ j. offset_of (same j) (sym i.placed.2 j)), omega arith)
 
 pub returns-clause-bytes : goal.returns-clause-bytes
-returns-clause-bytes c = let e = c.self.inside.parts in let i = c.self.invariant in let cap : ℕ = e.indices.capacity in let from : ℕ = c.front-from.result in let many : ℕ = length e.known.bytes in
-    let is : c.peekable-len.result ≡ min many (cap - from) = c.peekable-len.ensures ∙ (λ j. min (known_apart e i j) (cap - sym c.front-from.ensures.value j)) in
-    let offset : from ≡ offset_of cap (length (take e.seat.head e.seat.have)) = offset_at cap _ e.seat.head _ i.cached.0 c.front-from.ensures.remainder ∙ ap (λ (n : ℕ). offset_of cap n) (sym (length-take-le e.seat.head e.seat.have i.whole.0)) in
+returns-clause-bytes c = let e = c.self.inside.parts in let i = c.self.invariant in let cap : ℕ = e.indices.capacity in let from : ℕ = c.piece-piece.result.from in let many : ℕ = length e.known.bytes in
+    let is : c.piece-piece.result.len ≡ min many (cap - from) = c.piece-piece.ensures.len ∙ (λ j. min (known_apart e i j) (cap - sym c.piece-piece.ensures.from j)) in
+    let offset : from ≡ offset_of cap (length (take e.seat.head e.seat.have)) = offset_at cap _ e.seat.head _ i.cached.0 c.piece-piece.ensures.remainder ∙ ap (λ (n : ℕ). offset_of cap n) (sym (length-take-le e.seat.head e.seat.have i.whole.0)) in
     c.slice.ensures ∙ ap (λ (n : ℕ). take n e.known.bytes) (is ∙ ap (λ (s : ℕ). min many (cap - s)) offset) ∙ ap (λ (r : ReadView). take (in_one_piece r) r.known) c.self.view_is
 
 pub returns-clause-length : goal.returns-clause-length
-returns-clause-length c = let e = c.self.inside.parts in let i = c.self.invariant in let cap : ℕ = e.indices.capacity in let from : ℕ = c.front-from.result in let many : ℕ = length e.known.bytes in
-    let is : c.peekable-len.result ≡ min many (cap - from) = c.peekable-len.ensures ∙ (λ j. min (known_apart e i j) (cap - sym c.front-from.ensures.value j)) in let few : c.peekable-len.result ≤ many = omega arith in
-    let offset : from ≡ offset_of cap (length (take e.seat.head e.seat.have)) = offset_at cap _ e.seat.head _ i.cached.0 c.front-from.ensures.remainder ∙ ap (λ (n : ℕ). offset_of cap n) (sym (length-take-le e.seat.head e.seat.have i.whole.0)) in
-    ap length c.slice.ensures ∙ length-take-le c.peekable-len.result e.known.bytes few ∙ is ∙ ap (λ (s : ℕ). min many (cap - s)) offset ∙ ap (λ (r : ReadView). in_one_piece r) c.self.view_is
+returns-clause-length c = let e = c.self.inside.parts in let i = c.self.invariant in let cap : ℕ = e.indices.capacity in let from : ℕ = c.piece-piece.result.from in let many : ℕ = length e.known.bytes in
+    let is : c.piece-piece.result.len ≡ min many (cap - from) = c.piece-piece.ensures.len ∙ (λ j. min (known_apart e i j) (cap - sym c.piece-piece.ensures.from j)) in let few : c.piece-piece.result.len ≤ many = omega arith in
+    let offset : from ≡ offset_of cap (length (take e.seat.head e.seat.have)) = offset_at cap _ e.seat.head _ i.cached.0 c.piece-piece.ensures.remainder ∙ ap (λ (n : ℕ). offset_of cap n) (sym (length-take-le e.seat.head e.seat.have i.whole.0)) in
+    ap length c.slice.ensures ∙ length-take-le c.piece-piece.result.len e.known.bytes few ∙ is ∙ ap (λ (s : ℕ). min many (cap - s)) offset ∙ ap (λ (r : ReadView). in_one_piece r) c.self.view_is
 
 pub returns-clause-some : goal.returns-clause-some
-returns-clause-some c = λ any. let e = c.self.inside.parts in let i = c.self.invariant in let cap : ℕ = e.indices.capacity in let from : ℕ = c.front-from.result in let many : ℕ = length e.known.bytes in
-    let is : c.peekable-len.result ≡ min many (cap - from) = c.peekable-len.ensures ∙ (λ j. min (known_apart e i j) (cap - sym c.front-from.ensures.value j)) in let below : from < cap = c.front-from.ensures.below in let few : c.peekable-len.result ≤ many = omega arith in
+returns-clause-some c = λ any. let e = c.self.inside.parts in let i = c.self.invariant in let cap : ℕ = e.indices.capacity in let from : ℕ = c.piece-piece.result.from in let many : ℕ = length e.known.bytes in
+    let is : c.piece-piece.result.len ≡ min many (cap - from) = c.piece-piece.ensures.len ∙ (λ j. min (known_apart e i j) (cap - sym c.piece-piece.ensures.from j)) in let below : from < cap = c.piece-piece.ensures.below in let few : c.piece-piece.result.len ≤ many = omega arith in
     let same : many ≡ length c.args.self.now.known = ap (λ (r : ReadView). length r.known) c.self.view_is in
-    let got : length c.slice.result.now ≡ c.peekable-len.result = ap length c.slice.ensures ∙ length-take-le c.peekable-len.result e.known.bytes few in omega arith
+    let got : length c.slice.result.now ≡ c.piece-piece.result.len = ap length c.slice.ensures ∙ length-take-le c.piece-piece.result.len e.known.bytes few in omega arith

@@ -1,9 +1,10 @@
 -- What was taken is what this function says.
+use Rattle.std.proofs.Common.{rules}
 use Rattle.piper_ring.specs.Loads.{as_taken}
 use Rattle.piper_ring.proofs.ends.slots.side.Side.take.Goals as goal
 
-pub returns-then-found-eq0-clause-waker : goal.returns-then-found-eq0-clause-waker
-returns-then-found-eq0-clause-waker g c = as_taken _ _ _ _
+pub returns-then-found-eq0-clause-ticket : goal.returns-then-found-eq0-clause-ticket
+returns-then-found-eq0-clause-ticket g c = record { none = search rules; some = search rules; waker = as_taken _ _ _ _ }
 
-pub returns-clause-waker : goal.returns-clause-waker
-returns-clause-waker g c = as_taken _ _ _ _
+pub returns-clause-ticket : goal.returns-clause-ticket
+returns-clause-ticket g c = record { none = search rules; some = search rules; waker = as_taken _ _ _ _ }
