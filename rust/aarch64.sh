@@ -33,7 +33,8 @@ unpack() {
     )
 }
 
-[ -x "$root/usr/bin/rustc" ] || unpack 2> /dev/null || { echo 'aarch64.sh: the packages are not to be had' >&2; exit 2; }
+# Other scripts unpack the compiler there without the library for arm64.
+[ -e "$root/usr/lib/rustlib/aarch64-unknown-linux-gnu" ] || unpack 2> /dev/null || { echo 'aarch64.sh: the packages are not to be had' >&2; exit 2; }
 cat > "$root/rustc" <<RUSTC
 #!/bin/sh
 export LD_LIBRARY_PATH=$root/usr/lib/x86_64-linux-gnu:$(echo "$root"/usr/lib/llvm-*/lib)
