@@ -5,8 +5,8 @@ use Rattle.model_sides.specs.declared.events.Event.{Event}
 use Rattle.model_sides.specs.declared.events.Event.TheVariants.{Began, Loaded, Closed}
 use Rattle.model_sides.specs.declared.events.Seen.TheVariants.{Tail}
 
--- a look of the reader at the writer's index
-pub record Look : Type 0 where
+-- a load of the tail by the reader
+pub record TailLoad : Type 0 where
   -- how many unread bytes it found
   pub count : ℕ
   -- an event Closed comes before it
@@ -16,7 +16,7 @@ pub record History : Type 0 where
   -- an event Closed is in the log
   pub is_closed : Bool
   -- the last look of the reader's last call
-  pub last_look : Option Look
+  pub last_look : Option TailLoad
 
 abbrev pub unwritten : History
 unwritten = record { is_closed = false; last_look = None }

@@ -1,7 +1,7 @@
 //! The stored scripts: their files, and how many of them give the answers that they should.
 ghost use Rattle.std.specs.Prelude.{◌≡◌, ◌↔◌, IsTrue};
 
-use crate::vector::{Played, Vector, arguments_of, gives_its_answers, replay_on_handles};
+use crate::vector::{Replayed, Vector, arguments_of, gives_its_answers, replay_on_handles};
 use anyhow::Context;
 use serde_json::Value;
 use std::alloc::AllocGlobal;
@@ -52,14 +52,14 @@ struct Tally {
 }
 
 impl Tally {
-    fn count_on_handles(&mut self, played: Played) {
+    fn count_on_handles(&mut self, played: Replayed) {
         match played {
-            Played::ToItsEnd => self.on_handles = self.on_handles.saturating_add(1),
-            Played::Begun => self.begun_on_handles = self.begun_on_handles.saturating_add(1),
-            Played::Otherwise => {
+            Replayed::ToItsEnd => self.on_handles = self.on_handles.saturating_add(1),
+            Replayed::Begun => self.begun_on_handles = self.begun_on_handles.saturating_add(1),
+            Replayed::Otherwise => {
                 self.otherwise_on_handles = self.otherwise_on_handles.saturating_add(1);
             }
-            Played::Not => {}
+            Replayed::Not => {}
         }
     }
 
@@ -94,14 +94,14 @@ where
     let played = if arguments.is_empty() {
         replay_on_handles(rt, hands, &vector)?
     } else {
-        Played::Not
+        Replayed::Not
     };
     tally.count_on_handles(played);
     report_place(
         rt,
         place,
         &vector,
-        is_alike && !matches!(played, Played::Otherwise),
+        is_alike && !matches!(played, Replayed::Otherwise),
     )
 }
 

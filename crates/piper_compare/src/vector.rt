@@ -63,7 +63,7 @@ pub(crate) fn arguments_of(alloc: Global, line: &Value) -> Result<Vec<String>, a
 
 /// How far the handles played a script, and answered as the machine does.
 #[derive(Clone, Copy)]
-pub(crate) enum Played {
+pub(crate) enum Replayed {
     ToItsEnd,
     /// Up to a line that only the machine plays.
     Begun,
@@ -74,7 +74,7 @@ pub(crate) enum Played {
 
 /// Where a replay gives something else than it should.
 #[derive(Drop)]
-struct Difference<'text> {
+struct DifferentLine<'text> {
     /// The number of the first output line that differs.
     line: usize,
     wanted: &'text str,
@@ -82,7 +82,7 @@ struct Difference<'text> {
 }
 
 /// The first line in which the two texts differ, if there is one.
-fn first_difference<'text>(wanted: &'text str, given: &'text str) -> Option<Difference<'text>> {
+fn first_difference<'text>(wanted: &'text str, given: &'text str) -> Option<DifferentLine<'text>> {
     let mut wanted = wanted.split('\n');
     let mut given = given.split('\n');
     for line in 1..usize::MAX {
@@ -90,7 +90,7 @@ fn first_difference<'text>(wanted: &'text str, given: &'text str) -> Option<Diff
             (None, None) => break,
             (Some(wanted), Some(given)) if wanted == given => {}
             (wanted, given) => {
-                return Some(Difference {
+                return Some(DifferentLine {
                     line,
                     wanted: wanted.unwrap_or("no line"),
                     given: given.unwrap_or("no line"),
@@ -123,7 +123,7 @@ fn report_end(rt: &HostRuntime, vector: &Vector<'_>, ended: Ended) -> io::Result
     )
 }
 
-fn report_difference(rt: &HostRuntime, difference: &Difference<'_>) -> io::Result<()> {
+fn report_difference(rt: &HostRuntime, difference: &DifferentLine<'_>) -> io::Result<()> {
     println!(rt;
         "output line {}: {} in place of {}",
         difference.line, difference.given, difference.wanted
@@ -156,7 +156,7 @@ pub(crate) fn replay_on_handles<H>(
     rt: &HostRuntime,
     hands: &H,
     vector: &Vector<'_>,
-) -> Result<Played, anyhow::Error>
+) -> Result<Replayed, anyhow::Error>
 where
     H: RandomSource + AllocGlobal + Clone + Drop,
 {
@@ -166,9 +166,9 @@ where
     let given = str::from_utf8(&output).unwrap_or("no text");
     let Some(rest) = given.strip_suffix(": OnlyMachine\n") else {
         return Ok(if is_alike(rt, vector, ended, given.as_bytes())? {
-            Played::ToItsEnd
+            Replayed::ToItsEnd
         } else {
-            Played::Otherwise
+            Replayed::Otherwise
         });
     };
     // The last line is the refusal.
@@ -179,8 +179,8 @@ where
         ..*vector
     };
     Ok(if is_alike(rt, &begun, ended, front.as_bytes())? {
-        Played::Begun
+        Replayed::Begun
     } else {
-        Played::Otherwise
+        Replayed::Otherwise
     })
 }
