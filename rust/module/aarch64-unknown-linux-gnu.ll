@@ -1,5 +1,5 @@
 ; What clang was handed to compile crates/piper_c. Written by tools/write_assembly; not to be edited.
-; check: logic=proved functions=78 axioms=3 target=aarch64-unknown-linux-gnu sum=dac8208d650f15bf
+; check: logic=proved functions=81 axioms=3 target=aarch64-unknown-linux-gnu sum=dac8208d650f15bf
 ; words: --target=aarch64-unknown-linux-gnu -march=armv8-a -mllvm -no-trap-after-noreturn -mllvm -aarch64-load-store-renaming=false -ffunction-sections -fdata-sections -mllvm -trap-unreachable -mllvm -no-x86-call-frame-opt -mllvm -disable-machine-licm -mllvm -disable-postra-machine-licm -mllvm -sink-common-insts=false --no-default-config -no-canonical-prefixes -fintegrated-cc1 -fno-crash-diagnostics -Werror -fPIC -O3 -Xclang -disable-llvm-passes -mno-outline-atomics
 ; ModuleID = 'module.bc'
 source_filename = "rattle"
@@ -411,8 +411,8 @@ arm.2.i.i8.i.i:                                   ; preds = %else.2.i.i.i
   br label %join.3.i10.i.i
 
 join.3.i10.i.i:                                   ; preds = %"piper_cells::token_cell::TokenCell+Option+T::take::<22'piper_c::words::Waiter>.exit.i9.i.i", %"piper_ring::ends::slots::side::Side::cancel::<#9de703bb30e26c1e>.exit.i.i"
-  %spec.select14.i = phi i64 [ %r0.sroa.3.i.sroa.4.0.copyload.i.i7.i.i, %"piper_cells::token_cell::TokenCell+Option+T::take::<22'piper_c::words::Waiter>.exit.i9.i.i" ], [ 0, %"piper_ring::ends::slots::side::Side::cancel::<#9de703bb30e26c1e>.exit.i.i" ]
-  %spec.select.i = phi i64 [ %r0.sroa.3.i.sroa.0.0.copyload.i.i5.i.i, %"piper_cells::token_cell::TokenCell+Option+T::take::<22'piper_c::words::Waiter>.exit.i9.i.i" ], [ 0, %"piper_ring::ends::slots::side::Side::cancel::<#9de703bb30e26c1e>.exit.i.i" ]
+  %spec.select12.i.i = phi i64 [ %r0.sroa.3.i.sroa.4.0.copyload.i.i7.i.i, %"piper_cells::token_cell::TokenCell+Option+T::take::<22'piper_c::words::Waiter>.exit.i9.i.i" ], [ 0, %"piper_ring::ends::slots::side::Side::cancel::<#9de703bb30e26c1e>.exit.i.i" ]
+  %spec.select.i.i = phi i64 [ %r0.sroa.3.i.sroa.0.0.copyload.i.i5.i.i, %"piper_cells::token_cell::TokenCell+Option+T::take::<22'piper_c::words::Waiter>.exit.i9.i.i" ], [ 0, %"piper_ring::ends::slots::side::Side::cancel::<#9de703bb30e26c1e>.exit.i.i" ]
   tail call void asm sideeffect "", "~{memory}"() #13
   %r2.i.i.i.i.i.i = atomicrmw xchg ptr %.pre.i.i, i64 1 seq_cst, align 8
   tail call void asm sideeffect "", "~{memory}"() #13
@@ -456,15 +456,15 @@ arm.2.i.i8.i.i.i.i.i.i:                           ; preds = %join.3.i2.i.i.i.i.i
   br label %"piper_c::reader::piper_reader_drop.exit"
 
 "piper_c::reader::piper_reader_drop.exit":        ; preds = %join.3.i10.i.i, %"piper_ring::ends::leaving::take_both::<22'piper_c::words::Waiter>.exit.i.i.i.i.i"
-  %r7.sroa.0.0.i2.i = select i1 %4, i64 %r3.sroa.5.0.i.i, i64 0
-  %r7.sroa.4.0.i3.i = select i1 %4, i64 %r3.sroa.7.0.i.i, i64 0
-  store i64 %spec.select.i, ptr %a0, align 1
+  %r7.sroa.0.0.i2.i.i = select i1 %4, i64 %r3.sroa.5.0.i.i, i64 0
+  %r7.sroa.4.0.i3.i.i = select i1 %4, i64 %r3.sroa.7.0.i.i, i64 0
+  store i64 %spec.select.i.i, ptr %a0, align 1
   %r0.sroa.3.0.a0.sroa_idx.i = getelementptr inbounds nuw i8, ptr %a0, i64 8
-  store i64 %spec.select14.i, ptr %r0.sroa.3.0.a0.sroa_idx.i, align 1
+  store i64 %spec.select12.i.i, ptr %r0.sroa.3.0.a0.sroa_idx.i, align 1
   %r0.sroa.4.0.a0.sroa_idx.i = getelementptr inbounds nuw i8, ptr %a0, i64 16
-  store i64 %r7.sroa.0.0.i2.i, ptr %r0.sroa.4.0.a0.sroa_idx.i, align 1
+  store i64 %r7.sroa.0.0.i2.i.i, ptr %r0.sroa.4.0.a0.sroa_idx.i, align 1
   %r0.sroa.5.0.a0.sroa_idx.i = getelementptr inbounds nuw i8, ptr %a0, i64 24
-  store i64 %r7.sroa.4.0.i3.i, ptr %r0.sroa.5.0.a0.sroa_idx.i, align 1
+  store i64 %r7.sroa.4.0.i3.i.i, ptr %r0.sroa.5.0.a0.sroa_idx.i, align 1
   ret void
 
 ; uselistorder directives
@@ -716,8 +716,8 @@ arm.2.i.i10.i.i:                                  ; preds = %else.2.i.i.i
   br label %join.3.i13.i.i
 
 join.3.i13.i.i:                                   ; preds = %"piper_cells::token_cell::TokenCell+Option+T::take::<22'piper_c::words::Waiter>.exit.i11.i.i", %"piper_ring::ends::slots::side::Side::cancel::<#c57692acc3b5f48f>.exit.i.i"
-  %spec.select14.i = phi i64 [ %r0.sroa.3.i.sroa.4.0.copyload.i.i9.i.i, %"piper_cells::token_cell::TokenCell+Option+T::take::<22'piper_c::words::Waiter>.exit.i11.i.i" ], [ 0, %"piper_ring::ends::slots::side::Side::cancel::<#c57692acc3b5f48f>.exit.i.i" ]
-  %spec.select.i = phi i64 [ %r0.sroa.3.i.sroa.0.0.copyload.i.i7.i.i, %"piper_cells::token_cell::TokenCell+Option+T::take::<22'piper_c::words::Waiter>.exit.i11.i.i" ], [ 0, %"piper_ring::ends::slots::side::Side::cancel::<#c57692acc3b5f48f>.exit.i.i" ]
+  %spec.select12.i.i = phi i64 [ %r0.sroa.3.i.sroa.4.0.copyload.i.i9.i.i, %"piper_cells::token_cell::TokenCell+Option+T::take::<22'piper_c::words::Waiter>.exit.i11.i.i" ], [ 0, %"piper_ring::ends::slots::side::Side::cancel::<#c57692acc3b5f48f>.exit.i.i" ]
+  %spec.select.i.i = phi i64 [ %r0.sroa.3.i.sroa.0.0.copyload.i.i7.i.i, %"piper_cells::token_cell::TokenCell+Option+T::take::<22'piper_c::words::Waiter>.exit.i11.i.i" ], [ 0, %"piper_ring::ends::slots::side::Side::cancel::<#c57692acc3b5f48f>.exit.i.i" ]
   tail call void asm sideeffect "", "~{memory}"() #13
   %r2.i.i.i.i.i.i = atomicrmw xchg ptr %.pre.i.i, i64 1 seq_cst, align 8
   tail call void asm sideeffect "", "~{memory}"() #13
@@ -761,15 +761,15 @@ arm.2.i.i8.i.i.i.i.i.i:                           ; preds = %join.3.i2.i.i.i.i.i
   br label %"piper_c::writer::piper_writer_drop.exit"
 
 "piper_c::writer::piper_writer_drop.exit":        ; preds = %join.3.i13.i.i, %"piper_ring::ends::leaving::take_both::<22'piper_c::words::Waiter>.exit.i.i.i.i.i"
-  %r7.sroa.0.0.i2.i = select i1 %4, i64 %r3.sroa.5.0.i.i, i64 0
-  %r7.sroa.4.0.i3.i = select i1 %4, i64 %r3.sroa.7.0.i.i, i64 0
-  store i64 %spec.select.i, ptr %a0, align 1
+  %r7.sroa.0.0.i2.i.i = select i1 %4, i64 %r3.sroa.5.0.i.i, i64 0
+  %r7.sroa.4.0.i3.i.i = select i1 %4, i64 %r3.sroa.7.0.i.i, i64 0
+  store i64 %spec.select.i.i, ptr %a0, align 1
   %r0.sroa.3.0.a0.sroa_idx.i = getelementptr inbounds nuw i8, ptr %a0, i64 8
-  store i64 %spec.select14.i, ptr %r0.sroa.3.0.a0.sroa_idx.i, align 1
+  store i64 %spec.select12.i.i, ptr %r0.sroa.3.0.a0.sroa_idx.i, align 1
   %r0.sroa.4.0.a0.sroa_idx.i = getelementptr inbounds nuw i8, ptr %a0, i64 16
-  store i64 %r7.sroa.0.0.i2.i, ptr %r0.sroa.4.0.a0.sroa_idx.i, align 1
+  store i64 %r7.sroa.0.0.i2.i.i, ptr %r0.sroa.4.0.a0.sroa_idx.i, align 1
   %r0.sroa.5.0.a0.sroa_idx.i = getelementptr inbounds nuw i8, ptr %a0, i64 24
-  store i64 %r7.sroa.4.0.i3.i, ptr %r0.sroa.5.0.a0.sroa_idx.i, align 1
+  store i64 %r7.sroa.4.0.i3.i.i, ptr %r0.sroa.5.0.a0.sroa_idx.i, align 1
   ret void
 
 ; uselistorder directives
@@ -2560,10 +2560,10 @@ arm.1.i.i:                                        ; preds = %join.3.i.i.i.i.i
   br label %"piper_c::writer::piper_writer_write.exit"
 
 "piper_c::writer::piper_writer_write.exit":       ; preds = %"piper_c::halves::WriteHalf::write.exit.thread.i", %"piper_c::halves::WriteHalf::write.exit.thread20.i", %arm.1.i.i
-  %r9.sroa.0.018.i = phi i64 [ %r41.i.i, %arm.1.i.i ], [ %r41.i.i, %"piper_c::halves::WriteHalf::write.exit.thread20.i" ], [ 0, %"piper_c::halves::WriteHalf::write.exit.thread.i" ]
+  %r10.sroa.0.018.i = phi i64 [ %r41.i.i, %arm.1.i.i ], [ %r41.i.i, %"piper_c::halves::WriteHalf::write.exit.thread20.i" ], [ 0, %"piper_c::halves::WriteHalf::write.exit.thread.i" ]
   %r7.sroa.0.0.i.i = phi i64 [ %r0.sroa.3.i.sroa.0.0.copyload.i.i.i.i.i.i, %arm.1.i.i ], [ 0, %"piper_c::halves::WriteHalf::write.exit.thread20.i" ], [ 0, %"piper_c::halves::WriteHalf::write.exit.thread.i" ]
   %r7.sroa.4.0.i.i = phi i64 [ %r0.sroa.3.i.sroa.4.0.copyload.i.i.i.i.i.i, %arm.1.i.i ], [ 0, %"piper_c::halves::WriteHalf::write.exit.thread20.i" ], [ 0, %"piper_c::halves::WriteHalf::write.exit.thread.i" ]
-  store i64 %r9.sroa.0.018.i, ptr %a0, align 1
+  store i64 %r10.sroa.0.018.i, ptr %a0, align 1
   %r0.sroa.3.0.a0.sroa_idx.i = getelementptr inbounds nuw i8, ptr %a0, i64 8
   store i64 %r7.sroa.0.0.i.i, ptr %r0.sroa.3.0.a0.sroa_idx.i, align 1
   %r0.sroa.4.0.a0.sroa_idx.i = getelementptr inbounds nuw i8, ptr %a0, i64 16

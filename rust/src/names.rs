@@ -4,6 +4,6 @@
 
 macro_rules! own {
     () => {
-        "piper_48a2acea8a8f_"
+        "piper_cc5d66748bf0_"
     };
 }

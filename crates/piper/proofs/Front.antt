@@ -1,9 +1,16 @@
 -- Bytes that a drain wrote to the front of a slice.
-use Rattle.std.proofs.Common.{◌≡◌, ℕ, ◌+◌, ◌<◌, ◌≤◌, ◌⊎◌, List, [], ◌++◌, take, drop, length, sym, ap, append-nil, ◌∙◌, take_at, drop_at, length-append, length-drop, inl, inr, arith}
+use Rattle.std.proofs.Common.{◌≡◌, ℕ, Result, Ok, Err, ◌+◌, ◌<◌, ◌≤◌, ◌⊎◌, List, [], ◌++◌, take, drop, length, sym, ap, append-nil, ◌∙◌, take_at, drop_at, length-append, length-drop, inl, inr, arith}
 use Rattle.piper.specs.Written.{written}
 use Rattle.piper.specs.declared.handles.Reader.{Reader}
 use Rattle.piper.specs.Looks.{ReaderIsUpToDate}
-use Rattle.piper.specs.ReaderCalls.{Drained, ReaderOnlyLooked}
+use Rattle.piper.specs.ReaderCalls.{Drained, DrainsSlice, ReaderOnlyLooked}
+use Rattle.piper.specs.CopyAnswers.{of_bytes}
+use Rattle.piper.specs.Drains.{Drains}
+use Rattle.piper.specs.Like.{Passes}
+use Rattle.piper_protocol.specs.declared.memory.OutOfMemory.{OutOfMemory}
+use Rattle.std.specs.declared.convert.Infallible.{Infallible}
+use Rattle.futures.specs.declared.task.Poll.{Poll}
+use Rattle.futures.specs.declared.task.Poll.TheVariants.{Ready, Pending}
 
 module _ (old before now new moved : List ℕ) (place n : ℕ) (same : before ≡ old) (first : place ≡ 0) (count : length moved ≡ n) (is : now ≡ written before place moved) (back : new ≡ now) where
   whole : new ≡ moved ++ drop n old
@@ -44,3 +51,18 @@ looked_only a b moved none taken known fresh = record {
 pub not_other : (P Q : Type 0) → P ⊎ Q → (Q → ⊥) → P
 not_other P Q (inl p) never = p
 not_other P Q (inr q) never = absurd (never q)
+
+-- what a drain into a slice returns, from what it does to the struct that holds the slice
+module _ {S : Type 0} (bytes : S → List ℕ) (place : S → ℕ) (takes : Passes S) (fails : S → Infallible → S → Type 0)
+    (writes : (s : S) (xs : List ℕ) (t : S) → takes s xs t → (place t ≡ place s + length xs) × (bytes t ≡ written (bytes s) (place s) xs)) where
+  pub drains_slice : (r : Poll (Result ℕ OutOfMemory)) (a b : Reader) (s t : S) (old new : List ℕ) → bytes s ≡ old → place s ≡ 0 → new ≡ bytes t → place t ≤ length new → length new ≡ length old
+      → Drains takes (λ u. length (bytes u) ≡ place u) fails (of_bytes r) a.side.end b.side.end s t → DrainsSlice r a b old new
+  drains_slice (Ready (Ok n)) a b s t old new same first back inside long d =
+      let w : (place t ≡ place s + length d.moved) × (bytes t ≡ written (bytes s) (place s) d.moved) = writes s d.moved t d.copied.0 in
+      let within : n ≤ length old = omega (arith, inside, long, w.0, first, d.copied.1) in
+      drained_is old (bytes s) (bytes t) new d.moved (place s) n same first d.copied.1 w.1 back a b d.taken d.known d.fresh within
+      (λ less. not_other _ _ d.most (λ full. omega (arith, less, full_is old (bytes s) (bytes t) new d.moved (place s) n same first d.copied.1 w.1 back within (place t) w.0 (ap length back ∙ full))))
+  drains_slice (Ready (Err e)) a b s t old new same first back inside long d =
+      (looked_only a b d.moved d.copied.1 d.taken d.known d.fresh, back ∙ ap bytes d.copied.0 ∙ same)
+  drains_slice Pending a b s t old new same first back inside long d =
+      (looked_only a b d.moved d.copied.1 d.taken d.known d.fresh, back ∙ ap bytes d.copied.0 ∙ same)

@@ -1,11 +1,16 @@
 -- Bytes that were published of a slice.
-use Rattle.std.proofs.Common.{◌≡◌, ℕ, ◌+◌, ◌<◌, ◌≤◌, ◌⊎◌, Bool, true, false, true≢false, List, [], ◌++◌, take, length, min, refl, sym, ap, ◌∙◌, append_assoc, append-nil, length-append, inl, inr, arith}
+use Rattle.std.proofs.Common.{◌≡◌, ℕ, Result, Ok, Err, ◌+◌, ◌<◌, ◌≤◌, ◌⊎◌, Bool, true, false, true≢false, List, [], ◌++◌, take, length, min, refl, sym, ap, ◌∙◌, append_assoc, append-nil, length-append, inl, inr, arith}
 use Rattle.std.proofs.lemmas.List.{nil_from_length, take_at}
 use Rattle.piper_ring.specs.WriteView.{room_in_one_piece}
 use Rattle.piper.specs.Copies.{IsReplaced}
 use Rattle.piper.specs.Looks.{WriterIsUpToDate}
-use Rattle.piper.specs.Fills.{most_of_round}
-use Rattle.piper.specs.WriterCalls.{Filled, WriterOnlyLooked}
+use Rattle.piper.specs.CopyAnswers.{of_bytes}
+use Rattle.piper.specs.Fills.{Fills, most_of_round}
+use Rattle.piper.specs.WriterCalls.{Filled, FillsSlice, WriterOnlyLooked}
+use Rattle.piper_protocol.specs.declared.memory.OutOfMemory.{OutOfMemory}
+use Rattle.std.specs.declared.convert.Infallible.{Infallible}
+use Rattle.futures.specs.declared.task.Poll.{Poll}
+use Rattle.futures.specs.declared.task.Poll.TheVariants.{Ready, Pending}
 use Rattle.piper.specs.declared.handles.Writer.{Writer}
 use Rattle.piper_protocol.specs.declared.table.TheConstants.{MOST_A_ROUND}
 
@@ -64,3 +69,14 @@ looked_only a b published lost none sent room fresh = record {
   room = room;
   fresh = fresh;
 }
+
+-- what a fill from a slice returns, from what it does to the struct that holds what is left of the slice
+module _ {S : Type 0} (rest : S → List ℕ) (fails : S → Infallible → S → Type 0) where
+  pub fills_slice : (r : Poll (Result ℕ OutOfMemory)) (a b : Writer) (s t : S)
+      → Fills (λ u xs v. rest u ≡ xs ++ rest v) (λ u. length (rest u) ≡ 0) fails (of_bytes r) a.side.end b.side.end s t → FillsSlice r a b (rest s)
+  fills_slice (Ready (Ok n)) a b s t d = (
+    filled_is (rest s) d.published d.lost (rest t) a b n d.copied.0 d.copied.1 d.sent d.all d.last d.room d.fresh d.most,
+    none_is (rest s) d.published d.lost (rest t) a b n d.copied.0 d.copied.1 d.sent d.all d.last d.most,
+  )
+  fills_slice (Ready (Err e)) a b s t d = looked_only a b d.published d.lost d.copied.1 d.sent d.room d.fresh
+  fills_slice Pending a b s t d = looked_only a b d.published d.lost d.copied.1 d.sent d.room d.fresh

@@ -1,28 +1,31 @@
 -- What the calls of a reader do: each definition is shared by all forms of a call.
-use Rattle.std.specs.Prelude.{◌≡◌, ℕ, ◌<◌, ◌≤◌, ◌++◌, ◌⊎◌, true, false, Bool, List, [], length, take, drop, Option, Result, Ok}
+use Rattle.std.specs.Prelude.{◌≡◌, ℕ, ◌<◌, ◌≤◌, ◌++◌, ◌⊎◌, true, false, Bool, List, [], length, max, take, drop, IsTrue, Option, Result, Ok}
 use Rattle.futures.specs.Task.{Covers, Keeps}
 use Rattle.futures.specs.Poll.{OnPending}
 use Rattle.futures.specs.declared.task.context.Context.{Context}
 use Rattle.futures.specs.declared.task.Poll.{Poll}
 use Rattle.futures.specs.declared.task.Poll.TheVariants.{Ready}
 use denote.Ref.{Bor}
-use Rattle.piper_ring.specs.ReadView.{KeepsAll, KnowsEnd, MayBeUnread as EndMayHave}
+use Rattle.piper_ring.specs.Loads.{FoundClosed}
+use Rattle.piper_ring.specs.ReadView.{Agree, KeepsAll, KnowsEnd, MayBeUnread as EndMayHave}
 use Rattle.piper_ring.specs.SlotsView.{IsReaderPending, IsWriterPending, OnlyWaits, WaitsAsBefore}
 use Rattle.piper.specs.Called.{CallsTaken}
 use Rattle.piper.specs.Contexts.{AsksAgain}
 use Rattle.piper.specs.Copies.{ReaderCopied}
-use Rattle.piper.specs.CopyAnswers.{OnMemory}
+use Rattle.piper.specs.CopyAnswers.{CountsFailure, OnMemory}
 use Rattle.piper.specs.Drains.{Drains, EndIsTrue, EndIsUnseen, found_len}
 use Rattle.piper.specs.Draws.{Draws, Undrawn}
 use Rattle.piper.specs.Handles.{NotifiesReader, NotifiesWriter, SameReader, SameWriter, read_source}
 use Rattle.piper.specs.Like.{Passes, appends_to}
 use Rattle.piper_ring.specs.Looks.{IsEnded, ReaderIsUpToDate, ReaderLooked}
-use Rattle.piper.specs.Looks.{ReaderFound}
+use Rattle.piper.specs.Looks.{OnRefused, ReaderFound}
 use Rattle.piper.specs.Polls.{After, Count, IfReadyErr, IfReadyOk, TakesNone}
 use Rattle.piper.specs.Waits.{ReaderIsRefused, ReaderIsRemembered, ReaderPends, WriterIsRemembered, ReaderLeavesNone, ReaderRegistered}
 use Rattle.piper.specs.declared.error.CopyError.{CopyError}
 use Rattle.piper.specs.declared.error.PipeError.{PipeError}
+use Rattle.piper_ring.specs.WriteView.{either}
 use Rattle.piper_ring.specs.declared.ends.finished.FinishedWriter.{FinishedWriter}
+use Rattle.piper_ring.specs.declared.ring.marks.WriteMark.{WriteMark}
 use Rattle.piper.specs.declared.handles.Reader.{Reader}
 use Rattle.piper.specs.declared.handles.Writer.{Writer}
 
@@ -40,18 +43,34 @@ ReaderMayHave reader n = EndMayHave reader.side.end n
 abbrev pub Looks : Reader → Reader → Type 0
 Looks a b = ReaderLooked a.side.end b.side.end
 
--- a poll looked, which takes no byte, and returns what it found; if that is a byte, it leaves no
--- waker in its slot
-pub record ReaderPolled {E : Type 0} (r : Poll (Result Bool E)) (a b : Reader) : Type 0 where
-  pub found : ReaderFound r b.side.end
-  pub looked : ReaderLooked a.side.end b.side.end
-  pub leaves : IfReadyOk r (λ some. some ≡ true → ReaderLeavesNone b)
+-- a query whether the pipe is closed loaded closed; once the reader knows that, it says so
+pub record ReaderFindsClosed (reader : Reader) (answer : Bool) : Type 0 where
+  pub saw : reader.side.end.saw ≡ true → IsTrue answer
+  pub observed : reader.side.end.observed_shut ≡ true → IsTrue answer
+  pub found : FoundClosed reader.side.end.ring.names answer
 
 -- once the end was reported a poll reports it again, or is refused memory; and what the reader knows
 -- to be all is all
 pub record PollsEnd {A E : Type 0} (r : Poll (Result A E)) (a b : Reader) : Type 0 where
   pub after : AtEnd a → After r (AtEnd b) b.side.end.known
   pub all : KeepsAll a.side.end b.side.end
+
+-- a poll looked, which takes no byte, and returns what it found; if that is a byte, it leaves no
+-- waker in its slot
+pub record ReaderPolled {E : Type 0} (r : Poll (Result Bool E)) (a b : Reader) : Type 0 where
+  pub found : ReaderFound r b.side.end
+  pub looked : ReaderLooked a.side.end b.side.end
+  pub leaves : IfReadyOk r (λ some. some ≡ true → ReaderLeavesNone b)
+  pub end : PollsEnd r a b
+
+-- a poll that is pending waits, and one that is refused memory was so only for its waker. Else the
+-- handle stays as it was, and what was asked of the context before
+pub record ReaderPollWaits {E : Type 0} (r : Poll (Result Bool E))
+    (a b : Reader) (old left : Context) : Type 0 where
+  pub pending : OnPending r (ReaderPends a b left)
+  pub memory : OnRefused r (ReaderIsRefused b left)
+  pub context : Keeps old left
+  pub rest : SameReader OnlyWaits a b
 
 -- a poll that lends looked as `poll` does, and if it is pending it waits as that does
 pub record PollsPiece (r : Poll (Result (Bor (List ℕ)) PipeError)) (a b : Reader) (cx : Context)
@@ -83,10 +102,13 @@ abbrev pub DrainsSlice : {E : Type 0} → Poll (Result ℕ E) → Reader → Rea
 DrainsSlice (Ready (Ok n)) a b old new = Drained n a b old new
 DrainsSlice other a b old new = ReaderOnlyLooked a b × (new ≡ old)
 
--- a drain into any destination, and into a writer of std
-abbrev pub DrainsLike : {S E : Type 0} → Passes S → (S → Type 0) → (S → E → S → Type 0)
+-- a drain into any destination, whose count of failures differs exactly if one is returned; and one
+-- into a writer of std
+abbrev pub DrainsLike : {S E : Type 0} → Passes S → (S → Type 0) → (S → E → S → Type 0) → (S → ℕ)
     → Poll (Result ℕ (CopyError E)) → Reader → Reader → S → S → Type 0
-DrainsLike takes is_full fails r a b s t = Drains takes is_full fails r a.side.end b.side.end s t
+DrainsLike takes is_full fails failures r a b s t =
+    Drains takes is_full fails r a.side.end b.side.end s t
+    × CountsFailure r (failures s) (failures t)
 
 abbrev pub DrainsStd : {S E : Type 0} → (S → Option (List ℕ)) → (S → Type 0)
     → (S → E → S → Type 0) → Poll (Result ℕ (CopyError E)) → Reader → Reader → S → S → Type 0
@@ -98,11 +120,6 @@ DrainsStd contents is_full fails r a b s t =
 pub record DrainsEnd {E : Type 0} (r : Poll (Result ℕ E)) (a b : Reader) : Type 0 where
   pub end : EndIsTrue r a.side.end b.side.end
   pub after : AtEnd a → TakesNone r (AtEnd b) a.side.end.taken b.side.end.taken
-  pub all : KeepsAll a.side.end b.side.end
-
--- the same of a drain that doesn't wait
-pub record KeepsEnd (a b : Reader) : Type 0 where
-  pub stays : AtEnd a → AtEnd b
   pub all : KeepsAll a.side.end b.side.end
 
 -- a drain that is pending: it found no byte, neither saw the pipe closed nor was told so, and waits
@@ -148,6 +165,21 @@ pub record SameReaderButMoved (a b : Reader) : Type 0 where
   pub source : b.source ≡ a.source
   pub end : ReaderCopied a.side.end b.side.end
 
+-- what else a drain says: what holds at the end, whom it woke, and what stays of the reader
+pub record DrainRest {E : Type 0} (r : Poll (Result ℕ E)) (a b : Reader) : Type 0 where
+  pub end : DrainsEnd r a b
+  pub woken : WakesWriter a b
+  pub same : SameReaderButMoved a b
+
+-- what else a drain says whose count doesn't tell the end: what the reader knows of the end stays. It
+-- draws nothing, and the reader waits as it did
+pub record ReaderTried (a b : Reader) : Type 0 where
+  pub stays : AtEnd a → AtEnd b
+  pub all : KeepsAll a.side.end b.side.end
+  pub woken : WakesWriter a b
+  pub copied : ReaderCopied a.side.end b.side.end
+  pub same : SameReader WaitsAsBefore a b
+
 -- all that a read says of a handle, its answer, the slice and the context: it drains. A `&mut` to the
 -- handle and its owner say the same
 pub record ReadsAsDrain (a b : Reader) (r : Count) (old new : List ℕ)
@@ -165,6 +197,22 @@ pub record ReadsAsDrain (a b : Reader) (r : Count) (old new : List ℕ)
 pub record KnowsAll (r : Reader) (bytes : List ℕ) : Type 0 where
   pub all : r.side.end.all ≡ bytes
   pub rest : (xs : List ℕ) × ((r.side.end.taken ++ r.side.end.known) ++ xs ≡ bytes)
+
+-- the reader observed this mark of the writer: from now on a look finds at least its bytes. These, and
+-- those that the reader took and knows of, begin alike; if the mark says closed, they are all bytes.
+-- Nothing else of the reader changed
+pub record ReaderObserves (mark : WriteMark) (a b : Reader) : Type 0 where
+  pub observed : b.side.end.observed ≡ max a.side.end.observed (length mark.bytes)
+  pub shut : b.side.end.observed_shut ≡ either a.side.end.observed_shut mark.shut
+  pub agree : Agree (b.side.end.taken ++ b.side.end.known) mark.bytes
+  pub last : mark.shut ≡ true → KnowsAll b mark.bytes
+  pub all : KeepsAll a.side.end b.side.end
+  pub end : b.side.end ≡ record a.side.end {
+    observed = b.side.end.observed;
+    observed_shut = b.side.end.observed_shut;
+    all = b.side.end.all;
+  }
+  pub rest : SameReader (λ s t. t ≡ s) a b × (b.side.log ≡ a.side.log)
 
 -- if the reader was pending in its slot, the writer took its last waker and woke it as it left
 abbrev pub ReaderWasWoken : Reader → FinishedWriter → Type 0

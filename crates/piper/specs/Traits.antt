@@ -8,6 +8,7 @@ use Rattle.piper_protocol.specs.declared.memory.OutOfMemory.{OutOfMemory}
 use Rattle.piper_ring.specs.SlotsView.{WaitsAsBefore}
 use Rattle.piper.specs.Called.{CallsTaken}
 use Rattle.piper.specs.Handles.{NotifiesReader, NotifiesWriter, SameReader}
+use Rattle.piper.specs.ReaderCalls.{AtEnd}
 use Rattle.piper.specs.Polls.{Done}
 use Rattle.piper.specs.Waits.{WriterLeavesNone}
 use Rattle.piper.specs.WriterCalls.{SameWriterButShut}
@@ -28,6 +29,7 @@ pub record Consumes (a b : Reader) (n : ℕ) : Type 0 where
   pub woken : NotifiesWriter b
   pub called : CallsTaken a.side.slots b.side.slots
   pub handle : SameReader WaitsAsBefore a b
+  pub stays : AtEnd a → AtEnd b
   pub end : b.side.end
       ≡ record a.side.end { taken = b.side.end.taken; known = b.side.end.known }
 
@@ -38,11 +40,13 @@ pub record Flushes (a b : Writer) (r : Done) (old left : Context) : Type 0 where
   pub rest : b ≡ a
   pub context : left ≡ old
 
--- a close is ready at once, and doesn't fail: it checked the reader's slot, called each waker that it
--- took, and leaves none of its own
-pub record Closes (a b : Writer) (r : Done) : Type 0 where
+-- a close is ready at once, doesn't fail, and asks nothing of the context: it checked the reader's
+-- slot, called each waker that it took, and leaves none of its own
+pub record Closes {E : Type 0} (a b : Writer) (r : Poll (Result (Unit {0}) E)) (old left : Context)
+    : Type 0 where
   pub answer : r ≡ Ready (Ok (record {}))
   pub woken : NotifiesReader b
   pub called : CallsTaken a.side.slots b.side.slots
   pub leaves : WriterLeavesNone b
+  pub context : left ≡ old
   pub rest : SameWriterButShut a b

@@ -4,7 +4,7 @@ use Rattle.futures.specs.Task.{Covers}
 use Rattle.futures.specs.declared.task.context.Context.{Context}
 use Rattle.piper_ring.specs.Loads.{IsAway}
 use Rattle.piper_ring.specs.SlotsView.{IsReaderPending, IsWriterPending}
-use Rattle.piper.specs.Called.{CallsTaken, RegistersTask}
+use Rattle.piper.specs.Called.{CallsTaken, HasDropped, RegistersTask}
 use Rattle.piper.specs.Contexts.{AsksAgain, IsCalm}
 use Rattle.piper.specs.Handles.{read_source, write_source}
 use Rattle.piper_ring.specs.Looks.{NothingYet}
@@ -95,14 +95,17 @@ WriterIsRemembered a b reader =
     (reader.side.slots.taken ≡ a.side.slots.tickets)
     ⊎ ((b.side.end.room ≡ 0) × (b.side.end.shut ≡ false))
 
--- after the close by which it left, the reader checked the writer's slot, and called whom it took
+-- after the close by which it left, the reader checked the writer's slot, and called whom it took; and
+-- it dropped what lay in the places, if the writer had left before
 pub record ReaderWokeLast (reader : Reader) (left : FinishedReader) : Type 0 where
   pub count : left.slots.stored.count ≡ length reader.side.end.taken
   pub over : left.slots.stored.closed ≡ true
   pub called : CallsTaken reader.side.slots left.slots
+  pub dropped : HasDropped reader.side.end.ring.names
 
--- after the close by which it left, the writer checked the reader's slot, and called whom it took
+-- the same of a writer that left, and of the reader's slot
 pub record WriterWokeLast (writer : Writer) (left : FinishedWriter) : Type 0 where
   pub bytes : left.slots.stored.bytes ≡ writer.side.end.sent
   pub shut : left.slots.stored.closed ≡ true
   pub called : CallsTaken writer.side.slots left.slots
+  pub dropped : HasDropped writer.side.end.ring.names

@@ -1,25 +1,26 @@
 -- What the calls of a writer do: each definition is shared by all forms of a call.
-use Rattle.std.specs.Prelude.{◌≡◌, ℕ, ◌<◌, ◌≤◌, ◌++◌, true, false, Bool, List, [], length, take, Option, Result, Ok}
+use Rattle.std.specs.Prelude.{◌≡◌, ℕ, ◌<◌, ◌≤◌, ◌++◌, true, false, Bool, List, [], length, max, take, IsTrue, Option, Result, Ok}
 use Rattle.std.specs.Io.KnownBytes.{IsAtEnd}
 use Rattle.futures.specs.Task.{Covers, Keeps}
 use Rattle.futures.specs.Poll.{OnPending}
 use Rattle.futures.specs.declared.task.context.Context.{Context}
 use Rattle.futures.specs.declared.task.Poll.{Poll}
 use Rattle.futures.specs.declared.task.Poll.TheVariants.{Ready}
-use Rattle.piper_ring.specs.SlotsView.{IsWriterPending, WaitsAsBefore}
+use Rattle.piper_ring.specs.Loads.{FoundClosed}
+use Rattle.piper_ring.specs.SlotsView.{IsWriterPending, OnlyWaits, WaitsAsBefore}
 use Rattle.piper_ring.specs.WriteView.{Lendable, MayBeUnread as EndMayHave}
 use Rattle.piper.specs.Called.{CallsTaken}
 use Rattle.piper.specs.Contexts.{AsksAgain}
 use Rattle.piper.specs.Copies.{IsReplaced, WriterCopied}
-use Rattle.piper.specs.CopyAnswers.{OnMemory, of_std}
+use Rattle.piper.specs.CopyAnswers.{CountsFailure, OnMemory, of_std}
 use Rattle.piper.specs.Draws.{Draws, Undrawn}
 use Rattle.piper.specs.Fills.{Fills, FoundRoom, LosesOneRound, OnNoCount}
 use Rattle.piper.specs.Handles.{NotifiesReader, SameWriter, write_source}
 use Rattle.piper.specs.Like.{Passes, consumes_of}
 use Rattle.piper_ring.specs.Looks.{WriterIsUpToDate, WriterLooked}
-use Rattle.piper.specs.Looks.{WriterFound}
+use Rattle.piper.specs.Looks.{OnRefused, WriterFound}
 use Rattle.piper.specs.Polls.{Count, IfReadyErr, IfReadyOk}
-use Rattle.piper.specs.Waits.{WriterIsRefused, WriterLeavesNone, WriterRegistered}
+use Rattle.piper.specs.Waits.{WriterIsRefused, WriterLeavesNone, WriterPends, WriterRegistered}
 use Rattle.piper.specs.declared.error.CopyError.{CopyError}
 use Rattle.piper_ring.specs.declared.ends.finished.FinishedReader.{FinishedReader}
 use Rattle.piper.specs.declared.handles.Writer.{Writer}
@@ -39,11 +40,23 @@ MayLend writer max n = Lendable writer.side.end max n
 abbrev pub MustLend : Writer → ℕ → Type 0
 MustLend writer max = (writer.side.end.shut ≡ false) × (0 < writer.side.end.room) × (0 < max)
 
+-- the writer observed a mark of so many consumed bytes, and counts the pipe as seen closed or not.
+-- Nothing else of the writer changed
+pub record WriterObserves (count : ℕ) (saw : Bool) (a b : Writer) : Type 0 where
+  pub end : b.side.end
+      ≡ record a.side.end { observed = max a.side.end.observed count; saw = saw }
+  pub rest : SameWriter (λ s t. t ≡ s) a b × (b.side.log ≡ a.side.log)
+
 -- if the writer was pending in its slot, the reader took its last waker and woke it as it left
 abbrev pub WriterWasWoken : Writer → FinishedReader → Type 0
 WriterWasWoken writer left =
     IsWriterPending writer.side.end writer.side.slots
     → left.slots.taken ≡ writer.side.slots.tickets
+
+-- a query whether the pipe is closed loaded closed; once the writer saw that, it says so
+pub record WriterFindsClosed (writer : Writer) (answer : Bool) : Type 0 where
+  pub saw : writer.side.end.saw ≡ true → IsTrue answer
+  pub found : FoundClosed writer.side.end.ring.names answer
 
 -- a poll looked, which publishes nothing, and returns what it found; if that is room, it leaves no
 -- waker in its slot
@@ -51,6 +64,21 @@ pub record WriterPolled {E : Type 0} (r : Poll (Result Bool E)) (a b : Writer) :
   pub found : WriterFound r b.side.end
   pub looked : WriterLooked a.side.end b.side.end
   pub leaves : IfReadyOk r (λ some. some ≡ true → WriterLeavesNone b)
+
+-- a poll that is pending waits, and one that is refused memory was so only for its waker. Else the
+-- handle stays as it was, and what was asked of the context before
+pub record WriterPollWaits {E : Type 0} (r : Poll (Result Bool E))
+    (a b : Writer) (old left : Context) : Type 0 where
+  pub pending : OnPending r (WriterPends a b left)
+  pub memory : OnRefused r (WriterIsRefused b left)
+  pub context : Keeps old left
+  pub rest : SameWriter OnlyWaits a b
+
+-- the writer published: it checked the reader's slot after that, and called each waker that it took
+pub record Produces (a b : Writer) : Type 0 where
+  pub woken : NotifiesReader b
+  pub called : CallsTaken a.side.slots b.side.slots
+  pub handle : SameWriter WaitsAsBefore a b
 
 -- n bytes were taken from the front of a slice, and published: all of them unless the pipe was seen
 -- closed, and else all but those of one round. They are as many as there is room for, which is
@@ -77,10 +105,13 @@ FillsSlice (Ready (Ok n)) a b bytes =
     Filled n a b bytes × (n ≡ 0 → 0 < length bytes → b.side.end.saw ≡ true)
 FillsSlice other a b bytes = WriterOnlyLooked a b
 
--- a fill from any source, and from a reader of std
-abbrev pub FillsLike : {S E : Type 0} → Passes S → (S → Type 0) → (S → E → S → Type 0)
+-- a fill from any source, whose count of failures differs exactly if one is returned; and one from a
+-- reader of std
+abbrev pub FillsLike : {S E : Type 0} → Passes S → (S → Type 0) → (S → E → S → Type 0) → (S → ℕ)
     → Poll (Result ℕ (CopyError E)) → Writer → Writer → S → S → Type 0
-FillsLike gives is_dry fails r a b s t = Fills gives is_dry fails r a.side.end b.side.end s t
+FillsLike gives is_dry fails failures r a b s t =
+    Fills gives is_dry fails r a.side.end b.side.end s t
+    × CountsFailure r (failures s) (failures t)
 
 abbrev pub FillsStd : {S E : Type 0} → (S → Option (List ℕ)) → (S → E → S → Type 0)
     → Poll (Result ℕ (CopyError E)) → Writer → Writer → S → S → Type 0
@@ -131,6 +162,21 @@ pub record SameWriterButMoved (a b : Writer) : Type 0 where
   pub cells : b.side.cells ≡ a.side.cells
   pub source : b.source ≡ a.source
   pub end : WriterCopied a.side.end b.side.end
+
+-- what else a fill says: what holds once the pipe was seen closed, whom it woke, and what stays of the
+-- writer
+pub record FillRest {E : Type 0} (r : Poll (Result ℕ E)) (a b : Writer) : Type 0 where
+  pub end : FillsEnd r a b
+  pub woken : WakesReader a b
+  pub same : SameWriterButMoved a b
+
+-- what else a fill says whose count doesn't tell the close: it draws nothing, and the writer waits as it
+-- did
+pub record WriterTried (n : ℕ) (a b : Writer) : Type 0 where
+  pub over : a.side.end.saw ≡ true → n ≡ 0
+  pub woken : WakesReader a b
+  pub copied : WriterCopied a.side.end b.side.end
+  pub same : SameWriter WaitsAsBefore a b
 
 -- all that a write says of a handle, its answer, the slice and the context: it fills. A `&mut` to the
 -- handle and its owner say the same

@@ -1,14 +1,7 @@
 //! The calls of both handles, except copies (copies/) and those that their end of the ring answers
 //! (handles/ends.rt).
-ghost use Rattle.std.specs.Prelude.{◌≡◌, ◌-◌, ◌<◌, ◌≤◌, ◌++◌, length, take, drop, IsTrue, Ok, true};
-ghost use Rattle.futures.specs.Task.{Keeps};
-ghost use Rattle.futures.specs.Poll.{OnPending};
-ghost use Rattle.piper_protocol.specs.Table.{ends};
-ghost use Rattle.piper_ring.specs.Log.{Opened, Ran};
-ghost use Rattle.piper_ring.specs.SlotsView.{OnlyWaits, WaitsAsBefore};
-ghost use Rattle.piper.specs.Called.{CallsTaken, HasDropped};
-ghost use Rattle.piper.specs.Looks.{OnRefused};
-ghost use Rattle.piper.specs.Runs.{poll_answer};
+ghost use Rattle.std.specs.Prelude.{◌≡◌, ◌-◌, ◌<◌, ◌≤◌, ◌++◌, length, take, drop, true};
+ghost use Rattle.piper.specs.Runs.{ReaderRan, ReaderRanLast, WriterRan, WriterRanLast, poll_answer, reader_looks, writer_looks};
 
 use crate::handles::waiting::{call, let_left_go, take_own, wake_other, wake_own, wake_waiting};
 use crate::handles::{Reader, Writer};
@@ -20,13 +13,11 @@ use piper_ring::{
 };
 
 impl Reader {
-    ghost use Rattle.piper_ring.specs.Loads.{FoundClosed};
     ghost use Rattle.piper.specs.Counts.{ReaderCompares};
-    ghost use Rattle.piper.specs.Handles.{NotifiesWriter, SameReader};
-    ghost use Rattle.piper.specs.OfReader.{ring, capacity, taken, known, end_of, front, log, saw, slots, observed_shut};
-    ghost use Rattle.piper.specs.ReaderCalls.{AtEnd, ReaderMayHave, ReaderPolled, PollsEnd};
-    ghost use Rattle.piper_ring.specs.Looks.{looks_at};
-    ghost use Rattle.piper.specs.Waits.{ReaderIsRefused, ReaderPends, ReaderWokeLast};
+    ghost use Rattle.piper.specs.OfReader.{ring, capacity, taken, known, end_of, front};
+    ghost use Rattle.piper.specs.ReaderCalls.{ReaderFindsClosed, ReaderMayHave, ReaderPolled, ReaderPollWaits};
+    ghost use Rattle.piper.specs.Traits.{Consumes};
+    ghost use Rattle.piper.specs.Waits.{ReaderWokeLast};
 
     /// How many bytes are unread now.
     ///
@@ -66,9 +57,7 @@ impl Reader {
     /// Returns: always `true` if this reader saw the pipe closed or learned it from a mark. Once it
     /// is `true` it stays so (not proved).
     pub fn is_closed(&self) -> bool
-        ensures stays { (saw self.now ≡ true → IsTrue result)
-            × (observed_shut self.now ≡ true → IsTrue result) }
-        ensures found { FoundClosed (ring self.now).names result }
+        ensures { ReaderFindsClosed self.now result }
     {
         self.end().is_closed()
     }
@@ -81,14 +70,10 @@ impl Reader {
     /// Errors: `OutOfMemory`, only if no byte is known and no waker can be made. It may come at the
     /// end too, since the waker is made before closed is loaded.
     pub fn poll(&mut self, cx: &mut Context<'_>) -> Poll<Result<bool, OutOfMemory>>
-        ensures ran { Ran (looks_at (end_of self.old) Purpose.Poll) (poll_answer result)
-            (log self.old) (log self.new) }
+        ensures ran { ReaderRan (reader_looks self.old Purpose.Poll) (poll_answer result)
+            self.old self.new }
         ensures found { ReaderPolled result self.old self.new }
-        ensures end { PollsEnd result self.old self.new }
-        ensures pending { OnPending result (ReaderPends self.old self.new cx.new) }
-        ensures memory { OnRefused result (ReaderIsRefused self.new cx.new) }
-        ensures context { Keeps cx.old cx.new }
-        ensures rest { SameReader OnlyWaits self.old self.new }
+        ensures waits { ReaderPollWaits result self.old self.new cx.old cx.new }
     {
         if !self.side.look_first(Purpose::Poll) {
             match self.look_waiting(Purpose::Poll, cx) {
@@ -122,15 +107,13 @@ impl Reader {
     #[inline(always)]
     pub fn consume(&mut self, amt: usize)
         requires { amt ≤ front self.old }
-        ensures ran { Ran (Point.Reader (ReadPoint.StoreHead amt AfterRead.Answer)) Answer.Done
-            (log self.old) (log self.new) }
+        ensures ran { ReaderRan (Point.Reader (ReadPoint.StoreHead amt AfterRead.Answer)) Answer.Done
+            self.old self.new }
         ensures view { end_of self.new ≡ record (end_of self.old) {
           taken = taken self.old ++ take amt (known self.old);
           known = drop amt (known self.old);
         } }
-        ensures end { AtEnd self.old → AtEnd self.new }
-        ensures woken { NotifiesWriter self.new × CallsTaken (slots self.old) (slots self.new) }
-        ensures rest { SameReader WaitsAsBefore self.old self.new }
+        ensures woken { Consumes self.old self.new amt }
     {
         self.side.begin(Point::Reader(ReadPoint::StoreHead(amt, AfterRead::Answer)));
         self.side.store_head(amt);
@@ -153,12 +136,10 @@ impl Reader {
     /// Wakes: the writer, if it waits. A task that is still registered at this reader may also be
     /// woken: later by the writer, or by this call if the writer was dropped before.
     pub fn drop(self) -> FinishedReader
-        ensures ran { Opened (Point.Reader ReadPoint.StoreClosed)
-            (ends (Point.Reader ReadPoint.Dropped) Answer.Done) (log self) result.log }
+        ensures ran { ReaderRanLast self result }
         ensures mark { (result.mark.consumed.names ≡ (ring self).names)
             × (result.mark.consumed.count ≡ length (taken self)) }
         ensures woken { ReaderWokeLast self result }
-        ensures left { HasDropped (ring self).names }
     {
         let Reader {
             mut side,
@@ -168,12 +149,9 @@ impl Reader {
         side.begin(Point::Reader(ReadPoint::StoreClosed));
         // Closed is stored and the slot emptied in one, since between these two steps there is no
         // handle. When the waker is called the memory may be freed.
-        let Finished {
-            mut side,
-            taken,
-            left,
-        } = side.finish();
+        let Finished { side, taken, left } = side.finish();
         let_left_go(left);
+        let mut side = side;
         if let Some(waker) = taken {
             call(waker);
             side.log.woke();
@@ -183,12 +161,11 @@ impl Reader {
 }
 
 impl Writer {
-    ghost use Rattle.piper_ring.specs.Loads.{FoundClosed};
     ghost use Rattle.piper.specs.Counts.{WriterCompares};
-    ghost use Rattle.piper.specs.Handles.{NotifiesReader, SameWriter};
-    ghost use Rattle.piper.specs.OfWriter.{ring, capacity, end_of, sent, room, lent, log, shut, saw, slots};
-    ghost use Rattle.piper.specs.Waits.{WriterIsRefused, WriterLeavesNone, WriterPends, WriterWokeLast};
-    ghost use Rattle.piper.specs.WriterCalls.{WriterMayHave, WriterPolled, SameWriterButShut};
+    ghost use Rattle.piper.specs.OfWriter.{ring, capacity, end_of, sent, room, lent, shut};
+    ghost use Rattle.piper.specs.Traits.{Closes};
+    ghost use Rattle.piper.specs.Waits.{WriterWokeLast};
+    ghost use Rattle.piper.specs.WriterCalls.{Produces, WriterFindsClosed, WriterMayHave, WriterPolled, WriterPollWaits};
 
     /// How many bytes are unread now.
     ///
@@ -227,8 +204,7 @@ impl Writer {
     /// Returns: always `true` if this writer saw the pipe closed, or closed it. Once it is `true`
     /// it stays so (not proved).
     pub fn is_closed(&self) -> bool
-        ensures saw { saw self.now ≡ true → IsTrue result }
-        ensures found { FoundClosed (ring self.now).names result }
+        ensures { WriterFindsClosed self.now result }
     {
         self.end().is_closed()
     }
@@ -241,13 +217,10 @@ impl Writer {
     /// Errors: `OutOfMemory`, only if there is no room, the pipe was not seen closed, and no waker
     /// can be made.
     pub fn poll(&mut self, cx: &mut Context<'_>) -> Poll<Result<bool, OutOfMemory>>
-        ensures ran { Ran (Point.Writer (WritePoint.LookClosed Purpose.Poll)) (poll_answer result)
-            (log self.old) (log self.new) }
+        ensures ran { WriterRan (writer_looks Purpose.Poll) (poll_answer result)
+            self.old self.new }
         ensures found { WriterPolled result self.old self.new }
-        ensures pending { OnPending result (WriterPends self.old self.new cx.new) }
-        ensures memory { OnRefused result (WriterIsRefused self.new cx.new) }
-        ensures context { Keeps cx.old cx.new }
-        ensures rest { SameWriter OnlyWaits self.old self.new }
+        ensures waits { WriterPollWaits result self.old self.new cx.old cx.new }
     {
         match self.side.look_first(Purpose::Poll) {
             Look::Ready => {}
@@ -273,16 +246,15 @@ impl Writer {
     #[inline(always)]
     pub fn produced(&mut self, n: usize)
         requires { n ≤ length (lent self.old) }
-        ensures ran { Ran (Point.Writer (WritePoint.StoreTail n AfterWrite.Answer)) Answer.Done
-            (log self.old) (log self.new) }
+        ensures ran { WriterRan (Point.Writer (WritePoint.StoreTail n AfterWrite.Answer)) Answer.Done
+            self.old self.new }
         ensures room { n ≤ room self.old }
         ensures view { end_of self.new ≡ record (end_of self.old) {
           sent = sent self.old ++ take n (lent self.old);
           lent = drop n (lent self.old);
           room = room self.old - n;
         } }
-        ensures woken { NotifiesReader self.new × CallsTaken (slots self.old) (slots self.new) }
-        ensures rest { SameWriter WaitsAsBefore self.old self.new }
+        ensures woken { Produces self.old self.new }
     {
         self.side.begin(Point::Writer(WritePoint::StoreTail(n, AfterWrite::Answer)));
         self.side.store_tail(n);
@@ -296,13 +268,9 @@ impl Writer {
     /// Wakes: the reader, if it waits. A task that is still registered at this writer is woken (not
     /// proved), and no waker of this writer is left.
     pub fn poll_close(&mut self, cx: &mut Context<'_>) -> Poll<Result<(), OutOfMemory>>
-        ensures ran { Ran (Point.Writer (WritePoint.StoreClosed AfterWrite.WakeWriter)) Answer.Done
-            (log self.old) (log self.new) }
-        ensures answer { result ≡ Poll.Ready (Ok (record {})) }
-        ensures woken { NotifiesReader self.new × CallsTaken (slots self.old) (slots self.new) }
-        ensures leaves { WriterLeavesNone self.new }
-        ensures context { Keeps cx.old cx.new }
-        ensures rest { SameWriterButShut self.old self.new }
+        ensures ran { WriterRan (Point.Writer (WritePoint.StoreClosed AfterWrite.WakeWriter))
+            Answer.Done self.old self.new }
+        ensures closes { Closes self.old self.new result cx.old cx.new }
     {
         let _unused = cx;
         self.side.begin(Point::Writer(WritePoint::StoreClosed(AfterWrite::WakeWriter)));
@@ -328,12 +296,10 @@ impl Writer {
     /// Wakes: the reader, if it waits. A task that is still registered at this writer may also be
     /// woken: later by the reader, or by this call if the reader was dropped before.
     pub fn drop(self) -> FinishedWriter
-        ensures ran { Opened (Point.Writer (WritePoint.StoreClosed AfterWrite.Drop))
-            (ends (Point.Writer WritePoint.Dropped) Answer.Done) (log self) result.log }
+        ensures ran { WriterRanLast self result }
         ensures mark { (result.mark.names ≡ (ring self).names)
             × (result.mark.bytes ≡ sent self) × (result.mark.shut ≡ true) }
         ensures woken { WriterWokeLast self result }
-        ensures left { HasDropped (ring self).names }
     {
         let Writer {
             mut side,
@@ -342,12 +308,9 @@ impl Writer {
         } = self;
         side.begin(Point::Writer(WritePoint::StoreClosed(AfterWrite::Drop)));
         // As the reader's.
-        let Finished {
-            mut side,
-            taken,
-            left,
-        } = side.finish();
+        let Finished { side, taken, left } = side.finish();
         let_left_go(left);
+        let mut side = side;
         if let Some(waker) = taken {
             call(waker);
             side.log.woke();

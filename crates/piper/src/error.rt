@@ -17,6 +17,9 @@ pub enum PipeError {
     Io(io::Error),
 }
 
+/// What the traits of `piper::io` return, as `io::Result` is what those of std do.
+pub type PipeResult<T> = Result<T, PipeError>;
+
 /// What a fill or a drain over any source or destination may fail with.
 #[derive(Debug, Drop)]
 pub enum CopyError<E> {

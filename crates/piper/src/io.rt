@@ -11,7 +11,7 @@ ghost use Rattle.piper.specs.Polls.{After, Count, Done, Lends, Piece, Reads, Tak
 mod by_ref;
 mod copy;
 
-use crate::error::PipeError;
+use crate::error::PipeResult;
 pub use copy::{Copied, poll_copy};
 use futures::task::{Context, Poll};
 
@@ -55,7 +55,7 @@ pub trait AsyncRead {
     /// Pending: nothing was taken, and `dest` stays as it was. If the reader was told of the end, a
     /// pending call has asked for another poll.
     /// Errors: those of the type. Nothing was taken, and `dest` stays as it was.
-    fn poll_read(&mut self, cx: &mut Context<'_>, dest: &mut [u8]) -> Poll<Result<usize, PipeError>>
+    fn poll_read(&mut self, cx: &mut Context<'_>, dest: &mut [u8]) -> Poll<PipeResult<usize>>
         ensures read { Reads result dest.old dest.new
             (taken self.old) (taken self.new) (saw self.new) }
         ensures end { (result ≡ Poll.Ready (Ok 0) → 0 < length dest.old → ended self.new)
@@ -117,7 +117,7 @@ pub trait AsyncBufRead {
     /// Returns: an empty slice only at the end: after it no byte comes, and no call is pending.
     /// Pending: no byte is known. A reader that was told of the end is not pending.
     /// Errors: those of the type. Bytes that were known stay known, and none is taken.
-    fn poll_fill_buf(&mut self, cx: &mut Context<'_>) -> Poll<Result<&[u8], PipeError>>
+    fn poll_fill_buf(&mut self, cx: &mut Context<'_>) -> Poll<PipeResult<&[u8]>>
         // said of the reader as it is once the slice is given back
         ensures* lent { sem 𝓛 (Rests Self.row self.entry (λ new.
             Lends result (known new) (piece new) (saw new)
@@ -181,8 +181,8 @@ pub trait AsyncWrite {
     // before and after
     ghost flushes: { Self → Self → Done → Context → Context → Type 0 } = { λ _ _ _ _ _. ⊤ };
 
-    // what a close says besides, of the writer before and after it, and the answer
-    ghost closes: { Self → Self → Done → Type 0 } = { λ _ _ _. ⊤ };
+    // what a close says besides, as of a flush
+    ghost closes: { Self → Self → Done → Context → Context → Type 0 } = { λ _ _ _ _ _. ⊤ };
 
     /// Publishes bytes from the front of `source`.
     ///
@@ -191,7 +191,7 @@ pub trait AsyncWrite {
     /// closed at most 131,072 of the counted bytes are lost.
     /// Pending: nothing was published.
     /// Errors: those of the type. Nothing was published.
-    fn poll_write(&mut self, cx: &mut Context<'_>, source: &[u8]) -> Poll<Result<usize, PipeError>>
+    fn poll_write(&mut self, cx: &mut Context<'_>, source: &[u8]) -> Poll<PipeResult<usize>>
         ensures written { Writes result source.now (sent self.old) (sent self.new) (saw self.new) }
         ensures says { says self.old self.new result source.now cx.new }
         ensures error { IfReadyErr result (fails self.new cx.new) }
@@ -206,7 +206,7 @@ pub trait AsyncWrite {
     /// Returns: `Ok(())` once all of it is.
     /// Pending: for a reason of the type. No byte is published by this call, whatever it answers.
     /// Errors: those of the type.
-    fn poll_flush(&mut self, cx: &mut Context<'_>) -> Poll<Result<(), PipeError>>
+    fn poll_flush(&mut self, cx: &mut Context<'_>) -> Poll<PipeResult<()>>
         ensures flushed { OnReadyOk result (flushed self.new)
             × flushes self.old self.new result cx.old cx.new }
         ensures error { IfReadyErr result (fails self.new cx.new) }
@@ -222,9 +222,9 @@ pub trait AsyncWrite {
     /// Returns: `Ok(())` once all of it is, and this writer saw the pipe closed.
     /// Pending: for a reason of the type. No byte is published by this call, whatever it answers.
     /// Errors: those of the type.
-    fn poll_close(&mut self, cx: &mut Context<'_>) -> Poll<Result<(), PipeError>>
+    fn poll_close(&mut self, cx: &mut Context<'_>) -> Poll<PipeResult<()>>
         ensures closed { OnReadyOk result ((saw self.new ≡ true) × flushed self.new)
-            × closes self.old self.new result }
+            × closes self.old self.new result cx.old cx.new }
         ensures error { IfReadyErr result (fails self.new cx.new) }
         ensures sent { sent self.new ≡ sent self.old }
         ensures stays { saw self.old ≡ true → saw self.new ≡ true }

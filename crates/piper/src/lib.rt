@@ -11,7 +11,7 @@ pub mod like;
 mod looks;
 mod owned;
 
-pub use error::{CopyError, PipeError};
+pub use error::{CopyError, PipeError, PipeResult};
 pub use handles::{Reader, Writer, pipe};
 pub use owned::{DEFAULT_SEED, OwnedReader, OwnedWriter, owned_pipe};
 pub use piper_ring::{

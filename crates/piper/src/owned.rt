@@ -8,7 +8,7 @@ ghost use Rattle.piper.specs.Waits.{ReaderIsWaiting, WriterIsWaiting};
 ghost use Rattle.piper.specs.Handles.{AreFresh, ArePair, DrawFrom};
 ghost use Rattle.piper_protocol.specs.Reported.{HasFailed};
 
-use crate::error::PipeError;
+use crate::error::{PipeError, PipeResult};
 use crate::handles::{Reader, Writer, pipe};
 use crate::io::{AsyncBufRead, AsyncRead, AsyncWrite};
 use futures::task::{Context, Poll};
@@ -234,11 +234,7 @@ impl AsyncRead for OwnedReader {
 
     ghost says = { ReadsAsDrain };
 
-    fn poll_read(
-        &mut self,
-        cx: &mut Context<'_>,
-        dest: &mut [u8],
-    ) -> Poll<Result<usize, PipeError>> {
+    fn poll_read(&mut self, cx: &mut Context<'_>, dest: &mut [u8]) -> Poll<PipeResult<usize>> {
         self.reader.poll_read(cx, dest)
     }
 }
@@ -273,7 +269,7 @@ impl AsyncBufRead for OwnedReader {
 
     ghost consumes = { Consumes };
 
-    fn poll_fill_buf(&mut self, cx: &mut Context<'_>) -> Poll<Result<&[u8], PipeError>> {
+    fn poll_fill_buf(&mut self, cx: &mut Context<'_>) -> Poll<PipeResult<&[u8]>> {
         // Built anew: a move of the whole answer would also copy the bytes in which an error may lie.
         match self.reader.poll_fill_buf(cx) {
             Poll::Ready(Ok(lent)) => Poll::Ready(Ok(lent)),
@@ -310,19 +306,15 @@ impl AsyncWrite for OwnedWriter {
 
     ghost closes = { Closes };
 
-    fn poll_write(
-        &mut self,
-        cx: &mut Context<'_>,
-        source: &[u8],
-    ) -> Poll<Result<usize, PipeError>> {
+    fn poll_write(&mut self, cx: &mut Context<'_>, source: &[u8]) -> Poll<PipeResult<usize>> {
         self.writer.poll_write(cx, source)
     }
 
-    fn poll_flush(&mut self, cx: &mut Context<'_>) -> Poll<Result<(), PipeError>> {
+    fn poll_flush(&mut self, cx: &mut Context<'_>) -> Poll<PipeResult<()>> {
         self.writer.poll_flush(cx)
     }
 
-    fn poll_close(&mut self, cx: &mut Context<'_>) -> Poll<Result<(), PipeError>> {
+    fn poll_close(&mut self, cx: &mut Context<'_>) -> Poll<PipeResult<()>> {
         AsyncWrite::poll_close(&mut self.writer, cx)
     }
 }

@@ -1,6 +1,6 @@
 -- The handle of the heap that a box holds, as a call passes it. Assumes `Logic`.
 use Rattle.std.proofs.Common.{[]}
-use Rattle.piper_c.proofs.Kit.{◌∷◌, ◌++◌, refl, Ura, Logic, RattleType, bare, Dict, impl, tcons, tnil, dnil, Model, Wired, Running, no, arg, layout, Laws, arg_laws, glues}
+use Rattle.piper_c.proofs.Kit.{◌∷◌, refl, Ura, Logic, RattleType, bare, Dict, impl, tcons, tnil, dnil, Model, Wired, Running, no, arg, layout, Laws, arg_laws, glues}
 use denote.Param.Glue as Drops
 use Rattle.std_heap.specs.contracts.Global as Heap
 use Rattle.std_heap.proofs.Global.TheLaws as Heap'

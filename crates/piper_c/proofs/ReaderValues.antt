@@ -1,6 +1,6 @@
 -- The side of a `PiperReader`, which lies in a box, and its drop. Assumes `Logic`.
 use Rattle.std.proofs.Common.{List, []}
-use Rattle.piper_c.proofs.Kit.{◌∷◌, ◌++◌, refl, Ura, Logic, RattleType, bare, Dict, impl, method, tnil, dnil, Model, Wired, Running, no, param, arg, layout, layouts, Laws, param_laws, arg_laws, Mute-seen, AllWithin, Lasts, lasts, at_exit, Fit, p_owned, ParamKind, ended_of, stays, r_unit, via_longer, method_Known, Over, glue_by, Bx, ghosts, dict}
+use Rattle.piper_c.proofs.Kit.{◌∷◌, refl, Ura, Logic, RattleType, bare, Dict, impl, method, tnil, dnil, Model, Wired, Running, no, param, arg, layout, layouts, Laws, param_laws, arg_laws, Mute-seen, AllWithin, Lasts, lasts, at_exit, Fit, p_owned, ParamKind, ended_of, stays, r_unit, via_longer, method_Known, Over, glue_by, Bx, ghosts, dict}
 use denote.Param.Glue as Drops
 use Rattle.piper_c.proofs.Owner.{Owner, owner_laws, drops_owner}
 use Rattle.piper_c.specs.contracts.halves.ReadHalf as Half

@@ -15,14 +15,14 @@ pub as_left : {H S : Type 0} (half : H) (wake mine : Option Waiter) (slots : S)
 unfolding HasLeft
 as_left half wake mine slots = tt
 
--- C got the words that the `leave` of a returned, which closed the pipe and then checked the other
--- side's slot, as `checked` says
-pub record Leaves {H S : Type 0} (checked : H → Option Waiter → S → Type 0) (left : PiperLeft)
-    (a : H) : Type 0 where
+-- C got the words that the `leave` of a returned, which took its own back, closed the pipe and then
+-- checked the other side's slot, as `left_by` says
+pub record Leaves {H S : Type 0} (left_by : H → Option Waiter → Option Waiter → S → Type 0)
+    (left : PiperLeft) (a : H) : Type 0 where
   pub wake : Option Waiter
   pub mine : Option Waiter
   pub slots : S
   pub leaves : HasLeft a wake mine slots
-  pub closed : checked a wake slots
+  pub closed : left_by a wake mine slots
   pub woke : IsOut wake left.wake
   pub back : IsOut mine left.mine

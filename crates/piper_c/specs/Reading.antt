@@ -6,11 +6,11 @@ use Rattle.piper_protocol.specs.declared.table.Form.TheVariants as form
 use Rattle.piper_protocol.specs.declared.table.Point.TheVariants as point
 use Rattle.piper_protocol.specs.declared.table.Purpose.TheVariants as purpose
 use Rattle.piper_protocol.specs.declared.table.ReadPoint.TheVariants as at
-use Rattle.piper_ring.specs.Loads.{FoundClosed, IsAway}
+use Rattle.piper_ring.specs.Loads.{FoundClosed, IsAway, TookBack}
 use Rattle.piper_ring.specs.Log.{Log, Ran}
 use Rattle.piper_ring.specs.Looks.{IsEnded, ReaderLooked as EndLooked, looks_at}
 use Rattle.piper_ring.specs.ReadView.{HasLoadedTail, KeepsAll, in_one_piece, read_place}
-use Rattle.piper_ring.specs.SlotsView.{SlotsView, IsReaderPending, IsReaderAtRest, OnlyWaits, WaitsAsBefore}
+use Rattle.piper_ring.specs.SlotsView.{SlotsView, IsReaderPending, IsReaderAtRest, OnlyWaits, TakesTicket, WaitsAsBefore}
 use Rattle.piper_c.specs.declared.halves.ReadHalf.{ReadHalf}
 use Rattle.piper_c.specs.declared.outcome.Outcome.{Outcome}
 use Rattle.piper_c.specs.declared.outcome.Outcome.TheVariants.{Pending, Ready, End, Again, Refused}
@@ -64,11 +64,12 @@ pub record TookWriter (taken : Option Waiter) (old : SlotsView) (b : ReadHalf) :
   pub own : WaitsAsBefore old b.side.slots
 
 -- after the close by which a left, the writer's slot was checked: words come out exactly
--- where a ticket of the writer's was taken
-pub record LeftReading (a : ReadHalf) (taken : Option Waiter) (left : SlotsView) : Type 0 where
+-- where a ticket of the writer's was taken; and its own, if they were still there
+pub record LeftReading (a : ReadHalf) (taken mine : Option Waiter) (left : SlotsView) : Type 0 where
   pub count : left.stored.count ≡ length a.side.end.taken
   pub over : left.stored.closed ≡ true
-  pub took : Took taken a.side.slots.names a.side.slots.taken left.taken
+  pub took : TakesTicket a.side.slots left taken
+  pub back : TookBack a.side.slots.names a.side.slots.owns a.side.slots.tickets mine
 
 -- the pipe was checked for its end: what the answer says was seen, and what was seen once stays
 pub record ReaderAsked (is_closed : Bool) (a b : ReadHalf) : Type 0 where

@@ -1,7 +1,7 @@
 -- What becomes of the words of a side that waits. Both sides speak of it: their slots have
 -- different views, so what is said here is said of the parts that both have.
 use Rattle.std.specs.Prelude.{◌≡◌, ℕ, ◌<◌, ◌+◌, ◌⊎◌, Bool, true, false, Option, Some, None, IsSome}
-use Rattle.piper_ring.specs.Loads.{CameBack, IsUnregistered}
+use Rattle.piper_ring.specs.Loads.{CameBack, TookBack}
 use Rattle.piper_ring.specs.Shared.{Names}
 use Rattle.piper_c.specs.declared.outcome.Outcome.{Outcome}
 use Rattle.piper_c.specs.declared.outcome.Outcome.TheVariants.{Pending}
@@ -68,16 +68,11 @@ pub record HandedOut (wake : PiperWords) (names : Names) (old new : ℕ) : Type 
   pub took : Took taken names old new
   pub out : IsOut taken wake
 
--- a side that closes the pipe or leaves it takes its own words back: whether it had the place of
--- its words, and how often it had registered
-pub record TookBack (mine : Option Waiter) (names : Names) (had : Bool) (tickets : ℕ) : Type 0 where
-  pub some : IsSome mine → (had ≡ false) × WasTakenBack names had tickets mine
-  pub none : mine ≡ None → IsUnregistered names had
-
--- C got the words that were taken back so
+-- C got the words that a side took back as it closed the pipe: whether it had the place of its words,
+-- and how often it had registered
 pub record HandedBack (mine : PiperWords) (names : Names) (had : Bool) (tickets : ℕ) : Type 0 where
   pub words : Option Waiter
-  pub took : TookBack words names had tickets
+  pub took : TookBack names had tickets words
   pub out : IsOut words mine
 
 -- a poll with words of C: C got what the side's own poll with these words found, as `Finds` says,

@@ -6,11 +6,11 @@ use Rattle.piper_protocol.specs.declared.table.Form.TheVariants as form
 use Rattle.piper_protocol.specs.declared.table.Point.TheVariants as point
 use Rattle.piper_protocol.specs.declared.table.Purpose.TheVariants as purpose
 use Rattle.piper_protocol.specs.declared.table.WritePoint.TheVariants as at
-use Rattle.piper_ring.specs.Loads.{FoundClosed, IsAway}
+use Rattle.piper_ring.specs.Loads.{FoundClosed, IsAway, TookBack}
 use Rattle.piper_ring.specs.Log.{Log, Ran}
 use Rattle.piper_ring.specs.Looks.{WriterLooked as EndLooked}
 use Rattle.piper_ring.specs.WriteView.{HasLoadedHead, Lendable}
-use Rattle.piper_ring.specs.SlotsView.{SlotsView, IsWriterPending, IsWriterAtRest, OnlyWaits, WaitsAsBefore}
+use Rattle.piper_ring.specs.SlotsView.{SlotsView, IsWriterPending, IsWriterAtRest, OnlyWaits, TakesTicket, WaitsAsBefore}
 use Rattle.piper_c.specs.declared.halves.WriteHalf.{WriteHalf}
 use Rattle.piper_c.specs.declared.outcome.Outcome.{Outcome}
 use Rattle.piper_c.specs.declared.outcome.Outcome.TheVariants.{Pending, Ready, End, Again, Refused}
@@ -77,11 +77,12 @@ pub record TookReaderLast (taken : Option Waiter) (old : SlotsView) (b : WriteHa
   }
 
 -- after the close by which a left, the reader's slot was checked: words come out exactly
--- where a ticket of the reader's was taken
-pub record LeftWriting (a : WriteHalf) (taken : Option Waiter) (left : SlotsView) : Type 0 where
+-- where a ticket of the reader's was taken; and its own, if they were still there
+pub record LeftWriting (a : WriteHalf) (taken mine : Option Waiter) (left : SlotsView) : Type 0 where
   pub bytes : left.stored.bytes ≡ a.side.end.sent
   pub shut : left.stored.closed ≡ true
-  pub took : Took taken a.side.slots.names a.side.slots.taken left.taken
+  pub took : TakesTicket a.side.slots left taken
+  pub back : TookBack a.side.slots.names a.side.slots.owns a.side.slots.tickets mine
 
 -- the pipe was checked for its end: what the answer says was seen, and what was seen once stays
 pub record WriterAsked (is_closed : Bool) (a b : WriteHalf) : Type 0 where

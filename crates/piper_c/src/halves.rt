@@ -3,23 +3,39 @@
 //! An export can't be generic, and neither can its handle, so the calls themselves are those of one
 //! side each.
 ghost use Rattle.std.specs.Prelude.{◌≡◌, IfErr, IfOk, IsSome, None, Ok, true, false};
-ghost use Rattle.piper_ring.specs.Loads.{CameBack, IsAway, WasPut, WasTakenBack};
+ghost use Rattle.piper_ring.specs.Loads.{CameBack, IsAway, TookBack, WasPut, WasTakenBack};
 ghost use Rattle.piper_ring.specs.Log.{Comes, WakesNext, made, next, now, other, own, then};
 ghost use Rattle.piper_ring.specs.SlotsView.{Registers, WaitsAsBefore};
-ghost use Rattle.piper_c.specs.Waiting.{Took, TookBack};
+ghost use Rattle.piper_c.specs.Waiting.{IsOut, Took};
 
-use crate::words::Waiter;
+use crate::words::{PiperLeft, Waiter};
 use piper_protocol::table::{Action, Found};
 use piper_ring::{Away, ReadSide, Side, SlotEnd, WriteSide};
 
 /// What the drop of a side gives.
 pub(crate) struct Left<S> {
     /// Who has to be woken.
-    pub(crate) wake: Option<Waiter>,
+    pub(crate) taken: Option<Waiter>,
     /// The words of its own that nobody took.
     pub(crate) mine: Option<Waiter>,
     /// What is left of the side.
     pub(crate) side: S,
+}
+
+impl<S: Drop> Left<S> {
+    /// Hands the words out to whoever called the library.
+    pub(crate) fn hand_out(self) -> PiperLeft
+        ensures wake { IsOut self.taken result.wake }
+        ensures mine { IsOut self.mine result.mine }
+    {
+        let Left {
+            taken,
+            mine,
+            side: _,
+        } = self;
+        let (wake, mine) = (Waiter::hand_out(taken), Waiter::hand_out(mine));
+        PiperLeft { wake, mine }
+    }
 }
 
 /// The side that reads.
@@ -125,7 +141,7 @@ pub(crate) fn wake_own<E: SlotEnd>(side: &mut Side<E, Waiter>) -> Option<Waiter>
     requires turn { next side.old.log ≡ Action.Take (own E.READS) }
     requires on { WakesNext (now side.old.log) }
     ensures log { Comes (then (now side.old.log) (Found.Waker false)) side.old.log side.new.log }
-    ensures mine { TookBack result side.old.slots.names side.old.slots.owns side.old.slots.tickets }
+    ensures mine { TookBack side.old.slots.names side.old.slots.owns side.old.slots.tickets result }
     ensures kept { side.new.slots ≡ record side.old.slots
         { owns = side.new.slots.owns; maybe_registered = false } }
     ensures rest { (side.new.end ≡ side.old.end) × (side.new.cells ≡ side.old.cells) }

@@ -2,14 +2,11 @@
 //! and puts it back.
 ghost use Rattle.std.specs.Prelude.{◌≡◌, ◌≢◌, ◌<◌, IsSome, None};
 ghost use Rattle.piper_ring.specs.ReadView.{MayBeUnread, in_one_piece};
-ghost use Rattle.piper_ring.specs.Loads.{FoundWaiter};
 ghost use Rattle.piper_c.specs.Address.{ShowsAt};
 ghost use Rattle.piper_c.specs.Leaving.{Leaves};
-ghost use Rattle.piper_c.specs.Waiting.{HandedBack};
 ghost use Rattle.piper_c.specs.Handles.{Holds, HoldsOn};
 ghost use Rattle.piper_c.specs.Reading.{LeftReading, ReaderTold, ReaderSeen, ReaderAsked, ReaderConsumes, ReaderReads};
 
-use crate::halves::Left;
 use crate::handles::PiperReader;
 use crate::lending::address;
 use crate::outcome::{Outcome, PiperPolled, PiperSeen};
@@ -103,10 +100,8 @@ pub extern "C" fn piper_reader_read(
     let mut half = reader.take(alloc);
     let (count, wake) = half.read(to);
     reader.put(half);
-    PiperMoved {
-        count,
-        wake: Waiter::hand_out(wake),
-    }
+    let wake = Waiter::hand_out(wake);
+    PiperMoved { count, wake }
 }
 
 /// How many bytes are unread now.
@@ -153,21 +148,9 @@ pub extern "C" fn piper_reader_drop(alloc: Global, reader: &mut PiperReader) -> 
     requires { IsSome reader.old.half }
     ensures dropped { reader.new.half ≡ None }
     ensures left { Holds reader.old.half (Leaves LeftReading result) }
-    ensures mine { Holds reader.old.half (λ a.
-        HandedBack result.mine a.side.slots.names a.side.slots.owns a.side.slots.tickets) }
-    ensures nobody { Holds reader.old.half (λ a.
-        result.wake.vtable ≡ 0 → FoundWaiter a.side.end.ring.names 0) }
 {
     let half = Box::into_inner(reader.take(alloc));
-    let Left {
-        wake,
-        mine,
-        side: _,
-    } = half.leave();
-    PiperLeft {
-        wake: Waiter::hand_out(wake),
-        mine: Waiter::hand_out(mine),
-    }
+    half.leave().hand_out()
 }
 
 /// The known bytes that lie in one piece: their address goes into `at`, and it returns how many

@@ -14,17 +14,14 @@ use piper_protocol::table::{Action, AfterRead, Form, Found, Point, Purpose, Read
 use piper_ring::{Finished, FinishedReader, Look};
 
 impl ReadHalf {
-    ghost use Rattle.piper_ring.specs.Loads.{FoundWaiter};
     ghost use Rattle.piper_c.specs.Leaving.{HasLeft};
-    ghost use Rattle.piper_c.specs.Waiting.{TookBack};
     ghost use Rattle.piper_c.specs.Reading.{ReaderFound, ReaderLooked, ReaderGotBack, ReaderSaw, ReadRan, ReadsInto, ReaderAsked, TookWriter, LeftReading};
 
     /// Waits for a byte or for the end. `mine` is left where there is neither.
     pub(crate) fn poll(&mut self, mine: Waiter) -> Polled
         ensures ran { Ran (looks_at self.old.side.end Purpose.Poll) (poll_answer result.outcome)
             self.old.side.log self.new.side.log }
-        ensures found { ReaderFound result.outcome self.new }
-        ensures looked { ReaderLooked self.old self.new }
+        ensures found { ReaderFound result.outcome self.new × ReaderLooked self.old self.new }
         ensures words { ReaderGotBack mine result self.old self.new }
     {
         if self.side.look_first(Purpose::Poll) {
@@ -120,28 +117,18 @@ impl ReadHalf {
     pub(crate) fn leave(self) -> Left<FinishedReader>
         ensures ran { Opened (Point.Reader ReadPoint.StoreClosed)
             (ends (Point.Reader ReadPoint.Dropped) Answer.Done) self.side.log result.side.log }
-        ensures left { LeftReading self result.wake result.side.slots }
-        ensures leaves { HasLeft self result.wake result.mine result.side.slots }
-        ensures mine { TookBack result.mine
-            self.side.slots.names self.side.slots.owns self.side.slots.tickets }
-        ensures nobody { result.wake ≡ None → FoundWaiter self.side.end.ring.names 0 }
+        ensures left { LeftReading self result.taken result.mine result.side.slots }
+        ensures leaves { HasLeft self result.taken result.mine result.side.slots }
     {
         let ReadHalf { mut side } = self;
         let mine = side.cancel();
         side.begin(Point::Reader(ReadPoint::StoreClosed));
-        let Finished {
-            mut side,
-            taken,
-            left,
-        } = side.finish();
+        let Finished { side, taken, left } = side.finish();
         for_gone(left);
+        let mut side = side;
         if taken.is_some() {
             side.log.woke();
         }
-        Left {
-            wake: taken,
-            mine,
-            side,
-        }
+        Left { taken, mine, side }
     }
 }

@@ -2,14 +2,11 @@
 //! and puts it back.
 ghost use Rattle.std.specs.Prelude.{◌≡◌, ◌<◌, None};
 ghost use Rattle.piper_ring.specs.WriteView.{MayBeUnread};
-ghost use Rattle.piper_ring.specs.Loads.{FoundWaiter};
 ghost use Rattle.piper_c.specs.Leaving.{Leaves};
-ghost use Rattle.piper_c.specs.Waiting.{HandedBack};
 ghost use Rattle.piper_c.specs.Handles.{Holds, HoldsOn, IsWholeWriter};
 ghost use Rattle.piper_c.specs.Writing.{LeftWriting, WriterTold, WriterSeen, WriterAsked, WriterWrites, WriterCloses};
 ghost use Rattle.piper_c.specs.Lending.{LendsOut, IsLoanOf, IsWhole, EndsLoan, WriterOffers, WriterGoesOn};
 
-use crate::halves::Left;
 use crate::handles::{PiperRoom, PiperWriter};
 use crate::lending::{lend_out, reclaim_room};
 use crate::outcome::{Outcome, PiperNext, PiperPolled, PiperSeen};
@@ -68,10 +65,8 @@ pub extern "C" fn piper_writer_write(
     let mut half = writer.take(alloc);
     let (count, wake) = half.write(from);
     writer.put(half);
-    PiperMoved {
-        count,
-        wake: Waiter::hand_out(wake),
-    }
+    let wake = Waiter::hand_out(wake);
+    PiperMoved { count, wake }
 }
 
 /// How many bytes are unread now.
@@ -125,10 +120,8 @@ pub extern "C" fn piper_writer_close(alloc: Global, writer: &mut PiperWriter) ->
     let mut half = writer.take(alloc);
     let (wake, mine) = half.close();
     writer.put(half);
-    PiperLeft {
-        wake: Waiter::hand_out(wake),
-        mine: Waiter::hand_out(mine),
-    }
+    let (wake, mine) = (Waiter::hand_out(wake), Waiter::hand_out(mine));
+    PiperLeft { wake, mine }
 }
 
 /// Closes the pipe, and drops this side.
@@ -137,21 +130,9 @@ pub extern "C" fn piper_writer_drop(alloc: Global, writer: &mut PiperWriter) -> 
     requires { IsWholeWriter writer.old.half writer.old.lent }
     ensures dropped { writer.new.half ≡ None }
     ensures left { Holds writer.old.half (Leaves LeftWriting result) }
-    ensures mine { Holds writer.old.half (λ a.
-        HandedBack result.mine a.side.slots.names a.side.slots.owns a.side.slots.tickets) }
-    ensures nobody { Holds writer.old.half (λ a.
-        result.wake.vtable ≡ 0 → FoundWaiter a.side.end.ring.names 0) }
 {
     let half = Box::into_inner(writer.take(alloc));
-    let Left {
-        wake,
-        mine,
-        side: _,
-    } = half.leave();
-    PiperLeft {
-        wake: Waiter::hand_out(wake),
-        mine: Waiter::hand_out(mine),
-    }
+    half.leave().hand_out()
 }
 
 /// Lends room to C, at most `max` bytes: they belong to `at` then.

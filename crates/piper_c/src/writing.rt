@@ -12,18 +12,16 @@ use piper_protocol::table::{Action, AfterWrite, Form, Found, Point, Purpose, Wri
 use piper_ring::{Finished, FinishedWriter, Look};
 
 impl WriteHalf {
-    ghost use Rattle.piper_ring.specs.Loads.{FoundWaiter};
+    ghost use Rattle.piper_ring.specs.Loads.{TookBack};
     ghost use Rattle.piper_ring.specs.Looks.{WriterIsUpToDate};
     ghost use Rattle.piper_c.specs.Leaving.{HasLeft};
-    ghost use Rattle.piper_c.specs.Waiting.{TookBack};
     ghost use Rattle.piper_c.specs.Writing.{LeftWriting, WriterAsked, WriterFound, WriterSaw, WriteRan, WritesFrom, WriterLooked, WriterGotBack, TookReader, TookReaderLast};
 
     /// Waits for room or for the end. `mine` is left where there is neither.
     pub(crate) fn poll(&mut self, mine: Waiter) -> Polled
         ensures ran { Ran (Point.Writer (WritePoint.LookClosed Purpose.Poll))
             (poll_answer result.outcome) self.old.side.log self.new.side.log }
-        ensures found { WriterFound result.outcome self.new }
-        ensures looked { WriterLooked self.old self.new }
+        ensures found { WriterFound result.outcome self.new × WriterLooked self.old self.new }
         ensures words { WriterGotBack mine result self.old self.new }
     {
         match self.side.look_first(Purpose::Poll) {
@@ -42,8 +40,7 @@ impl WriteHalf {
         requires fresh { WriterIsUpToDate self.old.side.end }
         ensures ran { Comes (ends (Point.Writer WritePoint.Idle) (poll_answer result.outcome))
             self.old.side.log self.new.side.log }
-        ensures found { WriterFound result.outcome self.new }
-        ensures looked { WriterLooked self.old self.new }
+        ensures found { WriterFound result.outcome self.new × WriterLooked self.old self.new }
         ensures words { WriterGotBack mine result self.old self.new }
     {
         let before = match register(&mut self.side, mine) {
@@ -139,8 +136,8 @@ impl WriteHalf {
         ensures end { self.new.side.end
             ≡ record self.old.side.end { shut = true; saw = true; lent = [] } }
         ensures wake { TookReaderLast result.0 self.old.side.slots self.new }
-        ensures mine { TookBack result.1 self.old.side.slots.names self.old.side.slots.owns
-            self.old.side.slots.tickets }
+        ensures mine { TookBack self.old.side.slots.names self.old.side.slots.owns
+            self.old.side.slots.tickets result.1 }
         ensures places { self.new.side.cells ≡ self.old.side.cells }
     {
         self.side.begin(Point::Writer(WritePoint::StoreClosed(AfterWrite::WakeWriter)));
@@ -154,28 +151,18 @@ impl WriteHalf {
     pub(crate) fn leave(self) -> Left<FinishedWriter>
         ensures ran { Opened (Point.Writer (WritePoint.StoreClosed AfterWrite.Drop))
             (ends (Point.Writer WritePoint.Dropped) Answer.Done) self.side.log result.side.log }
-        ensures left { LeftWriting self result.wake result.side.slots }
-        ensures leaves { HasLeft self result.wake result.mine result.side.slots }
-        ensures mine { TookBack result.mine
-            self.side.slots.names self.side.slots.owns self.side.slots.tickets }
-        ensures nobody { result.wake ≡ None → FoundWaiter self.side.end.ring.names 0 }
+        ensures left { LeftWriting self result.taken result.mine result.side.slots }
+        ensures leaves { HasLeft self result.taken result.mine result.side.slots }
     {
         let WriteHalf { mut side } = self;
         let mine = side.cancel();
         side.begin(Point::Writer(WritePoint::StoreClosed(AfterWrite::Drop)));
-        let Finished {
-            mut side,
-            taken,
-            left,
-        } = side.finish();
+        let Finished { side, taken, left } = side.finish();
         for_gone(left);
+        let mut side = side;
         if taken.is_some() {
             side.log.woke();
         }
-        Left {
-            wake: taken,
-            mine,
-            side,
-        }
+        Left { taken, mine, side }
     }
 }

@@ -177,8 +177,8 @@ impl AsyncWrite for OwnedEnd {
     ghost flushes = { λ a b r old left.
         Flushes (writing a) (writing b) r old left × (reading b ≡ reading a) };
 
-    ghost closes = { λ a b r.
-        Closes (writing a) (writing b) r × (reading b ≡ reading a) };
+    ghost closes = { λ a b r old left.
+        Closes (writing a) (writing b) r old left × (reading b ≡ reading a) };
 
     fn poll_write(
         &mut self,

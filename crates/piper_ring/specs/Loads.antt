@@ -2,7 +2,7 @@
 -- those with a lemma below are sealed: no proof looks into them, and only those of the loads in
 -- src/ring/seats.rt, slots.rt and remains.rt, and of the calls in src/ends/slots, use the lemmas.
 -- So what a clause says of one of them came from such a call.
-use Rattle.std.specs.Prelude.{◌≡◌, ◌⊎◌, ⊤, ℕ, Bool, true, Option}
+use Rattle.std.specs.Prelude.{◌≡◌, ◌⊎◌, ⊤, ℕ, Bool, true, false, IsSome, Option, None}
 use Rattle.piper_ring.specs.Shared.{Names}
 
 -- the tail, which was loaded, was that of so many published bytes
@@ -49,6 +49,14 @@ WasPut names ticket waker = ⊤
 -- there: this waker, or none
 pub WasTakenBack : {T : Type 0} → Names → Bool → ℕ → Option T → Type 0
 WasTakenBack names had tickets waker = ⊤
+
+-- a side of this ring took its waker back, which lay in its slot and not with it; or none was
+-- registered there
+pub record TookBack {T : Type 0} (names : Names) (had : Bool) (tickets : ℕ) (waker : Option T)
+    : Type 0 where
+  pub some : IsSome waker → had ≡ false
+  pub none : waker ≡ None → IsUnregistered names had
+  pub taken : WasTakenBack names had tickets waker
 
 -- a check of the other side's slot of this ring took the ticket `new`, where the last one was `old`,
 -- and got this waker with it, or none

@@ -1,12 +1,12 @@
 -- What a log says: where its side's last call is, by the call table.
-use Rattle.std.specs.Prelude.{◌≡◌, ℕ, ◌⊎◌, Bool, List, [], ◌∷◌, true, false, ⊤}
+use Rattle.std.specs.Prelude.{◌≡◌, ℕ, ◌⊎◌, Bool, List, [], ◌∷◌, Result, Ok, Err, true, false, ⊤}
 use Rattle.piper_protocol.specs.Table.{Next, ends, goes_on, look_begun, read_action, read_step, write_action, write_step}
 use Rattle.piper_protocol.specs.declared.answer.Answer.{Answer}
 use Rattle.piper_protocol.specs.declared.answer.Answer.TheVariants.{Done}
 use Rattle.piper_protocol.specs.declared.table.Action.{Action}
 use Rattle.piper_protocol.specs.declared.table.Action.TheVariants as does
 use Rattle.piper_protocol.specs.declared.table.Found.{Found}
-use Rattle.piper_protocol.specs.declared.table.Found.TheVariants.{Nothing, Waker as waker}
+use Rattle.piper_protocol.specs.declared.table.Found.TheVariants.{Failed, Moved, Nothing, Waker as waker}
 use Rattle.piper_protocol.specs.declared.table.Form.TheVariants.{Polling}
 use Rattle.piper_protocol.specs.declared.table.Point.{Point}
 use Rattle.piper_protocol.specs.declared.table.Point.TheVariants.{Reader, Writer}
@@ -89,6 +89,11 @@ began first = with_line (Began first)
 
 abbrev pub made : Found → Log → Log
 made found = with_line (Made found)
+
+-- what a call of a source or a destination found
+abbrev pub found_of : {F : Type 0} → Result ℕ F → Found
+found_of (Ok n) = Moved n
+found_of (Err e) = Failed
 
 abbrev pub closed_loaded : Bool → Bool → Log → Log
 closed_loaded none is_closed = with_line (ClosedLoaded none is_closed)

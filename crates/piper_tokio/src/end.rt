@@ -10,7 +10,7 @@ ghost use Rattle.piper.specs.Called.{CallsTaken};
 ghost use Rattle.piper.specs.Traits.{Consumes};
 ghost use Rattle.piper.specs.Handles.{NotifiesReader, SameReader, read_source, write_source};
 ghost use Rattle.piper.specs.OfReader.{known};
-ghost use Rattle.piper.specs.OfWriter.{shut, saw, slots};
+ghost use Rattle.piper.specs.OfWriter.{room, shut, saw, slots};
 ghost use Rattle.piper.specs.ReaderCalls.{AtEnd, DrainPends, DrainsEnd, DrainsSlice, DrainDraws, Looks, PollsEnd, WakesWriter};
 ghost use Rattle.piper.specs.SlotsView.{OnlyWaits};
 ghost use Rattle.piper.specs.Waits.{ReaderPends, WriterLeavesNone};
@@ -88,7 +88,8 @@ impl AsyncRead for CompatEnd {
         ensures end { DrainsEnd result (reading self.old) (reading self.new) }
         ensures pending { DrainDraws result (reading self.old) (reading self.new)
             × OnPending result (DrainPends (reading self.old) (reading self.new) cx.new) }
-        ensures memory { IfReadyErr result (WantsMemory cx.new) }
+        ensures memory { IfReadyErr result (λ e. WantsMemory cx.new e
+            × (known (reading self.new) ≡ [])) }
         ensures woken { WakesWriter (reading self.old) (reading self.new) }
         ensures context { Keeps cx.old cx.new }
     {
@@ -162,7 +163,8 @@ impl AsyncWrite for CompatEnd {
         ensures end { FillsEnd result (writing self.old) (writing self.new) }
         ensures pending { FillDraws (of_io result) (writing self.old) (writing self.new)
             × OnPending result (FillPends (writing self.old) (writing self.new) cx.new) }
-        ensures memory { IfReadyErr result (WantsMemory cx.new) }
+        ensures memory { IfReadyErr result (λ e. WantsMemory cx.new e
+            × (room (writing self.new) ≡ 0)) }
         ensures woken { WakesReader (writing self.old) (writing self.new) }
         ensures context { Keeps cx.old cx.new }
     {
@@ -188,7 +190,7 @@ impl AsyncWrite for CompatEnd {
         ensures woken { NotifiesReader (writing self.new) }
         ensures called { CallsTaken (slots (writing self.old)) (slots (writing self.new)) }
         ensures leaves { WriterLeavesNone (writing self.new) }
-        ensures context { Keeps cx.old cx.new }
+        ensures context { cx.new ≡ cx.old }
         ensures rest { SameWriterButShut (writing self.old) (writing self.new) }
     {
         self.writer.poll_shutdown(cx)

@@ -2,18 +2,18 @@
 ghost use Rattle.std.specs.Prelude.{◌≡◌, ◌<◌, ◌≤◌, ◌⊎◌, [], IfOk, IfErr, Ok, true, false};
 ghost use Rattle.piper_ring.specs.ReadView.{in_one_piece};
 ghost use Rattle.piper_protocol.specs.Table.{ends, goes_on};
-ghost use Rattle.piper_ring.specs.Log.{Comes, Ran, made, next, now};
+ghost use Rattle.piper_ring.specs.Log.{Comes, found_of, made, next, now};
 ghost use Rattle.piper_ring.specs.SlotsView.{WaitsAsBefore};
-ghost use Rattle.piper.specs.Copies.{ReaderCopied};
 ghost use Rattle.piper.specs.CopyAnswers.{CountsFailure, IsAtOnce, of_std, of_bytes};
 ghost use Rattle.piper.specs.Drains.{DrainRounds};
 ghost use Rattle.piper.specs.Like.{Counts, passed};
-ghost use Rattle.piper_ring.specs.Looks.{HasBytes, looks_at};
-ghost use Rattle.piper.specs.Runs.{copy_answer};
+ghost use Rattle.piper_ring.specs.Looks.{HasBytes};
+ghost use Rattle.piper.specs.Runs.{DrainRan, ReaderRan, copy_answer, reader_looks};
 
-use crate::error::{CopyError, PipeError};
+use super::{as_slice_copy, as_std_copy};
+use crate::error::{CopyError, PipeResult};
 use crate::handles::Reader;
-use crate::handles::draws::WAITING;
+use crate::handles::draws::{WAITING, draw_yield};
 use crate::handles::waiting::wake_other;
 use crate::like::{StdWrite, StdWriter, WriteBytes, WriteLike};
 use futures::task::{Context, Poll};
@@ -23,8 +23,7 @@ use piper_ring::{Look, OutOfMemory};
 
 impl Reader {
     ghost use Rattle.piper.specs.Handles.{SameReader};
-    ghost use Rattle.piper.specs.OfReader.{end_of, log};
-    ghost use Rattle.piper.specs.ReaderCalls.{Drained, DrainsAtOnce, DrainsEnd, DrainsLike, DrainsSlice, DrainsStd, DrainsWaiting, KeepsEnd, SameReaderButMoved, WakesWriter};
+    ghost use Rattle.piper.specs.ReaderCalls.{DrainRest, Drained, DrainsAtOnce, DrainsLike, DrainsSlice, DrainsStd, DrainsWaiting, ReaderTried, WakesWriter};
 
     /// Moves known bytes into a writer of std.
     ///
@@ -40,22 +39,15 @@ impl Reader {
         &mut self,
         cx: &mut Context<'_>,
         dest: &mut W,
-    ) -> Poll<Result<usize, PipeError>>
-        ensures ran { Ran (looks_at (end_of self.old) (Purpose.Copy (Form.Polling false)))
-            (copy_answer (Form.Polling false) (of_std result)) (log self.old) (log self.new) }
+    ) -> Poll<PipeResult<usize>>
+        ensures ran { DrainRan (Form.Polling false) (of_std result) self.old self.new }
         ensures drained { DrainsStd W.contents W.full W.fails (of_std result)
             self.old self.new dest.old dest.new }
-        ensures end { DrainsEnd result self.old self.new }
         ensures waiting { DrainsWaiting (of_std result) self.old self.new cx.old cx.new }
-        ensures rest { WakesWriter self.old self.new × SameReaderButMoved self.old self.new }
+        ensures rest { DrainRest (of_std result) self.old self.new }
     {
         let mut dest = StdWrite::new(dest);
-        match self.poll_drain_with(cx, &mut dest) {
-            Poll::Pending => Poll::Pending,
-            Poll::Ready(Ok(count)) => Poll::Ready(Ok(count)),
-            Poll::Ready(Err(CopyError::Memory)) => Poll::Ready(Err(PipeError::Memory)),
-            Poll::Ready(Err(CopyError::Like(error))) => Poll::Ready(Err(PipeError::Io(error))),
-        }
+        as_std_copy(self.poll_drain_with(cx, &mut dest))
     }
 
     /// Moves known bytes into the front of `dest`, as many as fit.
@@ -71,24 +63,16 @@ impl Reader {
         cx: &mut Context<'_>,
         dest: &mut [u8],
     ) -> Poll<Result<usize, OutOfMemory>>
-        ensures ran { Ran (looks_at (end_of self.old) (Purpose.Copy (Form.Polling false)))
-            (copy_answer (Form.Polling false) (of_bytes result))
-            (log self.old) (log self.new) }
+        ensures ran { DrainRan (Form.Polling false) (of_bytes result) self.old self.new }
         ensures drained { DrainsSlice result self.old self.new dest.old dest.new }
-        ensures end { DrainsEnd result self.old self.new }
         ensures waiting { DrainsWaiting (of_bytes result) self.old self.new cx.old cx.new }
-        ensures rest { WakesWriter self.old self.new × SameReaderButMoved self.old self.new }
+        ensures rest { DrainRest (of_bytes result) self.old self.new }
     {
         let mut bytes = WriteBytes {
             bytes: dest,
             place: 0,
         };
-        match self.poll_drain_with(cx, &mut bytes) {
-            Poll::Pending => Poll::Pending,
-            Poll::Ready(Ok(count)) => Poll::Ready(Ok(count)),
-            Poll::Ready(Err(CopyError::Memory)) => Poll::Ready(Err(OutOfMemory)),
-            Poll::Ready(Err(CopyError::Like(never))) => match never {},
-        }
+        as_slice_copy(self.poll_drain_with(cx, &mut bytes))
     }
 
     /// Moves known bytes into the front of `dest`, as many as fit, and doesn't wait.
@@ -98,13 +82,10 @@ impl Reader {
     /// room: it is pending if no byte has come, and returns 0 at the end.
     /// Wakes: the writer, if it waits and a byte was moved.
     pub fn try_drain(&mut self, dest: &mut [u8]) -> usize
-        ensures ran { Ran (looks_at (end_of self.old) (Purpose.Copy Form.Try)) (Answer.Count result)
-            (log self.old) (log self.new) }
+        ensures ran { ReaderRan (reader_looks self.old (Purpose.Copy Form.Try)) (Answer.Count result)
+            self.old self.new }
         ensures drained { Drained result self.old self.new dest.old dest.new }
-        ensures end { KeepsEnd self.old self.new }
-        ensures woken { WakesWriter self.old self.new }
-        ensures copied { ReaderCopied (end_of self.old) (end_of self.new) }
-        ensures rest { SameReader WaitsAsBefore self.old self.new }
+        ensures rest { ReaderTried self.old self.new }
     {
         let mut bytes = WriteBytes {
             bytes: dest,
@@ -132,14 +113,11 @@ impl Reader {
         cx: &mut Context<'_>,
         dest: &mut W,
     ) -> Poll<Result<usize, CopyError<W::Error>>>
-        ensures ran { Ran (looks_at (end_of self.old) (Purpose.Copy (Form.Polling false)))
-            (copy_answer (Form.Polling false) result) (log self.old) (log self.new) }
-        ensures drained { DrainsLike W.takes W.is_full W.fails result
+        ensures ran { DrainRan (Form.Polling false) result self.old self.new }
+        ensures drained { DrainsLike W.takes W.is_full W.fails W.failures result
             self.old self.new dest.old dest.new }
-        ensures failures { CountsFailure result (W.failures dest.old) (W.failures dest.new) }
-        ensures end { DrainsEnd result self.old self.new }
         ensures waiting { DrainsWaiting result self.old self.new cx.old cx.new }
-        ensures rest { WakesWriter self.old self.new × SameReaderButMoved self.old self.new }
+        ensures rest { DrainRest result self.old self.new }
     {
         if !self.side.look_first(Purpose::Copy(WAITING)) {
             match self.look_waiting(Purpose::Copy(WAITING), cx) {
@@ -149,9 +127,7 @@ impl Reader {
                 Err(OutOfMemory) => return Poll::Ready(Err(CopyError::Memory)),
             }
         }
-        if self.draw_and_take_own() {
-            let _pending: Poll<()> = cx.yield_now();
-            self.side.note(Action::Yield, Found::Granted(true));
+        if draw_yield(&mut self.side, &mut self.rng, cx) {
             return Poll::Pending;
         }
         self.drain_rounds(WAITING, dest)
@@ -171,15 +147,11 @@ impl Reader {
         &mut self,
         dest: &mut W,
     ) -> Poll<Result<usize, CopyError<W::Error>>>
-        ensures ran { Ran (looks_at (end_of self.old) (Purpose.Copy Form.Try))
-            (copy_answer Form.Try result) (log self.old) (log self.new) }
-        ensures drained { DrainsLike W.takes W.is_full W.fails result
+        ensures ran { DrainRan Form.Try result self.old self.new }
+        ensures drained { DrainsLike W.takes W.is_full W.fails W.failures result
             self.old self.new dest.old dest.new }
-        ensures failures { CountsFailure result (W.failures dest.old) (W.failures dest.new) }
-        ensures end { DrainsEnd result self.old self.new }
         ensures at_once { DrainsAtOnce result self.old self.new }
-        ensures rest { WakesWriter self.old self.new
-            × SameReader WaitsAsBefore self.old self.new }
+        ensures rest { DrainRest result self.old self.new }
     {
         match self.side.look_now(Purpose::Copy(Form::Try)) {
             Look::Ready => self.drain_rounds(Form::Try, dest),
@@ -205,8 +177,7 @@ impl Reader {
             self.old.side.end self.new.side.end dest.old dest.new }
         ensures failures { CountsFailure result (W.failures dest.old) (W.failures dest.new) }
         ensures ready { IsAtOnce result }
-        ensures woke { WakesWriter self.old self.new }
-        ensures rest { SameReader WaitsAsBefore self.old self.new }
+        ensures rest { WakesWriter self.old self.new × SameReader WaitsAsBefore self.old self.new }
     {
         let mut moved = 0;
         'rounds: loop {
@@ -231,10 +202,7 @@ impl Reader {
     #[inline(always)]
     fn drain_round<W: WriteLike>(&mut self, dest: &mut W) -> Result<usize, W::Error>
         requires { next self.old.side.log ≡ Action.CallDestination }
-        ensures taken { IfOk result (λ n.
-            self.new.side.log ≡ made (Found.Moved n) self.old.side.log) }
-        ensures failed { IfErr result (λ _.
-            self.new.side.log ≡ made Found.Failed self.old.side.log) }
+        ensures log { self.new.side.log ≡ made (found_of result) self.old.side.log }
         ensures bound { IfOk result (λ n. n ≤ in_one_piece self.old.side.end) }
         ensures most { IfOk result (λ n. n ≤ MOST_A_ROUND) }
         ensures bytes { W.takes dest.old (passed result self.old.side.end.known) dest.new }
@@ -245,15 +213,8 @@ impl Reader {
         ensures rest { SameReader (λ s t. t ≡ s) self.old self.new }
     {
         let piece = self.side.end().peek_buf();
-        match dest.write(&piece[..piece.len().min(MOST_A_ROUND)]) {
-            Ok(n) => {
-                self.side.note(Action::CallDestination, Found::Moved(n));
-                Ok(n)
-            }
-            Err(error) => {
-                self.side.note(Action::CallDestination, Found::Failed);
-                Err(error)
-            }
-        }
+        let moved = dest.write(&piece[..piece.len().min(MOST_A_ROUND)]);
+        self.side.note_moved(Action::CallDestination, &moved);
+        moved
     }
 }

@@ -2,18 +2,18 @@
 ghost use Rattle.std.specs.Prelude.{◌≡◌, ◌<◌, ◌≤◌, ◌⊎◌, length, IfOk, IfErr, Ok, true, false};
 ghost use Rattle.futures.specs.Poll.{OnPending};
 ghost use Rattle.piper_protocol.specs.Table.{ends, goes_on};
-ghost use Rattle.piper_ring.specs.Log.{Comes, Ran, made, next, now};
+ghost use Rattle.piper_ring.specs.Log.{Comes, found_of, made, next, now};
 ghost use Rattle.piper_ring.specs.Looks.{HasRoom};
 ghost use Rattle.piper_ring.specs.SlotsView.{WaitsAsBefore};
-ghost use Rattle.piper.specs.Copies.{WriterCopied};
 ghost use Rattle.piper.specs.CopyAnswers.{OnMemory, CountsFailure, IsAtOnce, of_std, of_bytes};
-ghost use Rattle.piper.specs.Fills.{FillRounds, FoundRoom, OnNoCount, most_of_round};
+ghost use Rattle.piper.specs.Fills.{FillRounds, Fills, FoundRoom, OnNoCount, most_of_round};
 ghost use Rattle.piper.specs.Like.{Counts, passed};
-ghost use Rattle.piper.specs.Runs.{copy_answer};
+ghost use Rattle.piper.specs.Runs.{FillRan, WriterRan, copy_answer, writer_looks};
 
-use crate::error::{CopyError, PipeError};
+use super::{as_slice_copy, as_std_copy};
+use crate::error::{CopyError, PipeResult};
 use crate::handles::Writer;
-use crate::handles::draws::WAITING;
+use crate::handles::draws::{WAITING, draw_yield};
 use crate::handles::waiting::wake_other;
 use crate::like::{ReadBytes, ReadLike, StdRead, StdReader};
 use futures::task::{Context, Poll};
@@ -25,8 +25,7 @@ use piper_ring::{Look, OutOfMemory};
 
 impl Writer {
     ghost use Rattle.piper.specs.Handles.{SameWriter};
-    ghost use Rattle.piper.specs.WriterCalls.{Filled, FillsAtOnce, FillsEnd, FillsLike, FillsSlice, FillsStd, FillsWaiting, SameWriterButMoved, WakesReader};
-    ghost use Rattle.piper.specs.OfWriter.{end_of, log, saw};
+    ghost use Rattle.piper.specs.WriterCalls.{FillRest, Filled, FillsAtOnce, FillsEnd, FillsLike, FillsSlice, FillsStd, FillsWaiting, WakesReader, WriterTried};
 
     /// Publishes bytes that a reader of std gives.
     ///
@@ -42,22 +41,15 @@ impl Writer {
         &mut self,
         cx: &mut Context<'_>,
         source: &mut R,
-    ) -> Poll<Result<usize, PipeError>>
-        ensures ran { Ran (Point.Writer (WritePoint.LookClosed (Purpose.Copy (Form.Polling false))))
-            (copy_answer (Form.Polling false) (of_std result)) (log self.old) (log self.new) }
+    ) -> Poll<PipeResult<usize>>
+        ensures ran { FillRan (Form.Polling false) (of_std result) self.old self.new }
         ensures filled { FillsStd R.remaining R.fails (of_std result)
             self.old self.new source.old source.new }
-        ensures end { FillsEnd result self.old self.new }
         ensures waiting { FillsWaiting (of_std result) self.old self.new cx.old cx.new }
-        ensures rest { WakesReader self.old self.new × SameWriterButMoved self.old self.new }
+        ensures rest { FillRest (of_std result) self.old self.new }
     {
         let mut source = StdRead::new(source);
-        match self.poll_fill_with(cx, &mut source) {
-            Poll::Pending => Poll::Pending,
-            Poll::Ready(Ok(count)) => Poll::Ready(Ok(count)),
-            Poll::Ready(Err(CopyError::Memory)) => Poll::Ready(Err(PipeError::Memory)),
-            Poll::Ready(Err(CopyError::Like(error))) => Poll::Ready(Err(PipeError::Io(error))),
-        }
+        as_std_copy(self.poll_fill_with(cx, &mut source))
     }
 
     /// Publishes bytes from the front of `bytes`, as many as there is known room for.
@@ -74,21 +66,13 @@ impl Writer {
         cx: &mut Context<'_>,
         bytes: &[u8],
     ) -> Poll<Result<usize, OutOfMemory>>
-        ensures ran { Ran (Point.Writer (WritePoint.LookClosed (Purpose.Copy (Form.Polling false))))
-            (copy_answer (Form.Polling false) (of_bytes result))
-            (log self.old) (log self.new) }
+        ensures ran { FillRan (Form.Polling false) (of_bytes result) self.old self.new }
         ensures filled { FillsSlice result self.old self.new bytes.now }
-        ensures end { FillsEnd result self.old self.new }
         ensures waiting { FillsWaiting (of_bytes result) self.old self.new cx.old cx.new }
-        ensures rest { WakesReader self.old self.new × SameWriterButMoved self.old self.new }
+        ensures rest { FillRest (of_bytes result) self.old self.new }
     {
         let mut source = ReadBytes { rest: bytes };
-        match self.poll_fill_with(cx, &mut source) {
-            Poll::Pending => Poll::Pending,
-            Poll::Ready(Ok(count)) => Poll::Ready(Ok(count)),
-            Poll::Ready(Err(CopyError::Memory)) => Poll::Ready(Err(OutOfMemory)),
-            Poll::Ready(Err(CopyError::Like(never))) => match never {},
-        }
+        as_slice_copy(self.poll_fill_with(cx, &mut source))
     }
 
     /// Publishes bytes from the front of `bytes`, as many as there is known room for, and doesn't
@@ -100,13 +84,10 @@ impl Writer {
     /// it is pending if there is no room, and 0 if the pipe is closed.
     /// Wakes: the reader, if it waits and a byte was published.
     pub fn try_fill(&mut self, bytes: &[u8]) -> usize
-        ensures ran { Ran (Point.Writer (WritePoint.LookClosed (Purpose.Copy Form.Try)))
-            (Answer.Count result) (log self.old) (log self.new) }
+        ensures ran { WriterRan (writer_looks (Purpose.Copy Form.Try)) (Answer.Count result)
+            self.old self.new }
         ensures filled { Filled result self.old self.new bytes.now }
-        ensures closed { saw self.old ≡ true → result ≡ 0 }
-        ensures woken { WakesReader self.old self.new }
-        ensures copied { WriterCopied (end_of self.old) (end_of self.new) }
-        ensures rest { SameWriter WaitsAsBefore self.old self.new }
+        ensures rest { WriterTried result self.old self.new }
     {
         let mut source = ReadBytes { rest: bytes };
         match self.try_fill_with(&mut source) {
@@ -131,14 +112,11 @@ impl Writer {
         cx: &mut Context<'_>,
         source: &mut R,
     ) -> Poll<Result<usize, CopyError<R::Error>>>
-        ensures ran { Ran (Point.Writer (WritePoint.LookClosed (Purpose.Copy (Form.Polling false))))
-            (copy_answer (Form.Polling false) result) (log self.old) (log self.new) }
-        ensures filled { FillsLike R.gives R.is_dry R.fails result
+        ensures ran { FillRan (Form.Polling false) result self.old self.new }
+        ensures filled { FillsLike R.gives R.is_dry R.fails R.failures result
             self.old self.new source.old source.new }
-        ensures failures { CountsFailure result (R.failures source.old) (R.failures source.new) }
-        ensures end { FillsEnd result self.old self.new }
         ensures waiting { FillsWaiting result self.old self.new cx.old cx.new }
-        ensures rest { WakesReader self.old self.new × SameWriterButMoved self.old self.new }
+        ensures rest { FillRest result self.old self.new }
     {
         let outcome = self.fill_waiting(cx, source);
         self.side.unlend();
@@ -159,14 +137,11 @@ impl Writer {
         &mut self,
         source: &mut R,
     ) -> Poll<Result<usize, CopyError<R::Error>>>
-        ensures ran { Ran (Point.Writer (WritePoint.LookClosed (Purpose.Copy Form.Try)))
-            (copy_answer Form.Try result) (log self.old) (log self.new) }
-        ensures filled { FillsLike R.gives R.is_dry R.fails result
+        ensures ran { FillRan Form.Try result self.old self.new }
+        ensures filled { FillsLike R.gives R.is_dry R.fails R.failures result
             self.old self.new source.old source.new }
-        ensures failures { CountsFailure result (R.failures source.old) (R.failures source.new) }
-        ensures end { FillsEnd result self.old self.new }
         ensures at_once { FillsAtOnce result self.old self.new }
-        ensures rest { WakesReader self.old self.new × SameWriterButMoved self.old self.new }
+        ensures rest { FillRest result self.old self.new }
     {
         let outcome = self.fill_at_once(source);
         self.side.unlend();
@@ -180,10 +155,9 @@ impl Writer {
         cx: &mut Context<'_>,
         source: &mut R,
     ) -> Poll<Result<usize, CopyError<R::Error>>>
-        ensures ran { Ran (Point.Writer (WritePoint.LookClosed (Purpose.Copy (Form.Polling false))))
-            (copy_answer (Form.Polling false) result) (log self.old) (log self.new) }
-        ensures filled { FillsLike R.gives R.is_dry R.fails result
-            self.old self.new source.old source.new }
+        ensures ran { FillRan (Form.Polling false) result self.old self.new }
+        ensures filled { Fills R.gives R.is_dry R.fails result
+            self.old.side.end self.new.side.end source.old source.new }
         ensures failures { CountsFailure result (R.failures source.old) (R.failures source.new) }
         ensures end { FillsEnd result self.old self.new }
         ensures waiting { FillsWaiting result self.old self.new cx.old cx.new }
@@ -201,9 +175,7 @@ impl Writer {
                 Err(OutOfMemory) => return Poll::Ready(Err(CopyError::Memory)),
             },
         }
-        if self.draw_and_take_own() {
-            let _pending: Poll<()> = cx.yield_now();
-            self.side.note(Action::Yield, Found::Granted(true));
+        if draw_yield(&mut self.side, &mut self.rng, cx) {
             return Poll::Pending;
         }
         self.fill_rounds(WAITING, source)
@@ -215,10 +187,9 @@ impl Writer {
         &mut self,
         source: &mut R,
     ) -> Poll<Result<usize, CopyError<R::Error>>>
-        ensures ran { Ran (Point.Writer (WritePoint.LookClosed (Purpose.Copy Form.Try)))
-            (copy_answer Form.Try result) (log self.old) (log self.new) }
-        ensures filled { FillsLike R.gives R.is_dry R.fails result
-            self.old self.new source.old source.new }
+        ensures ran { FillRan Form.Try result self.old self.new }
+        ensures filled { Fills R.gives R.is_dry R.fails result
+            self.old.side.end self.new.side.end source.old source.new }
         ensures failures { CountsFailure result (R.failures source.old) (R.failures source.new) }
         ensures end { FillsEnd result self.old self.new }
         ensures waits { OnPending result (self.new.side.end.room ≡ 0) }
@@ -252,8 +223,7 @@ impl Writer {
         ensures open { OnNoCount result (self.new.side.end.saw ≡ false) }
         ensures found { FoundRoom result self.new.side.end }
         ensures ready { IsAtOnce result }
-        ensures woke { WakesReader self.old self.new }
-        ensures rest { SameWriter WaitsAsBefore self.old self.new }
+        ensures rest { WakesReader self.old self.new × SameWriter WaitsAsBefore self.old self.new }
     {
         let mut moved = 0;
         'rounds: loop {
@@ -284,10 +254,7 @@ impl Writer {
         requires turn { next self.old.side.log ≡ Action.CallSource }
         requires is_open { self.old.side.end.shut ≡ false }
         requires some { 0 < asks }
-        ensures given { IfOk result (λ n.
-            self.new.side.log ≡ made (Found.Moved n) self.old.side.log) }
-        ensures failed { IfErr result (λ _.
-            self.new.side.log ≡ made Found.Failed self.old.side.log) }
+        ensures log { self.new.side.log ≡ made (found_of result) self.old.side.log }
         ensures bound { IfOk result (λ n. n ≤ length self.new.side.end.lent) }
         ensures most { IfOk result (λ n. n ≤ most_of_round self.new.side.end) }
         ensures bytes { R.gives source.old (passed result self.new.side.end.lent) source.new }
@@ -298,15 +265,8 @@ impl Writer {
             ≡ record self.old.side.end { lent = self.new.side.end.lent } }
         ensures rest { SameWriter (λ s t. t ≡ s) self.old self.new }
     {
-        match source.read(self.side.write_buf(asks.min(MOST_A_ROUND))) {
-            Ok(n) => {
-                self.side.note(Action::CallSource, Found::Moved(n));
-                Ok(n)
-            }
-            Err(error) => {
-                self.side.note(Action::CallSource, Found::Failed);
-                Err(error)
-            }
-        }
+        let moved = source.read(self.side.write_buf(asks.min(MOST_A_ROUND)));
+        self.side.note_moved(Action::CallSource, &moved);
+        moved
     }
 }

@@ -1,41 +1,31 @@
 //! The traits of readers and writers, for the handles.
 ghost use Rattle.std.specs.Prelude.{◌≡◌};
-ghost use Rattle.futures.specs.Poll.{OnPending};
-ghost use Rattle.futures.specs.Task.{Keeps};
-ghost use Rattle.piper_ring.specs.SlotsView.{OnlyWaits};
 ghost use Rattle.piper.specs.Contexts.{WantsWaker};
 ghost use Rattle.piper.specs.Looks.{IsEnded};
 ghost use Rattle.piper.specs.Traits.{as_pipe};
 ghost use Rattle.piper.specs.Waits.{ReaderIsWaiting, WriterIsWaiting};
 
-use crate::error::PipeError;
+use crate::error::{PipeError, PipeResult};
 use crate::handles::{Reader, Writer};
 use crate::io::{AsyncBufRead, AsyncRead, AsyncWrite};
 use futures::task::{Context, Poll};
 use piper_ring::OutOfMemory;
 
 impl Reader {
-    ghost use Rattle.piper.specs.Handles.{SameReader};
-    ghost use Rattle.piper.specs.Looks.{OnRefused};
-    ghost use Rattle.piper.specs.ReaderCalls.{ReaderPolled, PollsEnd};
-    ghost use Rattle.piper.specs.Waits.{ReaderIsRefused, ReaderPends};
+    ghost use Rattle.piper.specs.ReaderCalls.{ReaderPolled, ReaderPollWaits};
 
     // `poll`, as a call of its own: a reader of lines is shorter by it.
     #[inline(never)]
     fn poll_by_call(&mut self, cx: &mut Context<'_>) -> Poll<Result<bool, OutOfMemory>>
         ensures found { ReaderPolled result self.old self.new }
-        ensures end { PollsEnd result self.old self.new }
-        ensures pending { OnPending result (ReaderPends self.old self.new cx.new) }
-        ensures memory { OnRefused result (ReaderIsRefused self.new cx.new) }
-        ensures context { Keeps cx.old cx.new }
-        ensures rest { SameReader OnlyWaits self.old self.new }
+        ensures waits { ReaderPollWaits result self.old self.new cx.old cx.new }
     {
         self.poll(cx)
     }
 }
 
 // What a poll of a handle returns, as the traits do.
-fn as_pipe<T>(polled: Poll<Result<T, OutOfMemory>>) -> Poll<Result<T, PipeError>>
+fn as_pipe<T>(polled: Poll<Result<T, OutOfMemory>>) -> Poll<PipeResult<T>>
     ensures { result ≡ as_pipe polled }
 {
     match polled {
@@ -68,11 +58,7 @@ impl AsyncRead for Reader {
     ghost says = { ReadsAsDrain };
 
     /// As `poll_drain_bytes`, whose error is `Memory` here.
-    fn poll_read(
-        &mut self,
-        cx: &mut Context<'_>,
-        dest: &mut [u8],
-    ) -> Poll<Result<usize, PipeError>> {
+    fn poll_read(&mut self, cx: &mut Context<'_>, dest: &mut [u8]) -> Poll<PipeResult<usize>> {
         as_pipe(self.poll_drain_bytes(cx, dest))
     }
 }
@@ -109,7 +95,7 @@ impl AsyncBufRead for Reader {
 
     /// As `poll`, and then lends what `peek_buf` does. An empty slice is the end, for good. The
     /// error is `Memory`.
-    fn poll_fill_buf(&mut self, cx: &mut Context<'_>) -> Poll<Result<&[u8], PipeError>> {
+    fn poll_fill_buf(&mut self, cx: &mut Context<'_>) -> Poll<PipeResult<&[u8]>> {
         match as_pipe(self.poll_by_call(cx)) {
             Poll::Ready(Ok(_)) => Poll::Ready(Ok(self.peek_buf())),
             Poll::Ready(Err(error)) => Poll::Ready(Err(error)),
@@ -149,23 +135,19 @@ impl AsyncWrite for Writer {
     ghost closes = { Closes };
 
     /// As `poll_fill_bytes`, whose error is `Memory` here.
-    fn poll_write(
-        &mut self,
-        cx: &mut Context<'_>,
-        source: &[u8],
-    ) -> Poll<Result<usize, PipeError>> {
+    fn poll_write(&mut self, cx: &mut Context<'_>, source: &[u8]) -> Poll<PipeResult<usize>> {
         as_pipe(self.poll_fill_bytes(cx, source))
     }
 
     /// Ready at once, always with `Ok(())`: what was written is published.
-    fn poll_flush(&mut self, cx: &mut Context<'_>) -> Poll<Result<(), PipeError>> {
+    fn poll_flush(&mut self, cx: &mut Context<'_>) -> Poll<PipeResult<()>> {
         // What was written is published already.
         let _unused = cx;
         Poll::Ready(Ok(()))
     }
 
     /// As `Writer::poll_close`.
-    fn poll_close(&mut self, cx: &mut Context<'_>) -> Poll<Result<(), PipeError>> {
+    fn poll_close(&mut self, cx: &mut Context<'_>) -> Poll<PipeResult<()>> {
         as_pipe(Writer::poll_close(self, cx))
     }
 }

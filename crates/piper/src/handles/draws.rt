@@ -1,66 +1,50 @@
 //! The draw of a polling copy, which makes it yield once in a hundred calls.
-ghost use Rattle.std.specs.Prelude.{◌≡◌, ◌↔◌, IsTrue, false};
-ghost use Rattle.piper_protocol.specs.Table.{goes_on, reader_draws, writer_draws};
-ghost use Rattle.piper_ring.specs.Log.{Comes, now};
+ghost use Rattle.std.specs.Prelude.{◌≡◌, ◌↔◌, Bool, IsTrue, IsFalse, true, false};
+ghost use Rattle.futures.specs.Task.{Keeps};
+ghost use Rattle.piper_ring.specs.Log.{drew, made, next, own};
 ghost use Rattle.piper_ring.specs.SlotsView.{OnlyWaits};
+ghost use Rattle.piper.specs.Contexts.{AsksAgain};
 ghost use Rattle.piper.specs.Draws.{DrawsYield, drawn_from};
-ghost use Rattle.piper.specs.Waits.{ReaderLeavesNone, WriterLeavesNone};
 
 use super::waiting::take_own;
-use super::{Reader, Writer};
-use piper_protocol::table::{Form, Point, Purpose, ReadPoint, WritePoint};
+use futures::task::{Context, Poll, Waker};
+use piper_protocol::table::{Action, Form, Found};
+use piper_ring::{Side, SlotEnd};
 use rand_core::utils::NextWord;
 use rand_pcg::Pcg32;
 
 /// The form of a copy that waits, before its draw.
 pub(crate) const WAITING: Form = Form::Polling { is_drawn: false };
 
-impl Reader {
-    /// Draws after the true look of a polling copy, and empties the reader's slot. Reports whether
-    /// the copy yields.
-    #[inline(always)]
-    pub(crate) fn draw_and_take_own(&mut self) -> bool
-        requires { now self.old.side.log
-            ≡ goes_on (Point.Reader (ReadPoint.LookTake (Purpose.Copy (Form.Polling false)))) }
-        ensures log { Comes (goes_on (Point.Reader (reader_draws (Form.Polling result))))
-            self.old.side.log self.new.side.log }
-        ensures draw { IsTrue result ↔ DrawsYield self.old.rng }
-        ensures rng { self.new.rng ≡ drawn_from self.old.rng }
-        ensures leaves { ReaderLeavesNone self.new }
-        ensures same { (self.new.side.cells ≡ self.old.side.cells)
-            × (self.new.source ≡ self.old.source) }
-        ensures waits { OnlyWaits self.old.side.slots self.new.side.slots }
-        ensures end { self.new.side.end ≡ self.old.side.end }
-    {
-        let is_drawn = draw(&mut self.rng);
-        self.side.drew(is_drawn);
-        take_own(&mut self.side);
-        is_drawn
+/// Draws after the true look of a polling copy, and empties the side's own slot. If the draw is a
+/// yield, the task asks for another poll. Reports whether it is.
+#[inline(always)]
+pub(crate) fn draw_yield<E: SlotEnd>(
+    side: &mut Side<E, Waker>,
+    rng: &mut Pcg32,
+    cx: &mut Context<'_>,
+) -> bool
+    requires turn { (is_drawn : Bool) →
+        next (drew is_drawn side.old.log) ≡ Action.Take (own E.READS) }
+    requires drawn { next (made Found.Nothing (drew true side.old.log)) ≡ Action.Yield }
+    ensures yields { IsTrue result → AsksAgain cx.new
+        × (side.new.log ≡ made (Found.Granted true) (made Found.Nothing (drew true side.old.log))) }
+    ensures goes_on { IsFalse result → (cx.new ≡ cx.old)
+        × (side.new.log ≡ made Found.Nothing (drew false side.old.log)) }
+    ensures draw { (IsTrue result ↔ DrawsYield rng.old) × (rng.new ≡ drawn_from rng.old) }
+    ensures kept { Keeps cx.old cx.new }
+    ensures leaves { side.new.slots.maybe_registered ≡ false }
+    ensures waits { OnlyWaits side.old.slots side.new.slots }
+    ensures rest { (side.new.end ≡ side.old.end) × (side.new.cells ≡ side.old.cells) }
+{
+    let is_drawn = draw(rng);
+    side.drew(is_drawn);
+    take_own(side);
+    if is_drawn {
+        let _pending: Poll<()> = cx.yield_now();
+        side.note(Action::Yield, Found::Granted(true));
     }
-}
-
-impl Writer {
-    /// Draws after the true look of a polling copy, and empties the writer's slot. Reports whether
-    /// the copy yields.
-    #[inline(always)]
-    pub(crate) fn draw_and_take_own(&mut self) -> bool
-        requires { now self.old.side.log
-            ≡ goes_on (Point.Writer (WritePoint.LookTake (Purpose.Copy (Form.Polling false)))) }
-        ensures log { Comes (goes_on (Point.Writer (writer_draws (Form.Polling result))))
-            self.old.side.log self.new.side.log }
-        ensures draw { IsTrue result ↔ DrawsYield self.old.rng }
-        ensures rng { self.new.rng ≡ drawn_from self.old.rng }
-        ensures leaves { WriterLeavesNone self.new }
-        ensures same { (self.new.side.cells ≡ self.old.side.cells)
-            × (self.new.source ≡ self.old.source) }
-        ensures waits { OnlyWaits self.old.side.slots self.new.side.slots }
-        ensures end { self.new.side.end ≡ self.old.side.end }
-    {
-        let is_drawn = draw(&mut self.rng);
-        self.side.drew(is_drawn);
-        take_own(&mut self.side);
-        is_drawn
-    }
+    is_drawn
 }
 
 // Takes one word, and reports whether it is 0 modulo 100.

@@ -1,8 +1,6 @@
 //! What a handle hands on to its end of the ring, with no step of its own.
-ghost use Rattle.std.specs.Prelude.{◌≡◌, ◌+◌, ◌<◌, ◌++◌, length, max, true};
+ghost use Rattle.std.specs.Prelude.{◌≡◌, ◌+◌, ◌<◌, ◌++◌, length, true};
 ghost use Rattle.std.specs.Borrow.{sem};
-ghost use Rattle.piper_ring.specs.ReadView.{Agree};
-ghost use Rattle.piper_ring.specs.WriteView.{either};
 
 use super::{Reader, Writer};
 use piper_ring::{
@@ -10,11 +8,9 @@ use piper_ring::{
 };
 
 impl Reader {
-    ghost use Rattle.piper.specs.Handles.{SameReader};
-    ghost use Rattle.piper.specs.OfReader.{end_of, log, ring, capacity, taken, known, observed, observed_shut};
+    ghost use Rattle.piper.specs.OfReader.{end_of, ring, capacity, taken, known};
     ghost use Rattle.piper.specs.OfWriter as of_writer;
-    ghost use Rattle.piper_ring.specs.ReadView.{KeepsAll};
-    ghost use Rattle.piper.specs.ReaderCalls.{KnowsAll, MeetClosed, MeetMore, MeetSame, MeetWoken, ReaderWasWoken};
+    ghost use Rattle.piper.specs.ReaderCalls.{MeetClosed, MeetMore, MeetSame, MeetWoken, ReaderObserves, ReaderWasWoken};
 
     /// Its end of the ring.
     pub fn end(&self) -> &ReadEnd
@@ -33,17 +29,7 @@ impl Reader {
     /// Requires: the mark is of the same pipe.
     pub fn observe(&mut self, mark: &WriteMark)
         requires { mark.now.names ≡ (ring self.old).names }
-        ensures observed { (observed self.new ≡ max (observed self.old) (length mark.now.bytes))
-            × (observed_shut self.new ≡ either (observed_shut self.old) mark.now.shut) }
-        ensures agree { Agree (taken self.new ++ known self.new) mark.now.bytes }
-        ensures last { mark.now.shut ≡ true → KnowsAll self.new mark.now.bytes }
-        ensures all { KeepsAll (end_of self.old) (end_of self.new) }
-        ensures rest { SameReader (λ s t. t ≡ s) self.old self.new × (log self.new ≡ log self.old)
-            × (end_of self.new ≡ record (end_of self.old) {
-              observed = observed self.new;
-              observed_shut = observed_shut self.new;
-              all = (end_of self.new).all;
-            }) }
+        ensures { ReaderObserves mark.now self.old self.new }
     {
         self.side.observe(mark);
     }
@@ -81,17 +67,9 @@ impl Reader {
     pub fn meet_finished(&mut self, left: &mut FinishedWriter)
         requires { left.old.mark.names ≡ (ring self.old).names }
         ensures woken { ReaderWasWoken self.old left.old }
-        ensures observed { (observed self.new ≡ max (observed self.old) (length left.old.mark.bytes))
-            × (observed_shut self.new ≡ true) }
-        ensures last { Agree (taken self.new ++ known self.new) left.old.mark.bytes
-            × KnowsAll self.new left.old.mark.bytes }
-        ensures rest { SameReader (λ s t. t ≡ s) self.old self.new × (log self.new ≡ log self.old)
-            × (end_of self.new ≡ record (end_of self.old) {
-              observed = observed self.new;
-              observed_shut = observed_shut self.new;
-              all = (end_of self.new).all;
-            })
-            × (left.new ≡ left.old) }
+        ensures observes { ReaderObserves left.old.mark self.old self.new }
+        ensures last { left.old.mark.shut ≡ true }
+        ensures rest { left.new ≡ left.old }
     {
         self.side.meet_slot(&mut left.slots);
         self.side.observe(&left.mark);
@@ -99,9 +77,9 @@ impl Reader {
 }
 
 impl Writer {
-    ghost use Rattle.piper.specs.Handles.{SameWriter, lends_room};
-    ghost use Rattle.piper.specs.OfWriter.{end_of, log, ring, observed};
-    ghost use Rattle.piper.specs.WriterCalls.{MayLend, MustLend, WriterWasWoken};
+    ghost use Rattle.piper.specs.Handles.{lends_room};
+    ghost use Rattle.piper.specs.OfWriter.{end_of, ring, saw};
+    ghost use Rattle.piper.specs.WriterCalls.{MayLend, MustLend, WriterObserves, WriterWasWoken};
 
     /// Its end of the ring.
     pub fn end(&self) -> &WriteEnd
@@ -116,10 +94,7 @@ impl Writer {
     /// Requires: the mark is of the same pipe.
     pub fn observe(&mut self, mark: &ReadMark)
         requires { mark.now.names ≡ (ring self.old).names }
-        ensures view { end_of self.new
-            ≡ record (end_of self.old) { observed = max (observed self.old) mark.now.count } }
-        ensures rest { SameWriter (λ s t. t ≡ s) self.old self.new
-            × (log self.new ≡ log self.old) }
+        ensures { WriterObserves mark.now.count (saw self.old) self.old self.new }
     {
         self.side.observe(mark);
     }
@@ -131,10 +106,7 @@ impl Writer {
     /// Requires: the mark is of the same pipe.
     pub fn observe_last(&mut self, mark: &LastReadMark)
         requires { mark.now.consumed.names ≡ (ring self.old).names }
-        ensures view { end_of self.new ≡ record (end_of self.old)
-            { observed = max (observed self.old) mark.now.consumed.count; saw = true } }
-        ensures rest { SameWriter (λ s t. t ≡ s) self.old self.new
-            × (log self.new ≡ log self.old) }
+        ensures { WriterObserves mark.now.consumed.count true self.old self.new }
     {
         self.side.observe_last(mark);
     }
@@ -148,10 +120,8 @@ impl Writer {
     pub fn meet_finished(&mut self, left: &mut FinishedReader)
         requires { left.old.mark.consumed.names ≡ (ring self.old).names }
         ensures woken { WriterWasWoken self.old left.old }
-        ensures view { end_of self.new ≡ record (end_of self.old)
-            { observed = max (observed self.old) left.old.mark.consumed.count; saw = true } }
-        ensures rest { SameWriter (λ s t. t ≡ s) self.old self.new
-            × (log self.new ≡ log self.old) × (left.new ≡ left.old) }
+        ensures observes { WriterObserves left.old.mark.consumed.count true self.old self.new }
+        ensures rest { left.new ≡ left.old }
     {
         self.side.meet_slot(&mut left.slots);
         self.side.observe_last(&left.mark);

@@ -1,6 +1,6 @@
 //! A `&mut` to a reader or a writer is one itself, so that what takes one can be lent it.
 use super::{AsyncBufRead, AsyncRead, AsyncWrite};
-use crate::error::PipeError;
+use crate::error::PipeResult;
 use futures::task::{Context, Poll};
 
 impl<R: AsyncRead> AsyncRead for &mut R {
@@ -22,11 +22,7 @@ impl<R: AsyncRead> AsyncRead for &mut R {
 
     ghost says = { λ old new. R.says old.now new.now };
 
-    fn poll_read(
-        &mut self,
-        cx: &mut Context<'_>,
-        dest: &mut [u8],
-    ) -> Poll<Result<usize, PipeError>> {
+    fn poll_read(&mut self, cx: &mut Context<'_>, dest: &mut [u8]) -> Poll<PipeResult<usize>> {
         (**self).poll_read(cx, dest)
     }
 }
@@ -56,7 +52,7 @@ impl<R: AsyncBufRead> AsyncBufRead for &mut R {
 
     ghost consumes = { λ old new. R.consumes old.now new.now };
 
-    fn poll_fill_buf(&mut self, cx: &mut Context<'_>) -> Poll<Result<&[u8], PipeError>> {
+    fn poll_fill_buf(&mut self, cx: &mut Context<'_>) -> Poll<PipeResult<&[u8]>> {
         (**self).poll_fill_buf(cx)
     }
 
@@ -86,19 +82,15 @@ impl<W: AsyncWrite> AsyncWrite for &mut W {
 
     ghost closes = { λ old new. W.closes old.now new.now };
 
-    fn poll_write(
-        &mut self,
-        cx: &mut Context<'_>,
-        source: &[u8],
-    ) -> Poll<Result<usize, PipeError>> {
+    fn poll_write(&mut self, cx: &mut Context<'_>, source: &[u8]) -> Poll<PipeResult<usize>> {
         (**self).poll_write(cx, source)
     }
 
-    fn poll_flush(&mut self, cx: &mut Context<'_>) -> Poll<Result<(), PipeError>> {
+    fn poll_flush(&mut self, cx: &mut Context<'_>) -> Poll<PipeResult<()>> {
         (**self).poll_flush(cx)
     }
 
-    fn poll_close(&mut self, cx: &mut Context<'_>) -> Poll<Result<(), PipeError>> {
+    fn poll_close(&mut self, cx: &mut Context<'_>) -> Poll<PipeResult<()>> {
         (**self).poll_close(cx)
     }
 }

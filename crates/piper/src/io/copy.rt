@@ -5,7 +5,7 @@ ghost use Rattle.futures.specs.Poll.{OnPending};
 ghost use Rattle.piper.specs.Polls.{Carries, CopyPends, IfReadyErr};
 
 use super::{AsyncBufRead, AsyncWrite};
-use crate::error::PipeError;
+use crate::error::PipeResult;
 use futures::task::{Context, Poll};
 
 /// How many pieces a poll carries at most, so that other tasks get their turn.
@@ -40,7 +40,7 @@ pub fn poll_copy<R: AsyncBufRead, W: AsyncWrite>(
     cx: &mut Context<'_>,
     reader: &mut R,
     writer: &mut W,
-) -> Poll<Result<Copied, PipeError>>
+) -> Poll<PipeResult<Copied>>
     ensures carried { Carries (R.taken reader.old) (R.taken reader.new)
         (W.sent writer.old) (W.sent writer.new) (W.saw writer.new) }
     ensures over { W.saw writer.old ≡ true →

@@ -104,8 +104,8 @@ impl AsyncWrite for End {
     ghost flushes = { λ a b r old left.
         Flushes (writing a) (writing b) r old left × (reading b ≡ reading a) };
 
-    ghost closes = { λ a b r.
-        Closes (writing a) (writing b) r × (reading b ≡ reading a) };
+    ghost closes = { λ a b r old left.
+        Closes (writing a) (writing b) r old left × (reading b ≡ reading a) };
 
     /// As `poll_write` of the handle that writes.
     fn poll_write(

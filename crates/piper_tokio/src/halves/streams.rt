@@ -15,7 +15,7 @@ ghost use Rattle.piper.specs.Waits.{ReaderPends, WriterLeavesNone};
 ghost use Rattle.piper_tokio.specs.Passing.{Took, WantsMemory, Gave, of_io};
 ghost use Rattle.piper_tokio.specs.Shown.{handle_of, shown_by, ShowsFront, writing};
 ghost use Rattle.piper_tokio.specs.PassingLaws.{took_nothing, took_in_order, gave_nothing, gave_in_order};
-ghost use Rattle.piper.specs.OfWriter.{shut, saw, slots};
+ghost use Rattle.piper.specs.OfWriter.{room, shut, saw, slots};
 ghost use Rattle.piper.specs.WriterCalls.{FillDraws, FillPends, FillsEnd, FillsSlice, SameWriterButMoved, SameWriterButShut, WakesReader};
 
 use super::{CompatReader, CompatWriter};
@@ -80,7 +80,8 @@ impl tokio::io::AsyncRead for CompatReader {
         ensures end { DrainsEnd result (handle_of self.old) (handle_of self.new) }
         ensures pending { DrainDraws result (handle_of self.old) (handle_of self.new)
             × OnPending result (DrainPends (handle_of self.old) (handle_of self.new) cx.new) }
-        ensures memory { IfReadyErr result (WantsMemory cx.new) }
+        ensures memory { IfReadyErr result (λ e. WantsMemory cx.new e
+            × (known (handle_of self.new) ≡ [])) }
         ensures woken { WakesWriter (handle_of self.old) (handle_of self.new) }
         ensures context { Keeps cx.old cx.new }
     {
@@ -203,7 +204,8 @@ impl tokio::io::AsyncWrite for CompatWriter {
         ensures end { FillsEnd result (writing self.old) (writing self.new) }
         ensures pending { FillDraws (of_io result) (writing self.old) (writing self.new)
             × OnPending result (FillPends (writing self.old) (writing self.new) cx.new) }
-        ensures memory { IfReadyErr result (WantsMemory cx.new) }
+        ensures memory { IfReadyErr result (λ e. WantsMemory cx.new e
+            × (room (writing self.new) ≡ 0)) }
         ensures woken { WakesReader (writing self.old) (writing self.new) }
         ensures context { Keeps cx.old cx.new }
     {
@@ -236,7 +238,7 @@ impl tokio::io::AsyncWrite for CompatWriter {
         ensures woken { NotifiesReader (writing self.new) }
         ensures called { CallsTaken (slots (writing self.old)) (slots (writing self.new)) }
         ensures leaves { WriterLeavesNone (writing self.new) }
-        ensures context { Keeps cx.old cx.new }
+        ensures context { cx.new ≡ cx.old }
         ensures rest { SameWriterButShut (writing self.old) (writing self.new) }
     {
         match self.writer.poll_close(cx) {

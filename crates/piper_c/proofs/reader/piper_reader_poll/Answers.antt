@@ -4,4 +4,4 @@ use Rattle.piper_c.proofs.reader.piper_reader_poll.Goals as goal
 
 pub returns-clause-polled : goal.returns-clause-polled
 returns-clause-polled c some =
-    is_told _ _ _ _ _ _ _ _ _ c.new.result c.poll-polled.result c.poll-polled.ensures.words c.poll-polled.ensures.found c.poll-polled.ensures.looked (cc) (cc) c.new.ensures c.told.ensures
+    is_told _ _ _ _ _ _ _ _ _ c.new.result c.poll-polled.result c.poll-polled.ensures.words c.poll-polled.ensures.found.0 c.poll-polled.ensures.found.1 (cc) (cc) c.new.ensures c.told.ensures

@@ -56,10 +56,9 @@ impl SlotEnd for ReadEnd {
 
 impl<T> Side<ReadEnd, T> {
     ghost use Rattle.piper_ring.specs.Cells.{GetsLeft};
-    ghost use Rattle.piper_ring.specs.Loads.{FoundClosed, FoundWaiter};
+    ghost use Rattle.piper_ring.specs.Loads.{FoundClosed};
     ghost use Rattle.piper_ring.specs.Looks.{HasBytes};
     ghost use Rattle.piper_ring.specs.ReadView.{HasLoadedTail, HasTheRest, KeepsAll, KnowsEnd, KnowsMore, Observes, in_one_piece};
-    ghost use Rattle.piper_ring.specs.Shared.{flag};
     ghost use Rattle.piper_ring.specs.Meeting.{EndsMeet};
     ghost use Rattle.piper_ring.specs.SlotsView.{IsReaderPending, ReaderHasNews, TakesTicket, WaitsAsBefore, IsWriterPending, WriterHasNews};
 
@@ -138,7 +137,6 @@ impl<T> Side<ReadEnd, T> {
         ensures looked { (result.side.slots.stored.count ≡ length self.end.taken)
             × (result.side.slots.stored.closed ≡ true) × WaitsAsBefore self.slots result.side.slots }
         ensures ticket { TakesTicket self.slots result.side.slots result.taken }
-        ensures found { FoundWaiter self.end.ring.names (flag (is_some result.taken)) }
         ensures left { GetsLeft self.end.ring.names result.left }
     {
         let Side {

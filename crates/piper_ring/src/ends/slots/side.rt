@@ -2,7 +2,7 @@
 ghost use Rattle.std.specs.Prelude.{◌≡◌, ◌<◌, ◌≢◌, None, IsSome, IfOk, IfErr, true, false, is_some, not, IsTrue, IsFalse};
 ghost use Rattle.piper_ring.specs.Cells.{AreCellsOf};
 ghost use Rattle.piper_ring.specs.Shared.{waker_place};
-ghost use Rattle.piper_ring.specs.Log.{IsOutside, began, drew, made, next, other, own};
+ghost use Rattle.piper_ring.specs.Log.{IsOutside, began, drew, found_of, made, next, other, own};
 
 use crate::ends::cells::WakerCells;
 use crate::ends::slots::{Away, Registrations, SlotEnd};
@@ -46,8 +46,7 @@ fn place<'a, E: SlotEnd, T>(
 }
 
 impl<E: SlotEnd, T> Side<E, T> {
-    ghost use Rattle.piper_ring.specs.Loads.{CameBack, FoundFlag, FoundWaiter, IsAway, IsUnregistered, WasPut, WasTakenBack};
-    ghost use Rattle.piper_ring.specs.Shared.{flag};
+    ghost use Rattle.piper_ring.specs.Loads.{CameBack, FoundFlag, FoundWaiter, IsAway, IsUnregistered, TookBack, WasPut, WasTakenBack};
     ghost use Rattle.piper_ring.specs.SlotsView.{Registers, TakesTicket, WaitsAsBefore};
 
     /// Its end of the ring.
@@ -62,8 +61,8 @@ impl<E: SlotEnd, T> Side<E, T> {
     /// there: `is_registered` looks.
     #[inline(always)]
     pub fn maybe_registered(&self) -> bool
-        ensures known { result ≡ self.now.slots.maybe_registered }
-        ensures owned { self.now.slots.owns ≡ true → IsFalse result }
+        ensures { (result ≡ self.now.slots.maybe_registered)
+            × (self.now.slots.owns ≡ true → IsFalse result) }
     {
         self.slots.parts.maybe_registered
     }
@@ -102,6 +101,22 @@ impl<E: SlotEnd, T> Side<E, T> {
         self.log.note(found);
     }
 
+    /// A source or a destination was called: it moved so many bytes, or failed.
+    #[inline(always)]
+    pub fn note_moved<F>(&mut self, action: Action, moved: &Result<usize, F>)
+        requires turn { next self.old.log ≡ action }
+        requires outside { IsOutside action }
+        ensures log { self.new.log ≡ made (found_of moved.now) self.old.log }
+        ensures rest { (self.new.end ≡ self.old.end) × (self.new.slots ≡ self.old.slots)
+            × (self.new.cells ≡ self.old.cells) }
+    {
+        let _ = action;
+        self.log.note(match moved {
+            Ok(n) => Found::Moved(*n),
+            Err(_) => Found::Failed,
+        });
+    }
+
     /// The side's own slot is empty, as far as the side knows, after a look that found something:
     /// that is a step of the table.
     #[inline(always)]
@@ -119,12 +134,10 @@ impl<E: SlotEnd, T> Side<E, T> {
     pub fn take_own(&mut self) -> Option<T>
         requires turn { next self.old.log ≡ Action.Take (own E.READS) }
         ensures log { self.new.log ≡ made (Found.Waker (is_some result)) self.old.log }
-        ensures back { IsSome result → self.old.slots.owns ≡ false }
         ensures slots { self.new.slots ≡ record self.old.slots
             { owns = self.new.slots.owns; maybe_registered = false } }
-        ensures out { WasTakenBack self.old.slots.names
+        ensures out { TookBack self.old.slots.names
             self.old.slots.owns self.old.slots.tickets result }
-        ensures found { result ≡ None → IsUnregistered self.old.slots.names self.old.slots.owns }
         ensures rest { (self.new.end ≡ self.old.end) × (self.new.cells ≡ self.old.cells) }
     {
         let waker = self.cancel();
@@ -134,14 +147,12 @@ impl<E: SlotEnd, T> Side<E, T> {
 
     /// Takes its waker back, if it is still registered in this side's slot.
     pub fn cancel(&mut self) -> Option<T>
-        ensures back { IsSome result → self.old.slots.owns ≡ false }
         ensures owns { IsSome result →
             self.new.slots ≡ record self.old.slots { owns = true; maybe_registered = false } }
         ensures none { result ≡ None →
             self.new.slots ≡ record self.old.slots { maybe_registered = false } }
-        ensures out { WasTakenBack self.old.slots.names
+        ensures out { TookBack self.old.slots.names
             self.old.slots.owns self.old.slots.tickets result }
-        ensures found { result ≡ None → IsUnregistered self.old.slots.names self.old.slots.owns }
         ensures rest { (self.new.end ≡ self.old.end) × (self.new.cells ≡ self.old.cells)
             × (self.new.log ≡ self.old.log) }
     {
@@ -261,7 +272,6 @@ impl<E: SlotEnd, T> Side<E, T> {
         ensures log { self.new.log ≡ made (Found.Waker (is_some result)) self.old.log }
         ensures rests { self.new.slots.stored ≡ E.stored_of self.new.end }
         ensures ticket { TakesTicket self.old.slots self.new.slots result }
-        ensures found { FoundWaiter self.old.slots.names (flag (is_some result)) }
         ensures own { WaitsAsBefore self.old.slots self.new.slots }
         ensures rest { (self.new.end ≡ self.old.end) × (self.new.cells ≡ self.old.cells) }
     {
@@ -287,9 +297,9 @@ impl<E: SlotEnd, T> Side<E, T> {
         ensures taken { self.old.slots.owns ≡ false → left.old.stored ≢ self.old.slots.heard →
             left.old.taken ≡ self.old.slots.tickets }
         ensures capacity { E.capacity_of self.old.end ≡ (E.names_of self.old.end).capacity }
-        ensures kept { (self.new.slots ≡ self.old.slots) × (left.new ≡ left.old) }
-        ensures rest { (self.new.end ≡ self.old.end) × (self.new.cells ≡ self.old.cells)
-            × (self.new.log ≡ self.old.log) }
+        ensures rest { (self.new.slots ≡ self.old.slots) × (self.new.end ≡ self.old.end)
+            × (self.new.cells ≡ self.old.cells) × (self.new.log ≡ self.old.log)
+            × (left.new ≡ left.old) }
     {
         let words = self.end.slot_words();
         words.meet_slot(&mut self.slots.parts.waits, &mut left.parts.wakes);

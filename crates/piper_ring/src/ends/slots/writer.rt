@@ -64,9 +64,8 @@ impl SlotEnd for WriteEnd {
 
 impl<T> Side<WriteEnd, T> {
     ghost use Rattle.piper_ring.specs.Cells.{GetsLeft};
-    ghost use Rattle.piper_ring.specs.Loads.{FoundClosed, FoundWaiter};
+    ghost use Rattle.piper_ring.specs.Loads.{FoundClosed};
     ghost use Rattle.piper_ring.specs.Looks.{HasRoom};
-    ghost use Rattle.piper_ring.specs.Shared.{flag};
     ghost use Rattle.piper_ring.specs.SlotsView.{TakesTicket, WaitsAsBefore};
     ghost use Rattle.piper_ring.specs.LendsBuffer.{lends_side};
     ghost use Rattle.piper_ring.specs.WriteView.{HasLoadedHead, HasMoreRoom, Lendable};
@@ -205,7 +204,6 @@ impl<T> Side<WriteEnd, T> {
         ensures looked { (result.side.slots.stored.bytes ≡ self.end.sent)
             × (result.side.slots.stored.closed ≡ true) × WaitsAsBefore self.slots result.side.slots }
         ensures ticket { TakesTicket self.slots result.side.slots result.taken }
-        ensures found { FoundWaiter self.end.ring.names (flag (is_some result.taken)) }
         ensures left { GetsLeft self.end.ring.names result.left }
     {
         let Side {

@@ -22,7 +22,7 @@ pub loop-preserved : goal.loop-preserved
 loop-preserved g c = (tt, tt, poured_round _ _ _ _ _ _ _ _ _ c.loop.invariant.2 c.poll.ensures.found.looked c.write_some.ensures.poured)
 
 pub returns-in-Pending-clause-still : goal.returns-in-Pending-clause-still
-returns-in-Pending-clause-still g c = reader_still _ _ _ c.in-Pending.ensures.pending
+returns-in-Pending-clause-still g c = reader_still _ _ _ c.in-Pending.ensures.waits.pending
 
 pub returns-in-Err-clause-reported : goal.returns-in-Err-clause-reported
 returns-in-Err-clause-reported g c = rw c.no_waker.ensures.value (_, c.no_waker.ensures.refused)

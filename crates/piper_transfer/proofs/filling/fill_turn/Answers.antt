@@ -43,7 +43,7 @@ loop-preserved g c =
     (tt, tt, fed_round _ _ _ _ _ _ _ c.loop.invariant.2 c.poll.ensures.found.looked c.read_chunk.ensures.fed, c.read_chunk.ensures.is_open)
 
 pub returns-in-Pending-clause-still : goal.returns-in-Pending-clause-still
-returns-in-Pending-clause-still g c = writer_still _ _ _ c.in-Pending.ensures.pending
+returns-in-Pending-clause-still g c = writer_still _ _ _ c.in-Pending.ensures.waits.pending
 
 pub returns-in-Err-clause-stopped : goal.returns-in-Err-clause-stopped
 returns-in-Err-clause-stopped g c = rw (c.close.ensures.answer, c.no_waker-error.ensures.value) (_, c.no_waker-error.ensures.refused)

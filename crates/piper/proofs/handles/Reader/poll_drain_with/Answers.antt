@@ -33,13 +33,13 @@ kept g c = elim c.if-not-look_first.branch [
 
 pub returns-clause-drained : goal.returns-clause-drained
 returns-clause-drained g c =
-    drains_rounds _ _ _ _ _ _ _ _ _ _ (looked g c) c.draw_and_take_own.ensures.end c.drain_rounds.ensures.drained
+    (drains_rounds _ _ _ _ _ _ _ _ _ _ (looked g c) c.draw_yield.ensures.rest.0 c.drain_rounds.ensures.drained, search rules)
 
 pub returns-clause-waiting : goal.returns-clause-waiting
 returns-clause-waiting g c =
-    let found = found_some _ _ _ _ _ _ _ _ _ _ (looked g c) c.draw_and_take_own.ensures.end c.drain_rounds.ensures.drained (some g c) in record {
-      draws = once_drawn _ _ _ _ _ _ c.drain_rounds.ensures.ready found (same g c) (search rules) c.draw_and_take_own.ensures.draw c.if-draw_and_take_own.false;
+    let found = found_some _ _ _ _ _ _ _ _ _ _ (looked g c) c.draw_yield.ensures.rest.0 c.drain_rounds.ensures.drained (some g c) in record {
+      draws = once_drawn _ _ _ _ _ _ c.drain_rounds.ensures.ready found (same g c) (search rules) c.draw_yield.ensures.draw.0 c.if-draw_yield.false;
       pending = once_pending _ _ c.drain_rounds.ensures.ready;
       memory = once_granted _ _ c.drain_rounds.ensures.ready;
-      context = kept g c;
+      context = λ fact held. c.draw_yield.ensures.kept fact (kept g c fact held);
     }

@@ -1,6 +1,6 @@
 -- Whoever came out of a place was called, or dropped.
 use Rattle.std.proofs.Common.{rules, ◌≡◌, ap, IfSome}
-use Rattle.piper.specs.Called.{WasCalled}
+use Rattle.piper.specs.Called.{HasDropped, WasCalled}
 use Rattle.piper.proofs.Calling.{calls_one}
 use Rattle.piper.proofs.handles.Writer.drop.Goals as goal
 use Rattle.piper.proofs.handles.Writer.drop.Goals.{in-Some, in_default}
@@ -19,17 +19,8 @@ same_slots c =
       | in_default w ↦ ap (λ side. side.1.0) w.side-is
     ]
 
-pub returns-clause-woken : goal.returns-clause-woken
-returns-clause-woken c =
-    let took = rw c.begin.ensures.rest.1 at c.finish-side.ensures.ticket.waker in
-    let none = rw c.begin.ensures.rest.1 at c.finish-side.ensures.ticket.none in record {
-      bytes = search rules;
-      shut = search rules;
-      called = rw (same_slots c) (calls_one _ _ _ _ took none (is_called c));
-    }
-
-pub returns-clause-left : goal.returns-clause-left
-returns-clause-left c = record {
+dropped : (c : goal.After-result-1) → HasDropped c.args.self.side.end.ring.names
+dropped c = record {
   taken = c.finish-side.result.taken;
   tickets = (c.args.self.side.slots.taken, c.finish-side.result.side.slots.taken);
   took = rw (c.begin.ensures.rest.1, c.args.self.side.of_one_ring) at c.finish-side.ensures.ticket.waker;
@@ -39,3 +30,13 @@ returns-clause-left c = record {
   reader = c.let_left_go.ensures.reader;
   writer = c.let_left_go.ensures.writer;
 }
+
+pub returns-clause-woken : goal.returns-clause-woken
+returns-clause-woken c =
+    let took = rw c.begin.ensures.rest.1 at c.finish-side.ensures.ticket.waker in
+    let none = rw c.begin.ensures.rest.1 at c.finish-side.ensures.ticket.none in record {
+      bytes = search rules;
+      shut = search rules;
+      called = rw (same_slots c) (calls_one _ _ _ _ took none (is_called c));
+      dropped = dropped c;
+    }

@@ -27,13 +27,13 @@ pub returns-in-Err-clause-filled : goal.returns-in-Err-clause-filled
 returns-in-Err-clause-filled g c =
     fills_none _ _ _ (Ready (Err Memory)) _ _ _ (looked_on _ _ _ c.look_first.ensures.looked c.in-NotReady.ensures.found.0 c.look_waiting.ensures.looked) (refl, refl) tt
 
-pub returns-then-draw_and_take_own-clause-filled : goal.returns-then-draw_and_take_own-clause-filled
-returns-then-draw_and_take_own-clause-filled g c =
+pub returns-then-draw_yield-clause-filled : goal.returns-then-draw_yield-clause-filled
+returns-then-draw_yield-clause-filled g c =
     let looked : WriterLooked c.args.self.now.side.end c.match-look_first.self.side.end = elim c.match-look_first.branch [
       | in-Ready w ↦ rw w.self-is c.look_first.ensures.looked
       | in-NotReady+in-Ok-Ready w ↦ rw w.self-is (looked_on _ _ _ c.look_first.ensures.looked w.in-NotReady.ensures.found.0 w.look_waiting.ensures.looked)
     ] in
-    rw (c.note.ensures.rest.0, c.draw_and_take_own.ensures.end) (fills_none _ _ _ Pending _ _ _ looked (refl, refl) tt)
+    rw c.draw_yield.ensures.rest.0 (fills_none _ _ _ Pending _ _ _ looked (refl, refl) tt)
 
 looked : (g : _) (c : goal.After-fill_rounds g) → WriterLooked c.args.self.now.side.end c.match-look_first.self.side.end
 looked g c = elim c.match-look_first.branch [
@@ -55,12 +55,12 @@ kept g c = elim c.match-look_first.branch [
 
 pub returns-clause-filled : goal.returns-clause-filled
 returns-clause-filled g c =
-    fills_rounds _ _ _ _ _ _ _ _ _ _ (looked g c) c.draw_and_take_own.ensures.end c.fill_rounds.ensures.filled
+    fills_rounds _ _ _ _ _ _ _ _ _ _ (looked g c) c.draw_yield.ensures.rest.0 c.fill_rounds.ensures.filled
 
 pub returns-clause-waiting : goal.returns-clause-waiting
 returns-clause-waiting g c = record {
-  draws = once_drawn _ _ _ _ _ _ c.fill_rounds.ensures.ready c.fill_rounds.ensures.found (same g c) (search rules) c.draw_and_take_own.ensures.draw c.if-draw_and_take_own.false;
+  draws = once_drawn _ _ _ _ _ _ c.fill_rounds.ensures.ready c.fill_rounds.ensures.found (same g c) (search rules) c.draw_yield.ensures.draw.0 c.if-draw_yield.false;
   pending = once_pending _ _ c.fill_rounds.ensures.ready;
   memory = once_granted _ _ c.fill_rounds.ensures.ready;
-  context = kept g c;
+  context = λ fact held. c.draw_yield.ensures.kept fact (kept g c fact held);
 }

@@ -1,25 +1,10 @@
 -- What the reader gave is what the struct that holds it gave.
-use Rattle.std.proofs.Common.{rules}
+use Rattle.std.proofs.Common.{rules, sym}
 use Rattle.piper.proofs.OfStd.{filled_held}
 use Rattle.piper.specs.declared.like.streams.StdRead.{StdRead}
 use Rattle.piper.proofs.handles.Writer.poll_fill.Goals as goal
 
-pub returns-in-Ready-Ok-clause-filled : goal.returns-in-Ready-Ok-clause-filled
-returns-in-Ready-Ok-clause-filled g c =
+pub returns-clause-filled : goal.returns-clause-filled
+returns-clause-filled g c =
     filled_held (λ (s : StdRead g.row.R.Denot). s.object.now) _ _ _ _ _ g.R.StdReader.fails (λ a xs b passed. passed.1) (λ a dry. dry) (λ a e b failed. failed.1)
-    _ _ (search rules) c.new-source.result c.poll_fill_with.new.source _ _ c.new-source.ensures.object (search rules) _ _ c.poll_fill_with.ensures.filled
-
-pub returns-in-Ready-Err-Memory-clause-filled : goal.returns-in-Ready-Err-Memory-clause-filled
-returns-in-Ready-Err-Memory-clause-filled g c =
-    filled_held (λ (s : StdRead g.row.R.Denot). s.object.now) _ _ _ _ _ g.R.StdReader.fails (λ a xs b passed. passed.1) (λ a dry. dry) (λ a e b failed. failed.1)
-    _ _ (search rules) c.new-source.result c.poll_fill_with.new.source _ _ c.new-source.ensures.object (search rules) _ _ c.poll_fill_with.ensures.filled
-
-pub returns-in-Ready-Err-Like-clause-filled : goal.returns-in-Ready-Err-Like-clause-filled
-returns-in-Ready-Err-Like-clause-filled g c =
-    filled_held (λ (s : StdRead g.row.R.Denot). s.object.now) _ _ _ _ _ g.R.StdReader.fails (λ a xs b passed. passed.1) (λ a dry. dry) (λ a e b failed. failed.1)
-    _ _ (search rules) c.new-source.result c.poll_fill_with.new.source _ _ c.new-source.ensures.object (search rules) _ _ c.poll_fill_with.ensures.filled
-
-pub returns-in-Pending-clause-filled : goal.returns-in-Pending-clause-filled
-returns-in-Pending-clause-filled g c =
-    filled_held (λ (s : StdRead g.row.R.Denot). s.object.now) _ _ _ _ _ g.R.StdReader.fails (λ a xs b passed. passed.1) (λ a dry. dry) (λ a e b failed. failed.1)
-    _ _ (search rules) c.new-source.result c.poll_fill_with.new.source _ _ c.new-source.ensures.object (search rules) _ _ c.poll_fill_with.ensures.filled
+    _ _ (sym c.as_std_copy.ensures) c.new-source.result c.poll_fill_with.new.source _ _ c.new-source.ensures.object (search rules) _ _ c.poll_fill_with.ensures.filled.0

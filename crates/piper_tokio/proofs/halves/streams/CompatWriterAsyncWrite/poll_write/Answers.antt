@@ -7,5 +7,5 @@ pub returns-in-Ready-Ok-clause-bytes : goal.returns-in-Ready-Ok-clause-bytes
 returns-in-Ready-Ok-clause-bytes c =
     let told = c.in-Ready-Ok.ensures in
     let filled = rw c.in-Ready-Ok.field-0-is at told.filled in
-    let end = rw c.in-Ready-Ok.field-0-is at told.end in
-    gave_front c.args.self.now.writer c.poll_fill_bytes.new.self c.in-Ready-Ok.count c.args.buf.now filled.0 (λ seen. ap count_moved (end.over seen)) told.rest.1
+    let rest = rw c.in-Ready-Ok.field-0-is at told.rest in
+    gave_front c.args.self.now.writer c.poll_fill_bytes.new.self c.in-Ready-Ok.count c.args.buf.now filled.0 (λ seen. ap count_moved (rest.end.over seen)) rest.same
