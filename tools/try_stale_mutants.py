@@ -63,7 +63,8 @@ def edited(edit, crate):
     """The files that a mutant changes, as they were and as it makes them."""
     before, after, path, old = {}, {}, None, None
     for line in edit.read_text().splitlines():
-        word, _colon, rest = line.partition(": ")
+        word, _colon, rest = line.partition(":")
+        rest = rest.removeprefix(" ")
         if word == "file":
             path = crate / rest
             before.setdefault(path, path.read_text())
