@@ -8,7 +8,7 @@ use Rattle.futures.specs.declared.task.context.Context.{Context}
 use Rattle.piper.specs.Polls.{IfReadyErr}
 use Rattle.piper.specs.declared.error.PipeError.{PipeError}
 use Rattle.piper_lines.specs.AtEnd.{AtEnd}
-use Rattle.piper_lines.specs.LineReader.{IsSpent, kept_of, reader_of}
+use Rattle.piper_lines.specs.LineReader.{LinesAreSpent, kept_of, reader_of}
 use Rattle.piper_lines.specs.Refusals.{IsReported, LacksRoom}
 use Rattle.piper_lines.specs.Sends.{Sends}
 use Rattle.piper_lines.proofs.Moving.{moves_then}
@@ -57,7 +57,7 @@ module _ {R W : Type 0} (taken known : R → List ℕ) (saw_end : R → Bool) (e
 
   -- what a poll gives
   pub gives_now : (cx : Context) (r : Poll (Result Echoed PipeError))
-      → (r ≡ Ready (Ok ToTheEnd) → (left_of b.echo ≡ []) × AtEnd (known (reader_of b.lines)) (saw_end (reader_of b.lines)) × IsSpent ended b.lines)
+      → (r ≡ Ready (Ok ToTheEnd) → (left_of b.echo ≡ []) × AtEnd (known (reader_of b.lines)) (saw_end (reader_of b.lines)) × LinesAreSpent ended b.lines)
       → (r ≡ Ready (Ok UntilClosed) → (saw b.writer ≡ true) × (0 < length (left_of b.echo)))
       → IfReadyErr r (λ e. write_fails b.writer cx e ⊎ IsReported e (read_fails (reader_of b.lines) cx) (LacksRoom 65_536 0 (kept_of b.lines) (known (reader_of b.lines))))
       → IfReady r (EchoesAll taken known saw_end ended read_fails sent saw write_fails a)

@@ -11,7 +11,7 @@ use Rattle.piper_lines.proofs.Sending.{sends_none, sends_front, sends_then}
 use Rattle.futures.specs.declared.task.Poll.TheVariants.{Ready}
 use Rattle.piper_lines.specs.declared.line_reader.LineAnswer.{LineAnswer}
 use Rattle.piper_lines.specs.declared.line_reader.LineAnswer.TheVariants.{Line, TooLong, Last, End}
-use Rattle.piper_lines.specs.LineAnswers.{Hands, OnEnd}
+use Rattle.piper_lines.specs.LineAnswers.{Hands, OnLinesEnd}
 use Rattle.piper_lines.specs.Split.{IsPiece}
 use Rattle.piper_lines.proofs.Collecting.{hands_piece}
 use Rattle.piper_duplex.specs.Echoes.{AreWhole, Echoes, IsLeftOf, IsRest}
@@ -138,7 +138,7 @@ moves_some t0 t1 k0 line k1 moves none some =
 
 -- what a poll for a line handed out, where it didn't report the end: a piece, or the rest
 pub handed : (E : Type 0) (a : LineAnswer) (end limit : ℕ) (before line kept known : List ℕ) (saw : Bool) (Spent : Type 0) → 0 < limit → ¬ (a ≡ End)
-    → Hands {E = E} (Ready (Ok a)) end limit before line kept known saw → OnEnd {E = E} (Ready (Ok a)) Spent
+    → Hands {E = E} (Ready (Ok a)) end limit before line kept known saw → OnLinesEnd {E = E} (Ready (Ok a)) Spent
     → (kept ≡ []) × (0 < length line) × ((length before < limit → IsPiece end limit line) ⊎ (IsRest end line × Spent))
 handed E Line end limit before line kept known saw Spent some more hands ended =
     let is = hands.0 in

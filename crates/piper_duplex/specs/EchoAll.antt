@@ -3,7 +3,7 @@ use Rattle.std.specs.Prelude.{◌≡◌, ℕ, ◌<◌, ◌⊎◌, Bool, true, Li
 use Rattle.futures.specs.declared.task.context.Context.{Context}
 use Rattle.piper.specs.declared.error.PipeError.{PipeError}
 use Rattle.piper_lines.specs.AtEnd.{AtEnd}
-use Rattle.piper_lines.specs.LineReader.{IsSpent, kept_of, reader_of}
+use Rattle.piper_lines.specs.LineReader.{LinesAreSpent, kept_of, reader_of}
 use Rattle.piper_lines.specs.Moves.{Moves}
 use Rattle.piper_lines.specs.Refusals.{IsReported, LacksRoom}
 use Rattle.piper_lines.specs.Sends.{Sends}
@@ -29,7 +29,7 @@ module _ {R W : Type 0} (taken known : R → List ℕ) (saw_end : R → Bool) (e
   abbrev pub EndsEcho : Result Echoed PipeError → Lines R → W → List ℕ → Type 0
   EndsEcho (Ok ToTheEnd) lines writer left =
       (left ≡ []) × AtEnd (known (reader_of lines)) (saw_end (reader_of lines))
-      × IsSpent ended lines
+      × LinesAreSpent ended lines
   EndsEcho (Ok UntilClosed) lines writer left = (saw writer ≡ true) × (0 < length left)
   EndsEcho (Err e) lines writer left =
       (cx : Context) × (write_fails writer cx e

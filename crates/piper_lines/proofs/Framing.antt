@@ -3,7 +3,7 @@ use Rattle.std.proofs.Common.{◌≡◌, ℕ, ◌<◌, ◌≤◌, List, [], ◌�
 use Rattle.std.specs.Prelude.{Ok}
 use Rattle.futures.specs.declared.task.Poll.TheVariants.{Ready}
 use Rattle.piper.specs.declared.error.PipeError.{PipeError}
-use Rattle.piper_lines.specs.FrameAnswers.{OnEnd}
+use Rattle.piper_lines.specs.FrameAnswers.{OnFramesEnd}
 use Rattle.piper_lines.specs.declared.frame_reader.FrameAnswer.{FrameAnswer}
 use Rattle.piper_lines.specs.declared.frame_reader.FrameAnswer.TheVariants.{Frame, TooLong, Truncated, End}
 use Rattle.piper_lines.specs.Frame.{frame_bytes}
@@ -101,7 +101,7 @@ keeping_frame format t0 t1 header body frame header' body' kept0 skips0 skips1 k
     )
 
 -- whatever is returned, the reader ended
-pub on_end : (answer : FrameAnswer) (P : Type 0) → P → OnEnd {E = PipeError} (Ready (Ok answer)) P
+pub on_end : (answer : FrameAnswer) (P : Type 0) → P → OnFramesEnd {E = PipeError} (Ready (Ok answer)) P
 on_end Frame P ended = tt
 on_end (TooLong n) P ended = tt
 on_end Truncated P ended = ended

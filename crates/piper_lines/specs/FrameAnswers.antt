@@ -19,19 +19,19 @@ handed format (Ready (Err e)) frame = []
 handed format Pending frame = []
 
 -- P holds where the answer reports that the reader ended
-abbrev pub OnEnd : {E : Type 0} → Poll (Result FrameAnswer E) → Type 0 → Type 0
-OnEnd (Ready (Ok Frame)) P = ⊤
-OnEnd (Ready (Ok (TooLong n))) P = ⊤
-OnEnd (Ready (Ok Truncated)) P = P
-OnEnd (Ready (Ok End)) P = P
-OnEnd (Ready (Err e)) P = ⊤
-OnEnd Pending P = ⊤
+abbrev pub OnFramesEnd : {E : Type 0} → Poll (Result FrameAnswer E) → Type 0 → Type 0
+OnFramesEnd (Ready (Ok Frame)) P = ⊤
+OnFramesEnd (Ready (Ok (TooLong n))) P = ⊤
+OnFramesEnd (Ready (Ok Truncated)) P = P
+OnFramesEnd (Ready (Ok End)) P = P
+OnFramesEnd (Ready (Err e)) P = ⊤
+OnFramesEnd Pending P = ⊤
 
 -- the poll reports the end, or fails: it hands out no frame, and doesn't wait
-abbrev pub EndsAgain : {E : Type 0} → Poll (Result FrameAnswer E) → Type 0
-EndsAgain (Ready (Ok answer)) = answer ≡ End
-EndsAgain (Ready (Err e)) = ⊤
-EndsAgain Pending = ⊥
+abbrev pub FramesEndAgain : {E : Type 0} → Poll (Result FrameAnswer E) → Type 0
+FramesEndAgain (Ready (Ok answer)) = answer ≡ End
+FramesEndAgain (Ready (Err e)) = ⊤
+FramesEndAgain Pending = ⊥
 
 -- unless a skipped frame was still to pass, the frame that is kept lacks bytes of its length or of its
 -- body

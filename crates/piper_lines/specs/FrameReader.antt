@@ -39,8 +39,8 @@ skips_of frames = frames.to_skip
 
 -- nothing more comes: the reader below has reported its end, and no byte of a frame is kept or has
 -- to pass
-abbrev pub IsSpent : {R : Type 0} → (R → Type 0) → Frames R → Type 0
-IsSpent ended frames =
+abbrev pub FramesAreSpent : {R : Type 0} → (R → Type 0) → Frames R → Type 0
+FramesAreSpent ended frames =
     ended (reader_of frames)
     × IsBetweenFrames (header_of frames) (body_of frames) (skips_of frames)
 

@@ -20,16 +20,16 @@ at_end Last = true
 at_end End = true
 
 -- P holds where the answer reports that the reader ended
-abbrev pub OnEnd : {E : Type 0} → Poll (Result LineAnswer E) → Type 0 → Type 0
-OnEnd (Ready (Ok answer)) P = at_end answer ≡ true → P
-OnEnd (Ready (Err e)) P = ⊤
-OnEnd Pending P = ⊤
+abbrev pub OnLinesEnd : {E : Type 0} → Poll (Result LineAnswer E) → Type 0 → Type 0
+OnLinesEnd (Ready (Ok answer)) P = at_end answer ≡ true → P
+OnLinesEnd (Ready (Err e)) P = ⊤
+OnLinesEnd Pending P = ⊤
 
 -- the poll reports the end, or fails: it hands out no line, and doesn't wait
-abbrev pub EndsAgain : {E : Type 0} → Poll (Result LineAnswer E) → Type 0
-EndsAgain (Ready (Ok answer)) = answer ≡ End
-EndsAgain (Ready (Err e)) = ⊤
-EndsAgain Pending = ⊥
+abbrev pub LinesEndAgain : {E : Type 0} → Poll (Result LineAnswer E) → Type 0
+LinesEndAgain (Ready (Ok answer)) = answer ≡ End
+LinesEndAgain (Ready (Err e)) = ⊤
+LinesEndAgain Pending = ⊥
 
 -- by the answer: the bytes of a line, begun before, that are gathered now
 abbrev pub Gathers : {E : Type 0} → Poll (Result LineAnswer E)

@@ -21,8 +21,8 @@ abbrev pub room_of : {R : Type 0} → Lines R → ℕ
 room_of lines = vec_capacity lines.kept
 
 -- nothing more comes: the reader below has reported its end, and no byte is kept
-abbrev pub IsSpent : {R : Type 0} → (R → Type 0) → Lines R → Type 0
-IsSpent ended lines = ended (reader_of lines) × (kept_of lines ≡ [])
+abbrev pub LinesAreSpent : {R : Type 0} → (R → Type 0) → Lines R → Type 0
+LinesAreSpent ended lines = ended (reader_of lines) × (kept_of lines ≡ [])
 
 -- the lines, once a `&mut` to the reader has ended: they have the reader as it was left
 abbrev pub lends_reader : (R : RattleType) → MutBor (Lines R.Denot) → MutBor R.Denot → Fml

@@ -51,9 +51,9 @@ pub struct Frames<R> {
 }
 
 impl<R: AsyncBufRead> Frames<R> {
-    ghost use Rattle.piper_lines.specs.FrameReader.{reader_of, format_of, kept_of, header_of, body_of, skips_of, header_room_of, body_room_of, lends_reader, IsSpent};
+    ghost use Rattle.piper_lines.specs.FrameReader.{reader_of, format_of, kept_of, header_of, body_of, skips_of, header_room_of, body_room_of, lends_reader, FramesAreSpent};
     ghost use Rattle.piper_lines.specs.Refusals.{IsReported, LacksFrameRoom};
-    ghost use Rattle.piper_lines.specs.FrameAnswers.{EndsAgain, HandsFrame, LacksBytes, OnEnd, handed};
+    ghost use Rattle.piper_lines.specs.FrameAnswers.{FramesEndAgain, HandsFrame, LacksBytes, OnFramesEnd, handed};
     ghost use Rattle.piper_lines.specs.Moves.{PassesMoves};
 
     /// The frames whose length is four bytes, the most significant first. Nothing is kept yet, and
@@ -149,8 +149,9 @@ impl<R: AsyncBufRead> Frames<R> {
         ensures hands { HandsFrame (format_of self.old) result limit frame.new.items
             (header_of self.new) (body_of self.old) (body_of self.new) (skips_of self.new)
             (R.known (reader_of self.new)) (R.saw (reader_of self.new)) }
-        ensures ended { OnEnd result (R.ended (reader_of self.new)) }
-        ensures after { IsSpent R.ended self.old → IsSpent R.ended self.new × EndsAgain result }
+        ensures ended { OnFramesEnd result (R.ended (reader_of self.new)) }
+        ensures after { FramesAreSpent R.ended self.old →
+            FramesAreSpent R.ended self.new × FramesEndAgain result }
         ensures error { IfReadyErr result (λ e. IsReported e (R.fails (reader_of self.new) cx.new)
             (LacksFrameRoom (format_of self.old) limit (header_room_of self.old)
             (body_room_of self.old) (header_of self.new) (body_of self.new)

@@ -5,7 +5,7 @@ ghost use Rattle.futures.specs.Task.{Covers, Keeps};
 ghost use Rattle.futures.specs.Poll.{OnPending};
 ghost use Rattle.piper_lines.specs.Line.{Lacks, IsLine, line_feed};
 ghost use Rattle.piper_lines.specs.Moves.{Moves, Grows};
-ghost use Rattle.piper_lines.specs.LineAnswers.{EndsAgain, Gathers, Hands, OnEnd};
+ghost use Rattle.piper_lines.specs.LineAnswers.{LinesEndAgain, Gathers, Hands, OnLinesEnd};
 ghost use Rattle.piper_lines.specs.Refusals.{IsReported, LacksRoom};
 ghost use Rattle.piper_lines.specs.Stays.{ReaderStays, WaitsForBytes};
 ghost use Rattle.piper.specs.Polls.{IfReadyErr};
@@ -62,7 +62,7 @@ pub struct Lines<R> {
 }
 
 impl<R: AsyncBufRead> Lines<R> {
-    ghost use Rattle.piper_lines.specs.LineReader.{IsSpent, reader_of, end_of, kept_of, room_of, lends_reader};
+    ghost use Rattle.piper_lines.specs.LineReader.{LinesAreSpent, reader_of, end_of, kept_of, room_of, lends_reader};
 
     /// The lines that end with LF. Nothing is kept yet, and no memory is asked for.
     pub fn new(alloc: Global, reader: R) -> Lines<R>
@@ -124,8 +124,9 @@ impl<R: AsyncBufRead> Lines<R> {
         ensures hands { Hands result (end_of self.old) limit
             (kept_of self.old) line.new.items (kept_of self.new)
             (R.known (reader_of self.new)) (R.saw (reader_of self.new)) }
-        ensures ended { OnEnd result (IsSpent R.ended self.new) }
-        ensures after { IsSpent R.ended self.old → IsSpent R.ended self.new × EndsAgain result }
+        ensures ended { OnLinesEnd result (LinesAreSpent R.ended self.new) }
+        ensures after { LinesAreSpent R.ended self.old →
+            LinesAreSpent R.ended self.new × LinesEndAgain result }
         ensures error { IfReadyErr result (λ e. IsReported e (R.fails (reader_of self.new) cx.new)
             (LacksRoom limit (room_of self.old) (kept_of self.new) (R.known (reader_of self.new)))) }
         ensures pending { OnPending result (Covers cx.new (R.needs (reader_of self.new))
@@ -158,9 +159,9 @@ fn gather<R: AsyncBufRead>(
     ensures grown { Grows (R.taken reader.old) (R.taken reader.new) line.old.items line.new.items }
     ensures gathers { Gathers result end limit line.old.items line.new.items
         (R.known reader.new) (R.saw reader.new) }
-    ensures ended { OnEnd result (R.ended reader.new) }
+    ensures ended { OnLinesEnd result (R.ended reader.new) }
     ensures after { 0 < limit → R.ended reader.old → line.old.items ≡ [] →
-        R.ended reader.new × (line.new.items ≡ []) × EndsAgain result }
+        R.ended reader.new × (line.new.items ≡ []) × LinesEndAgain result }
     ensures error { IfReadyErr result (λ e. IsReported e (R.fails reader.new cx.new)
         (LacksRoom limit (vec_capacity line.old) line.new.items (R.known reader.new))) }
     ensures stays { ReaderStays R.knows_end R.woken reader.old reader.new }

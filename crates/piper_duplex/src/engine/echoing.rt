@@ -2,7 +2,7 @@
 ghost use Rattle.std.specs.Prelude.{◌≡◌, ◌<◌, ◌≤◌, ◌⊎◌, [], length, true, Ok};
 ghost use Rattle.futures.specs.Task.{Covers, Keeps};
 ghost use Rattle.futures.specs.Poll.{OnPending};
-ghost use Rattle.piper_lines.specs.LineReader.{IsSpent, reader_of, end_of, kept_of};
+ghost use Rattle.piper_lines.specs.LineReader.{LinesAreSpent, reader_of, end_of, kept_of};
 ghost use Rattle.piper.specs.Polls.{IfReadyErr};
 ghost use Rattle.piper_lines.specs.AtEnd.{AtEnd};
 ghost use Rattle.piper_lines.specs.Refusals.{IsReported, LacksRoom};
@@ -77,14 +77,14 @@ impl LineEcho {
         ensures echoes { Echoes
             (λ piece. length (kept_of lines.old) < limit →
             IsPiece (end_of lines.old) limit piece)
-            (λ piece. IsRest (end_of lines.old) piece × IsSpent R.ended lines.new)
+            (λ piece. IsRest (end_of lines.old) piece × LinesAreSpent R.ended lines.new)
             (R.taken (reader_of lines.old)) (R.taken (reader_of lines.new))
             (kept_of lines.old) (kept_of lines.new) (left_of self.old) (left_of self.new)
             (W.sent writer.old) (W.sent writer.new) (W.saw writer.old) (W.saw writer.new) }
         ensures ended { result ≡ Poll.Ready (Ok Echoed.ToTheEnd) → (left_of self.new ≡ [])
             × AtEnd (R.known (reader_of lines.new)) (R.saw (reader_of lines.new))
-            × IsSpent R.ended lines.new }
-        ensures after { IsSpent R.ended lines.old → IsSpent R.ended lines.new
+            × LinesAreSpent R.ended lines.new }
+        ensures after { LinesAreSpent R.ended lines.old → LinesAreSpent R.ended lines.new
             × (R.taken (reader_of lines.new) ≡ R.taken (reader_of lines.old)) }
         ensures closed { result ≡ Poll.Ready (Ok Echoed.UntilClosed) →
             (W.saw writer.new ≡ true) × (0 < length (left_of self.new)) }

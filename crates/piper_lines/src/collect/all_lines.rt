@@ -6,7 +6,7 @@ ghost use Rattle.piper.specs.Polls.{IfReadyOk, IfReadyErr};
 ghost use Rattle.piper_lines.specs.AtEnd.{AtEnd};
 ghost use Rattle.piper_lines.specs.Line.{Lacks};
 ghost use Rattle.piper_lines.specs.Split.{joined, Adds, IsPiece};
-ghost use Rattle.piper_lines.specs.LineReader.{IsSpent, reader_of, end_of, kept_of};
+ghost use Rattle.piper_lines.specs.LineReader.{LinesAreSpent, reader_of, end_of, kept_of};
 ghost use Rattle.piper_lines.specs.Moves.{Moves};
 ghost use Rattle.piper_lines.specs.Refusals.{IsReported, LacksRoom};
 ghost use Rattle.piper_lines.specs.Collected.{rest_of};
@@ -46,7 +46,7 @@ pub fn poll_lines<R: AsyncBufRead>(
     ensures ended { IfReadyOk result (λ rest. (kept_of lines.new ≡ [])
         × Lacks (end_of lines.old) rest.items
         × AtEnd (R.known (reader_of lines.new)) (R.saw (reader_of lines.new))
-        × IsSpent R.ended lines.new) }
+        × LinesAreSpent R.ended lines.new) }
     ensures error { IfReadyErr result (λ e. IsReported e (R.fails (reader_of lines.new) cx.new)
         (LacksRoom limit 0 (kept_of lines.new) (R.known (reader_of lines.new))
         ⊎ (vec_capacity out.old ≤ vec_len out.new))) }

@@ -1,7 +1,7 @@
 use Rattle.std.proofs.Common.{◌∙◌, ◌<◌, ◌⊎◌, inl, inr, ℕ, List, length, refl, ap, arith, rules}
 use Rattle.std.specs.List.{concat}
 use Rattle.piper.specs.declared.error.PipeError.{PipeError}
-use Rattle.piper_lines.specs.LineReader.{IsSpent, end_of, kept_of}
+use Rattle.piper_lines.specs.LineReader.{LinesAreSpent, end_of, kept_of}
 use Rattle.piper_lines.specs.Split.{IsPiece}
 use Rattle.piper_lines.proofs.Staying.{reader_stays, writer_stays}
 use Rattle.piper_duplex.specs.Echoes.{IsRest}
@@ -54,8 +54,8 @@ loop-preserved g c =
     let hands = rw (c.in-Ready-Ok.field-0-is, c.loop.invariant.end) at c.in-Ready-Ok.ensures.hands in
     let ended = rw c.in-Ready-Ok.field-0-is at c.in-Ready-Ok.ensures.ended in
     let after = rw c.in-Ready-Ok.field-0-is at c.in-Ready-Ok.ensures.after in
-    let Spent : Type 0 = IsSpent g.R.AsyncBufRead.ended c.loop.lines in
-    let Later : Type 0 = IsSpent g.R.AsyncBufRead.ended c.poll_line.new.self in
+    let Spent : Type 0 = LinesAreSpent g.R.AsyncBufRead.ended c.loop.lines in
+    let Later : Type 0 = LinesAreSpent g.R.AsyncBufRead.ended c.poll_line.new.self in
     let line : List ℕ = c.poll_line.new.line.items in
     let Whole : List ℕ → Type 0 = λ piece. length (kept_of c.args.lines.now) < c.args.limit → IsPiece (end_of c.args.lines.now) c.args.limit piece in
     let not_spent : ¬ Spent = λ spent. c.in_default.not-End (after spent).1 in
