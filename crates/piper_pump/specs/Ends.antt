@@ -63,6 +63,11 @@ abbrev pub Awaits : Bool → Opening → Type 0
 Awaits wanted (opening.Awaited takes_held) = takes_held ≡ wanted
 Awaits wanted other = ⊥
 
+-- if they are not, this holds of whether those that hold bytes are taken
+abbrev pub IfAwaited : Opening → (Bool → Type 0) → Type 0
+IfAwaited (opening.Awaited takes_held) P = P takes_held
+IfAwaited other P = ⊤
+
 -- they are open
 abbrev pub IsDone : Opening → Type 0
 IsDone opening.Done = ⊤

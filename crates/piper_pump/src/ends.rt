@@ -6,8 +6,10 @@ ghost use Rattle.piper_transfer.specs.Transfer.{IsLasting, IsOfDestination, Writ
 ghost use Rattle.pump_files.specs.Copies.{HavePassed, lacks_some};
 ghost use Rattle.piper_pump.specs.Ended.{EndsAs, IsUnopened};
 ghost use Rattle.piper_pump.specs.Ends.{drain_bytes, inlet_bytes, AreAllFlushed, DrainFails};
-ghost use Rattle.piper_pump.specs.Ends.{HaveTaken, InletFails, IsAnswered, IsAwaited, IsDone, IsFlushed, IsFull};
+ghost use Rattle.piper_pump.specs.Ends.{HaveTaken, IfAwaited, InletFails, IsAnswered, IsAwaited, IsDone, IsFlushed, IsFull};
 ghost use Rattle.piper_pump.specs.Ends.{IsRefused, IsStreamFlushed, OutletFails, OutletTook};
+ghost use Rattle.piper_pump.specs.Prepared.{WasOpened};
+ghost use Rattle.piper_pump.specs.Written.{HaveAll};
 
 use crate::ended::Ended;
 use crate::outcome::{Failure, Outcome};
@@ -125,6 +127,8 @@ where
             (drain_bytes D.contents F.written self.new.drain) }
         ensures took { StaysTaken (OutletTook F.name F.written F.fails) self.old self.new }
         ensures done { OnOk result (IsDone self.new.opening) }
+        ensures opened { OnOk result (IfAwaited self.old.opening (λ takes_held.
+            HaveAll (WasOpened takes_held F.answers) self.old.drain self.old.copies.tees.items)) }
         ensures flushed { OnOk result (AreAllFlushed D.flushed F.flushed self.new.opening
             self.new.drain self.new.copies.tees.items) }
         ensures reported { IfErr result (IsOfDestination
@@ -157,6 +161,8 @@ where
             ≡ drain_bytes D.contents F.written self.old.drain }
         ensures took { StaysTaken (OutletTook F.name F.written F.fails) self.old self.new }
         ensures done { OnOk result (IsDone self.new.opening) }
+        ensures opened { OnOk result (IfAwaited self.old.opening (λ takes_held.
+            HaveAll (WasOpened takes_held F.answers) self.old.drain self.old.copies.tees.items)) }
         ensures refused { IfErr result (λ e. IsRefused self.new.opening × IsLasting e) }
     {
         match &self.opening {
@@ -176,6 +182,8 @@ where
             self.old.copies parts [] → HaveTaken self.new.opening
             (HavePassed F.name F.written F.fails self.new.copies parts []) [] }
         ensures done { OnOk result (IsDone self.new.opening) }
+        ensures opened { OnOk result (HaveAll (WasOpened takes_held F.answers)
+            self.old.drain self.old.copies.tees.items) }
         ensures refused { IfErr result (λ e. IsRefused self.new.opening × IsLasting e) }
     {
         let tees = self.copies.tees.as_mut_slice();

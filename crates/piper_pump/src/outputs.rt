@@ -8,8 +8,8 @@ ghost use Rattle.piper_pump.specs.Ends.{drain_bytes};
 ghost use Rattle.piper_pump.specs.Written.{HasDrain, HaveAll, way_of};
 ghost use Rattle.pump_files.specs.AllOpen.{IsOpenedUnlessFailed};
 ghost use Rattle.pump_files.specs.Copies.{IsCopy};
-ghost use Rattle.piper_pump.specs.Prepared.{StayCopies, StayUnwritten};
-ghost use Rattle.pump_files.specs.Steps.{GetsBy, IsCutUnlessFailed, NeedsFor};
+ghost use Rattle.piper_pump.specs.Prepared.{StayCopies, StayUnwritten, WasOpened, WasOpenedBy};
+ghost use Rattle.pump_files.specs.Steps.{GetsBy, IsCutUnlessFailed, NeedsFor, OpensBy};
 
 use crate::ended::{Ended, Unopened};
 use crate::ends::Drain;
@@ -35,6 +35,7 @@ where
         (drain_bytes D.contents F.written drain.old)
         (drain_bytes D.contents F.written drain.new) tees.old tees.new result }
     ensures way { way_of drain.new ≡ way_of drain.old }
+    ensures opened { OnOk result (HaveAll (WasOpened takes_held F.answers) drain.old tees.old) }
     ensures cut { OnOk result (HaveAll (IsCutUnlessFailed F.is_cut) drain.new tees.new) }
 {
     take_all(rt, Step::Open { takes_held }, drain, tees)?;
@@ -93,6 +94,7 @@ where
     requires needs { HaveAll (NeedsFor step F.is_kept F.is_made) drain.old tees.old }
     ensures gets { OnOk result (HaveAll (GetsBy step F.is_kept F.is_made F.is_cut)
         drain.new tees.new) }
+    ensures opened { OnOk result (HaveAll (WasOpenedBy step F.answers) drain.old tees.old) }
     ensures stay { StayUnwritten F.name F.written F.fails
         (drain_bytes D.contents F.written drain.old)
         (drain_bytes D.contents F.written drain.new) tees.old tees.new result }
@@ -109,6 +111,7 @@ where
     F: NamedFile,
     requires needs { HasDrain (NeedsFor step F.is_kept F.is_made) drain.old }
     ensures gets { OnOk result (HasDrain (GetsBy step F.is_kept F.is_made F.is_cut) drain.new) }
+    ensures opened { OnOk result (HasDrain (WasOpenedBy step F.answers) drain.old) }
     ensures bytes { drain_bytes D.contents F.written drain.new
         ≡ drain_bytes D.contents F.written drain.old }
     ensures way { way_of drain.new ≡ way_of drain.old }
@@ -126,6 +129,7 @@ where
     F: NamedFile,
     requires needs { All (NeedsFor step F.is_kept F.is_made) tees.old }
     ensures gets { OnOk result (All (GetsBy step F.is_kept F.is_made F.is_cut) tees.new) }
+    ensures opened { OnOk result (All (WasOpenedBy step F.answers) tees.old) }
     ensures early { IfErr result IsUnopened }
     ensures stay { OnOk result (StayCopies F.name F.written F.fails tees.old tees.new) }
 {
@@ -147,6 +151,7 @@ where
     ensures way { sink.new.way ≡ sink.old.way }
     ensures bytes { F.written sink.new.file ≡ F.written sink.old.file }
     ensures gets { OnOk result (GetsBy step F.is_kept F.is_made F.is_cut sink.new) }
+    ensures opened { OnOk result (OpensBy step F.answers sink.old sink.new) }
     ensures early { IfErr result IsUnopened }
     ensures named { IfErr result (IsToldOf (string_bytes sink.old.name)) }
 {

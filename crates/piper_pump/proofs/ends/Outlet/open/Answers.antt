@@ -4,6 +4,8 @@ use Rattle.std.specs.List.{All}
 use Rattle.pump_files.specs.Copies.{HavePassed, IsCopy, name_of_sum, names_of}
 use Rattle.piper_pump.specs.Ends.{HaveTaken}
 use Rattle.piper_pump.specs.Outcome.{as_failed_so}
+use Rattle.piper_pump.specs.Prepared.{WasOpened}
+use Rattle.piper_pump.specs.Written.{HaveAll}
 use Rattle.piper_pump.proofs.ends.Outlet.open.Goals as goal
 
 pub fail-requires : goal.fail-requires
@@ -23,3 +25,7 @@ returns-in-Ok-clause-took g c = λ parts passed.
       sum = passed.sum;
       digest = passed.digest;
     })
+
+pub returns-in-Ok-clause-opened : goal.returns-in-Ok-clause-opened
+returns-in-Ok-clause-opened g c =
+    subst (λ tees. HaveAll (WasOpened c.args.takes_held g.F.NamedFile.answers) c.args.self.now.drain tees) c.as_mut_slice-tees.ensures.value c.in-Ok.ensures.opened
