@@ -1233,7 +1233,7 @@ arm.6:                                            ; preds = %join.4
   call void @"piper_ring::ring::marks::ReadMark::drop"()
   call void @"piper_ring::ring::marks::ClosedMark::drop"()
   %r61 = getelementptr i8, ptr %r31, i64 2
-  call void @"piper_ring::ring::slots::Wakes::drop"()
+  call void @"piper_ring::ring::slots::WakerState::drop"()
   %r62 = getelementptr i8, ptr %r3, i64 64
   call void @llvm.memmove.p0.p0.i64(ptr %r37, ptr %r62, i64 8, i1 false)
   %r63 = load ptr, ptr %r37, align 8, !noundef !1
@@ -4104,7 +4104,7 @@ start:
   %r5 = getelementptr i8, ptr %r0, i64 2
   call void @"piper_ring::ring::marks::WriteMark::drop"()
   %r6 = getelementptr i8, ptr %r0, i64 2
-  call void @"piper_ring::ring::slots::Wakes::drop"()
+  call void @"piper_ring::ring::slots::WakerState::drop"()
   ret void
 }
 
@@ -4632,7 +4632,7 @@ start:
 }
 
 ; Function Attrs: nounwind
-define internal void @"piper_ring::ring::slots::Wakes::drop"() #0 {
+define internal void @"piper_ring::ring::slots::WakerState::drop"() #0 {
 start:
   %r0 = alloca [0 x i8], align 1
   ret void
@@ -5112,7 +5112,7 @@ start:
   %r5 = getelementptr i8, ptr %r0, i64 2
   call void @"piper_c::piper_ring++ends++slots++writer++ReadStored+Destruct::drop"()
   %r6 = getelementptr i8, ptr %r0, i64 2
-  call void @"piper_ring::ring::slots::Wakes::drop"()
+  call void @"piper_ring::ring::slots::WakerState::drop"()
   ret void
 }
 

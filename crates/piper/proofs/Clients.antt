@@ -7,7 +7,7 @@ use borrow.Rule.Slice.PartMut.{put_mid}
 use native.Mathlib.Decide.{dec_lt}
 use Rattle.piper_ring.specs.ReadView.{ReadView}
 use Rattle.piper_ring.specs.WriteView.{WriteView}
-use Rattle.piper.specs.ReaderCalls.{Drained, MeetClosed, MeetSame}
+use Rattle.piper.specs.ReaderCalls.{Drained, Meets}
 use Rattle.piper.specs.WriterCalls.{Filled}
 use Rattle.piper.specs.declared.handles.Reader.{Reader}
 use Rattle.piper.specs.declared.handles.Writer.{Writer}
@@ -47,14 +47,14 @@ drained_all n a b old new drained some fits same =
 
 -- what a fill published of a slice, into an open pipe of which all was taken before, a drain takes
 -- after the handles met
-pub filled_and_drained : (n m : ℕ) (q r s : Reader) (v w x : Writer) (source old new : List ℕ) → Filled n v w source → MeetSame q r w x → MeetClosed r x → r.side.end.taken ++ r.side.end.known ≡ x.side.end.sent
+pub filled_and_drained : (n m : ℕ) (q r s : Reader) (v w x : Writer) (source old new : List ℕ) → Filled n v w source → Meets q r w x
     → Drained m r s old new → q.side.end.taken ≡ v.side.end.sent → x.side.end.shut ≡ false → 0 < n → length source ≤ length old → length new ≡ length old
     → take m new ≡ take m source
-filled_and_drained n m q r s v w x source old new filled met closed fifo drained emptied unshut some room long =
+filled_and_drained n m q r s v w x source old new filled met drained emptied unshut some room long =
     let saw : x.side.end.saw ≡ w.side.end.saw = ap (λ (u : WriteView). u.saw) met.writer in
     let published : x.side.end.sent ≡ w.side.end.sent = ap (λ (u : WriteView). u.sent) met.writer in
     let taken : r.side.end.taken ≡ q.side.end.taken = ap (λ (u : ReadView). u.taken) met.reader in
-    let sent = filled.all (sym saw ∙ saw_none _ _ closed.writer unshut) in
+    let sent = filled.all (sym saw ∙ saw_none _ _ met.writer_saw unshut) in
     let known : r.side.end.known ≡ take n source = append_cancel_left r.side.end.taken _ _ (cc) in
     let count = filled.count in
     let found : 0 < length r.side.end.known = grind (arith, common_steps) in

@@ -1,8 +1,9 @@
 -- A drain's look, after which nothing was moved, or rounds moved what it found.
-use Rattle.std.proofs.Common.{◌≡◌, ℕ, ◌<◌, ◌⊎◌, [], ◌++◌, length, Result, refl, sym, ap, ◌∙◌, subst, append-nil, length-append, arith}
+use Rattle.std.proofs.Common.{◌≡◌, ℕ, ◌<◌, ◌⊎◌, Bool, true, false, [], ◌++◌, length, Result, refl, sym, ap, ◌∙◌, subst, append-nil, length-append, arith}
 use Rattle.std.proofs.lemmas.List.{nil_from_length}
 use Rattle.futures.specs.declared.task.Poll.{Poll}
 use Rattle.piper_ring.specs.ReadView.{ReadView}
+use Rattle.piper_ring.specs.Streams.{either}
 use Rattle.piper.specs.CopyAnswers.{Copies}
 use Rattle.piper.specs.Drains.{Drains, DrainRounds, found_len}
 use Rattle.piper.specs.Like.{Passes}
@@ -53,11 +54,17 @@ module _ {S E : Type 0} (takes : Passes S) (is_full : S → Type 0) (fails : S �
     pub found_some : 0 < length w.known → 0 < found_len a b
     found_some some = omega (arith, some, ap length same_taken, ap length d.taken, ap length d.known, length-append w.taken d.moved, length-append d.moved b.known)
 
+knows_still : (told saw told' saw' : Bool) → told' ≡ told → (saw ≡ true → saw' ≡ true) → either told saw ≡ true → either told' saw' ≡ true
+knows_still true saw told' saw' same kept knows = ap (λ t. either t saw') same
+knows_still false saw told' saw' same kept knows = ap (λ t. either t saw') same ∙ kept knows
+
 -- a look that goes on where it found no byte is one look
 pub looked_on : (a b c : ReadView) → ReaderLooked a b → length b.known ≡ 0 → ReaderLooked b c → ReaderLooked a c
 looked_on a b c p none q = record {
   known = λ some. absurd (omega (arith, some, ap (λ (r : ReadView). length r.known) (p.known some), none));
   fresh = λ empty. q.fresh (nil_from_length b.known none);
   saw = λ seen. q.saw (p.saw seen);
+  all = λ knows. q.all (knows_still a.observed_shut a.saw b.observed_shut b.saw (ap (λ (v : ReadView). v.observed_shut) p.rest) p.saw knows) ∙ p.all knows;
+  ended = λ e. q.ended (p.ended e);
   rest = q.rest ∙ ap (λ (v : ReadView). record v { known = c.known; saw = c.saw; all = c.all }) p.rest;
 }

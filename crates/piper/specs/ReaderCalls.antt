@@ -1,5 +1,5 @@
 -- What the calls of a reader do: each definition is shared by all forms of a call.
-use Rattle.std.specs.Prelude.{◌≡◌, ℕ, ◌<◌, ◌≤◌, ◌++◌, ◌⊎◌, true, false, Bool, List, [], length, max, take, drop, IsTrue, Option, Result, Ok}
+use Rattle.std.specs.Prelude.{◌≡◌, ℕ, ◌+◌, ◌<◌, ◌≤◌, ◌++◌, ◌⊎◌, true, false, Bool, List, [], length, max, take, drop, IsTrue, Option, Result, Ok}
 use Rattle.futures.specs.Task.{Covers, Keeps}
 use Rattle.futures.specs.Poll.{OnPending}
 use Rattle.futures.specs.declared.task.context.Context.{Context}
@@ -7,7 +7,7 @@ use Rattle.futures.specs.declared.task.Poll.{Poll}
 use Rattle.futures.specs.declared.task.Poll.TheVariants.{Ready}
 use denote.Ref.{Bor}
 use Rattle.piper_ring.specs.Loads.{FoundClosed}
-use Rattle.piper_ring.specs.ReadView.{Agree, KeepsAll, KnowsEnd, MayBeUnread as EndMayHave}
+use Rattle.piper_ring.specs.ReadView.{Agree, KeepsAll, KnowsEnd, ReadEndMayHave}
 use Rattle.piper_ring.specs.SlotsView.{IsReaderPending, IsWriterPending, OnlyWaits, WaitsAsBefore}
 use Rattle.piper.specs.Called.{CallsTaken}
 use Rattle.piper.specs.Contexts.{AsksAgain}
@@ -23,7 +23,7 @@ use Rattle.piper.specs.Polls.{After, Count, IfReadyErr, IfReadyOk, TakesNone}
 use Rattle.piper.specs.Waits.{ReaderIsRefused, ReaderIsRemembered, ReaderPends, WriterIsRemembered, ReaderLeavesNone, ReaderRegistered}
 use Rattle.piper.specs.declared.error.CopyError.{CopyError}
 use Rattle.piper.specs.declared.error.PipeError.{PipeError}
-use Rattle.piper_ring.specs.WriteView.{either}
+use Rattle.piper_ring.specs.Streams.{either}
 use Rattle.piper_ring.specs.declared.ends.finished.FinishedWriter.{FinishedWriter}
 use Rattle.piper_ring.specs.declared.ring.marks.WriteMark.{WriteMark}
 use Rattle.piper.specs.declared.handles.Reader.{Reader}
@@ -37,7 +37,7 @@ AtEnd reader = IsEnded reader.side.end
 -- n bytes may be unread: all that the reader knows of, all that it was told of, and no more than
 -- fit; and just those up to the end if that is known
 abbrev pub ReaderMayHave : Reader → ℕ → Type 0
-ReaderMayHave reader n = EndMayHave reader.side.end n
+ReaderMayHave reader n = ReadEndMayHave reader.side.end n
 
 -- the reader looked, which takes no byte
 abbrev pub Looks : Reader → Reader → Type 0
@@ -56,17 +56,14 @@ pub record PollsEnd {A E : Type 0} (r : Poll (Result A E)) (a b : Reader) : Type
   pub all : KeepsAll a.side.end b.side.end
 
 -- a poll looked, which takes no byte, and returns what it found; if that is a byte, it leaves no
--- waker in its slot
-pub record ReaderPolled {E : Type 0} (r : Poll (Result Bool E)) (a b : Reader) : Type 0 where
+-- waker in its slot. One that is pending waits, and one that is refused memory was so only for its
+-- waker. Else the handle stays as it was, and what was asked of the context before
+pub record ReaderPolled {E : Type 0} (r : Poll (Result Bool E))
+    (a b : Reader) (old left : Context) : Type 0 where
   pub found : ReaderFound r b.side.end
   pub looked : ReaderLooked a.side.end b.side.end
   pub leaves : IfReadyOk r (λ some. some ≡ true → ReaderLeavesNone b)
   pub end : PollsEnd r a b
-
--- a poll that is pending waits, and one that is refused memory was so only for its waker. Else the
--- handle stays as it was, and what was asked of the context before
-pub record ReaderPollWaits {E : Type 0} (r : Poll (Result Bool E))
-    (a b : Reader) (old left : Context) : Type 0 where
   pub pending : OnPending r (ReaderPends a b left)
   pub memory : OnRefused r (ReaderIsRefused b left)
   pub context : Keeps old left
@@ -171,9 +168,10 @@ pub record DrainRest {E : Type 0} (r : Poll (Result ℕ E)) (a b : Reader) : Typ
   pub woken : WakesWriter a b
   pub same : SameReaderButMoved a b
 
--- what else a drain says whose count doesn't tell the end: what the reader knows of the end stays. It
+-- a drain into a slice whose count doesn't tell the end: what the reader knows of the end stays. It
 -- draws nothing, and the reader waits as it did
-pub record ReaderTried (a b : Reader) : Type 0 where
+pub record ReaderTried (n : ℕ) (a b : Reader) (old new : List ℕ) : Type 0 where
+  pub drained : Drained n a b old new
   pub stays : AtEnd a → AtEnd b
   pub all : KeepsAll a.side.end b.side.end
   pub woken : WakesWriter a b
@@ -220,19 +218,25 @@ ReaderWasWoken reader left =
     IsReaderPending reader.side.end reader.side.slots
     → left.slots.taken ≡ reader.side.slots.tickets
 
--- two handles met: what each of them knows of more than before
-pub record MeetMore (a b : Reader) (c d : Writer) : Type 0 where
+-- two handles met: the reader knows of all that was published, and the writer of all the free room.
+-- If one of them saw the pipe closed, the writer closed it, and all bytes are what it published. Both
+-- are else as they were
+pub record Meets (a b : Reader) (c d : Writer) : Type 0 where
+  pub fifo : b.side.end.taken ++ b.side.end.known ≡ d.side.end.sent
+  pub room : d.side.end.room + length b.side.end.known ≡ b.side.end.capacity
   pub known : (xs : List ℕ) × (b.side.end.known ≡ a.side.end.known ++ xs)
-  pub room : c.side.end.room ≤ d.side.end.room
-  pub all : KeepsAll a.side.end b.side.end
-
--- and that the writer closed the pipe, if one of them saw it closed: then all is what it sent
-pub record MeetClosed (b : Reader) (d : Writer) : Type 0 where
-  pub reader : b.side.end.saw ≡ true → d.side.end.shut ≡ true
-  pub writer : d.side.end.saw ≡ true → d.side.end.shut ≡ true
+  pub more_room : c.side.end.room ≤ d.side.end.room
+  pub reader_saw : b.side.end.saw ≡ true → d.side.end.shut ≡ true
+  pub writer_saw : d.side.end.saw ≡ true → d.side.end.shut ≡ true
+  pub kept : KeepsAll a.side.end b.side.end
   pub all : KnowsEnd b.side.end → b.side.end.all ≡ d.side.end.sent
+  pub reader : b.side.end
+      ≡ record a.side.end { known = b.side.end.known; all = b.side.end.all }
+  pub writer : d.side.end ≡ record c.side.end { room = d.side.end.room }
+  pub handles : SameReader (λ s t. t ≡ s) a b × SameWriter (λ s t. t ≡ s) c d
+  pub logs : (b.side.log ≡ a.side.log) × (d.side.log ≡ c.side.log)
 
--- and that the reader is not forgotten: if it was pending, and the writer checked its slot after
+-- and the reader is not forgotten: if it was pending, and the writer checked its slot after
 -- its last store, the writer took and woke its waker since, or the reader has nothing to do
 abbrev pub MeetReader : Reader → Reader → Writer → Type 0
 MeetReader a b writer =
@@ -256,11 +260,3 @@ pub record MeetWoken (a b : Reader) (c d : Writer) : Type 0 where
   pub reader : MeetReader a b c
   pub writer : MeetWriter c d a
   pub awake : MeetAwake a c
-
--- and both are else as they were
-pub record MeetSame (a b : Reader) (c d : Writer) : Type 0 where
-  pub reader : b.side.end
-      ≡ record a.side.end { known = b.side.end.known; all = b.side.end.all }
-  pub writer : d.side.end ≡ record c.side.end { room = d.side.end.room }
-  pub handles : SameReader (λ s t. t ≡ s) a b × SameWriter (λ s t. t ≡ s) c d
-  pub logs : (b.side.log ≡ a.side.log) × (d.side.log ≡ c.side.log)

@@ -8,7 +8,7 @@ use Rattle.futures.specs.declared.task.Poll.{Poll}
 use Rattle.futures.specs.declared.task.Poll.TheVariants.{Ready}
 use Rattle.piper_ring.specs.Loads.{FoundClosed}
 use Rattle.piper_ring.specs.SlotsView.{IsWriterPending, OnlyWaits, WaitsAsBefore}
-use Rattle.piper_ring.specs.WriteView.{Lendable, MayBeUnread as EndMayHave}
+use Rattle.piper_ring.specs.WriteView.{Lendable, WriteEndMayHave}
 use Rattle.piper.specs.Called.{CallsTaken}
 use Rattle.piper.specs.Contexts.{AsksAgain}
 use Rattle.piper.specs.Copies.{IsReplaced, WriterCopied}
@@ -28,7 +28,7 @@ use Rattle.piper.specs.declared.handles.Writer.{Writer}
 -- n bytes may be unread: the room that the writer knows of is free, and the bytes that it was told
 -- of are consumed
 abbrev pub WriterMayHave : Writer → ℕ → Type 0
-WriterMayHave writer n = EndMayHave writer.side.end n
+WriterMayHave writer n = WriteEndMayHave writer.side.end n
 
 -- a call for at most `max` bytes may lend n: none once the writer closed the pipe, and else all that
 -- is asked for and fits, or as much of it as one call may set to zero: twice what was published and
@@ -59,16 +59,13 @@ pub record WriterFindsClosed (writer : Writer) (answer : Bool) : Type 0 where
   pub found : FoundClosed writer.side.end.ring.names answer
 
 -- a poll looked, which publishes nothing, and returns what it found; if that is room, it leaves no
--- waker in its slot
-pub record WriterPolled {E : Type 0} (r : Poll (Result Bool E)) (a b : Writer) : Type 0 where
+-- waker in its slot. One that is pending waits, and one that is refused memory was so only for its
+-- waker. Else the handle stays as it was, and what was asked of the context before
+pub record WriterPolled {E : Type 0} (r : Poll (Result Bool E))
+    (a b : Writer) (old left : Context) : Type 0 where
   pub found : WriterFound r b.side.end
   pub looked : WriterLooked a.side.end b.side.end
   pub leaves : IfReadyOk r (λ some. some ≡ true → WriterLeavesNone b)
-
--- a poll that is pending waits, and one that is refused memory was so only for its waker. Else the
--- handle stays as it was, and what was asked of the context before
-pub record WriterPollWaits {E : Type 0} (r : Poll (Result Bool E))
-    (a b : Writer) (old left : Context) : Type 0 where
   pub pending : OnPending r (WriterPends a b left)
   pub memory : OnRefused r (WriterIsRefused b left)
   pub context : Keeps old left
@@ -170,9 +167,10 @@ pub record FillRest {E : Type 0} (r : Poll (Result ℕ E)) (a b : Writer) : Type
   pub woken : WakesReader a b
   pub same : SameWriterButMoved a b
 
--- what else a fill says whose count doesn't tell the close: it draws nothing, and the writer waits as it
+-- a fill from a slice whose count doesn't tell the close: it draws nothing, and the writer waits as it
 -- did
-pub record WriterTried (n : ℕ) (a b : Writer) : Type 0 where
+pub record WriterTried (n : ℕ) (a b : Writer) (bytes : List ℕ) : Type 0 where
+  pub filled : Filled n a b bytes
   pub over : a.side.end.saw ≡ true → n ≡ 0
   pub woken : WakesReader a b
   pub copied : WriterCopied a.side.end b.side.end

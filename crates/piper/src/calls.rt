@@ -15,7 +15,7 @@ use piper_ring::{
 impl Reader {
     ghost use Rattle.piper.specs.Counts.{ReaderCompares};
     ghost use Rattle.piper.specs.OfReader.{ring, capacity, taken, known, end_of, front};
-    ghost use Rattle.piper.specs.ReaderCalls.{ReaderFindsClosed, ReaderMayHave, ReaderPolled, ReaderPollWaits};
+    ghost use Rattle.piper.specs.ReaderCalls.{ReaderFindsClosed, ReaderMayHave, ReaderPolled};
     ghost use Rattle.piper.specs.Traits.{Consumes};
     ghost use Rattle.piper.specs.Waits.{ReaderWokeLast};
 
@@ -72,8 +72,7 @@ impl Reader {
     pub fn poll(&mut self, cx: &mut Context<'_>) -> Poll<Result<bool, OutOfMemory>>
         ensures ran { ReaderRan (reader_looks self.old Purpose.Poll) (poll_answer result)
             self.old self.new }
-        ensures found { ReaderPolled result self.old self.new }
-        ensures waits { ReaderPollWaits result self.old self.new cx.old cx.new }
+        ensures polled { ReaderPolled result self.old self.new cx.old cx.new }
     {
         if !self.side.look_first(Purpose::Poll) {
             match self.look_waiting(Purpose::Poll, cx) {
@@ -165,7 +164,7 @@ impl Writer {
     ghost use Rattle.piper.specs.OfWriter.{ring, capacity, end_of, sent, room, lent, shut};
     ghost use Rattle.piper.specs.Traits.{Closes};
     ghost use Rattle.piper.specs.Waits.{WriterWokeLast};
-    ghost use Rattle.piper.specs.WriterCalls.{Produces, WriterFindsClosed, WriterMayHave, WriterPolled, WriterPollWaits};
+    ghost use Rattle.piper.specs.WriterCalls.{Produces, WriterFindsClosed, WriterMayHave, WriterPolled};
 
     /// How many bytes are unread now.
     ///
@@ -219,8 +218,7 @@ impl Writer {
     pub fn poll(&mut self, cx: &mut Context<'_>) -> Poll<Result<bool, OutOfMemory>>
         ensures ran { WriterRan (writer_looks Purpose.Poll) (poll_answer result)
             self.old self.new }
-        ensures found { WriterPolled result self.old self.new }
-        ensures waits { WriterPollWaits result self.old self.new cx.old cx.new }
+        ensures polled { WriterPolled result self.old self.new cx.old cx.new }
     {
         match self.side.look_first(Purpose::Poll) {
             Look::Ready => {}

@@ -1,10 +1,9 @@
 //! The look of a call that waits: it registers if there is nothing to do, and looks once more.
-ghost use Rattle.std.specs.Prelude.{◌≡◌, OnErr, length, false};
+ghost use Rattle.std.specs.Prelude.{◌≡◌, OnErr, length};
 ghost use Rattle.futures.specs.Task.{Keeps};
 ghost use Rattle.piper_protocol.specs.Table.{goes_on, reader_found, writer_found};
 ghost use Rattle.piper_ring.specs.Log.{Comes, now};
-ghost use Rattle.piper_ring.specs.Looks.{IsEnded, ReaderIsUpToDate, ReaderLooked, WriterIsUpToDate, WriterLooked};
-ghost use Rattle.piper_ring.specs.ReadView.{KeepsAll};
+ghost use Rattle.piper_ring.specs.Looks.{ReaderIsUpToDate, ReaderLooked, WriterIsUpToDate, WriterLooked, WriterSees};
 ghost use Rattle.piper_ring.specs.SlotsView.{OnlyWaits};
 ghost use Rattle.piper.specs.Looks.{IfPending, ReaderWaited, WriterWaited};
 ghost use Rattle.piper.specs.Runs.{wait_next};
@@ -36,8 +35,6 @@ impl Reader {
         ensures pending { IfPending result (ReaderPends self.old self.new cx.new) }
         ensures refused { OnErr result (ReaderIsRefused self.new cx.new) }
         ensures looked { ReaderLooked self.old.side.end self.new.side.end }
-        ensures all { KeepsAll self.old.side.end self.new.side.end }
-        ensures stays { IsEnded self.old.side.end → IsEnded self.new.side.end }
         ensures rest { SameReader OnlyWaits self.old self.new }
         ensures kept { Keeps cx.old cx.new }
     {
@@ -61,8 +58,7 @@ impl Writer {
     ) -> Result<Look, OutOfMemory>
         requires at { now self.old.side.log
             ≡ goes_on (Point.Writer (WritePoint.LookRegister purpose)) }
-        requires none { self.old.side.end.room ≡ 0 }
-        requires open { (self.old.side.end.saw ≡ false) × (self.old.side.end.shut ≡ false) }
+        requires none { WriterSees Look.NotReady self.old.side.end }
         requires fresh { WriterIsUpToDate self.old.side.end }
         ensures log { Comes (wait_next result purpose (Point.Writer (writer_found purpose)))
             self.old.side.log self.new.side.log }

@@ -1,7 +1,7 @@
 //! The exports of the side that reads. Each takes the side out of its handle, makes a call of it
 //! and puts it back.
 ghost use Rattle.std.specs.Prelude.{◌≡◌, ◌≢◌, ◌<◌, IsSome, None};
-ghost use Rattle.piper_ring.specs.ReadView.{MayBeUnread, in_one_piece};
+ghost use Rattle.piper_ring.specs.ReadView.{ReadEndMayHave, in_one_piece};
 ghost use Rattle.piper_c.specs.Address.{ShowsAt};
 ghost use Rattle.piper_c.specs.Leaving.{Leaves};
 ghost use Rattle.piper_c.specs.Handles.{Holds, HoldsOn};
@@ -109,7 +109,7 @@ pub extern "C" fn piper_reader_read(
 pub extern "C" fn piper_reader_len(alloc: Global, reader: &mut PiperReader) -> usize
     requires { IsSome reader.old.half }
     ensures { HoldsOn reader.old.half reader.new.half (λ a b.
-        (b ≡ a) × MayBeUnread a.side.end result) }
+        (b ≡ a) × ReadEndMayHave a.side.end result) }
 {
     let half = reader.take(alloc);
     let len = half.side.end().len();

@@ -1,7 +1,7 @@
 //! The exports of the side that writes. Each takes the side out of its handle, makes a call of it
 //! and puts it back.
 ghost use Rattle.std.specs.Prelude.{◌≡◌, ◌<◌, None};
-ghost use Rattle.piper_ring.specs.WriteView.{MayBeUnread};
+ghost use Rattle.piper_ring.specs.WriteView.{WriteEndMayHave};
 ghost use Rattle.piper_c.specs.Leaving.{Leaves};
 ghost use Rattle.piper_c.specs.Handles.{Holds, HoldsOn, IsWholeWriter};
 ghost use Rattle.piper_c.specs.Writing.{LeftWriting, WriterTold, WriterSeen, WriterAsked, WriterWrites, WriterCloses};
@@ -74,7 +74,7 @@ pub extern "C" fn piper_writer_write(
 pub extern "C" fn piper_writer_len(alloc: Global, writer: &mut PiperWriter) -> usize
     requires { IsWholeWriter writer.old.half writer.old.lent }
     ensures on { HoldsOn writer.old.half writer.new.half (λ a b.
-        (b ≡ a) × MayBeUnread a.side.end result) }
+        (b ≡ a) × WriteEndMayHave a.side.end result) }
     ensures whole { IsWholeWriter writer.new.half writer.new.lent }
 {
     let half = writer.take(alloc);

@@ -1,7 +1,7 @@
 -- Two pipes between the same two ends, one for each way.
-use Rattle.std.specs.Prelude.{◌≡◌, ℕ, ◌+◌, ◌++◌, length}
+use Rattle.std.specs.Prelude.{ℕ}
 use Rattle.piper.specs.Handles.{AreFresh, ArePair, DrawFrom}
-use Rattle.piper.specs.ReaderCalls.{MeetClosed, MeetMore, MeetSame, MeetWoken}
+use Rattle.piper.specs.ReaderCalls.{MeetWoken, Meets}
 use Rattle.piper.specs.declared.handles.Reader.{Reader}
 use Rattle.piper.specs.declared.handles.Writer.{Writer}
 use Rattle.piper_duplex.specs.declared.end.End.{End}
@@ -19,13 +19,7 @@ pub record IsNewPipe (cap seed : ℕ) (reader : Reader) (writer : Writer) : Type
   pub fresh : AreFresh cap reader writer
   pub draws : DrawFrom seed reader writer
 
--- the handles of one pipe, once they were held by one thread: what was taken and what is known make
--- up what was published, first in, first out, room and known bytes make up the capacity, and what
--- else `Reader::meet` ensures
+-- the handles of one pipe, once they were held by one thread: all that `Reader::meet` ensures
 pub record HaveMet (r0 r1 : Reader) (w0 w1 : Writer) : Type 0 where
-  pub fifo : r1.side.end.taken ++ r1.side.end.known ≡ w1.side.end.sent
-  pub room : w1.side.end.room + length r1.side.end.known ≡ r1.side.end.capacity
-  pub more : MeetMore r0 r1 w0 w1
-  pub closed : MeetClosed r1 w1
+  pub met : Meets r0 r1 w0 w1
   pub woken : MeetWoken r0 r1 w0 w1
-  pub rest : MeetSame r0 r1 w0 w1

@@ -1,5 +1,5 @@
 -- The ring's block is cut into the words and the bytes, and made one again. Assumes `Logic`.
-use Rattle.piper_ring.proofs.Kit.{◌≡◌, ℕ, zero, suc, ◌+◌, ◌-◌, ◌*◌, ◌<◌, ◌^◌, [], ◌∷◌, sym, refl, ◌∙◌, subst, arith, Ura, SProp, ent, sep, Fml, fsep, fwand, froom, Logic, sem, ‵, ◌⊛◌, ◌$◌, ◌∵◌, !, qed, by, move, split, fsplit, fjoin, frame, assume, rewrite, use1, use2, Ptr, Ty, ty_int, w8, w64, block_of, count_of, apply∗, array_of, u8, words_type, Placed, Names}
+use Rattle.piper_ring.proofs.Kit.{◌≡◌, ℕ, zero, suc, ◌+◌, ◌-◌, ◌*◌, ◌<◌, ◌^◌, [], ◌∷◌, sym, refl, ◌∙◌, subst, arith, Ura, SProp, ent, sep, Fml, fsep, fwand, froom, Logic, sem, ‵, ◌⊛◌, ◌$◌, ◌∵◌, !, qed, by, move, split, fsplit, fjoin, frame, assume, rewrite, use1, use2, Ptr, Ty, ty_int, w8, w64, block_of, count_of, apply∗, array_of, u8, words_type, RingIsPlaced, Names}
 use Rattle.std.proofs.Common.{◌/◌}
 use mir.Syntax.{ty_array}
 use denote.RawPtr.{InBlock}
@@ -10,7 +10,7 @@ use Rattle.piper_ring.specs.Block.{purpose, size_of_block}
 use Rattle.piper_ring.specs.Places as P
 
 -- the bytes of a ring that lies in its block lie there, too
-pub placed_bytes : (w p : Ptr) (z : Names) → Placed w p z → P.Placed p z.capacity
+pub placed_bytes : (w p : Ptr) (z : Names) → RingIsPlaced w p z → P.Placed p z.capacity
 placed_bytes w p z at = let small : size_of_block z.capacity < 2 ^ 63 = at.2 in (subst InBlock (sym at.1) tt, omega arith)
 
 -- m words take 8 bytes each

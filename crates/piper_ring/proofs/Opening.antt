@@ -1,6 +1,6 @@
 -- A ring is opened: the words are cut out of their room, the bytes are places, and the invariant is
 -- made. Assumes `Logic`.
-use Rattle.piper_ring.proofs.Kit.{Stored, nothing_stored, stored_code, evidence, waits_in, wakes_in, ◌≡◌, ℕ, suc, ◌+◌, ◌-◌, ◌*◌, ◌<◌, ◌^◌, true, false, List, [], ◌∷◌, length, sym, refl, ap, ◌∙◌, subst, arith, Ura, full_share, Order, numbers, latest, at_least, SProp, ent, sep, emp, ex, via, id⊢, Fml, ftrue, fsep, finv, fobs, Logic, sem, latest_shows, assume, ‵, ◌⊛◌, some, later, ◌$◌, ◌∵◌, !, qed, by, move, split, split3, fsplit, fsplit3, fjoin, fjoin3, fpack, pick, show, frame, rewrite, check, use0, use1, use2, use3, updating, await, now, done, Ptr, nothing, Ty, ty_int, w64, u8, lone, block_of, count_of, array_of, fwand, froom, span, slot_of as offset_of, span_map, unset, Stream, streams, reaches_same, Names, State, Holds, half, other, word, word_room, words_type, slot_rooms, all_rooms, idle, Inner, Placed, common, reader_owns, writer_owns, Waits, Wakes, IsWhere, Slot, with_waiter, code_of, slot, slot_at, took}
+use Rattle.piper_ring.proofs.Kit.{Stored, nothing_stored, stored_code, evidence, waits_in, wakes_in, ◌≡◌, ℕ, suc, ◌+◌, ◌-◌, ◌*◌, ◌<◌, ◌^◌, true, false, List, [], ◌∷◌, length, sym, refl, ap, ◌∙◌, subst, arith, Ura, full_share, Order, numbers, latest, at_least, SProp, ent, sep, emp, ex, via, id⊢, Fml, ftrue, fsep, finv, fobs, Logic, sem, latest_shows, assume, ‵, ◌⊛◌, some, later, ◌$◌, ◌∵◌, !, qed, by, move, split, split3, fsplit, fsplit3, fjoin, fjoin3, fpack, pick, show, frame, rewrite, check, use0, use1, use2, use3, updating, await, now, done, Ptr, nothing, Ty, ty_int, w64, u8, lone, block_of, count_of, array_of, fwand, froom, span, slot_of as offset_of, span_map, unset, Stream, streams, reaches_same, Names, State, Holds, half, other, word, word_room, words_type, slot_rooms, all_rooms, idle, Inner, RingIsPlaced, common, reader_owns, writer_owns, Waits, Wakes, IsWhere, Slot, with_waiter, code_of, slot, slot_at, took}
 use types.Growing.{latest_new}
 use denote.RawPtr.{InBlock}
 use types.Owned.{basic}
@@ -182,5 +182,5 @@ module _ {M : Type 1} {𝓤 : Ura M} (𝓛 : Logic 𝓤) (w p : Ptr) (cap : ℕ)
       move ! (6 ∷ []) $ fsplit3 ! $
       rewrite ! 0 (λ (n : ℕ). ‵ (word w 8 n)) (sym (position_zero cap)) refl $ rewrite ! 1 (λ (n : ℕ). ‵ (word w 208 n)) (sym (position_zero cap)) refl $ fjoin3 ! $ fjoin ! $ move ! (1 ∷ 0 ∷ []) $ fjoin ! $
       move ! (3 ∷ 1 ∷ 0 ∷ []) $ use3 𝓛 (‵ I) (closes 𝓛 w p z fresh so (omega arith)) $ use1 𝓛 (later (‵ (finv I))) (𝓛.invs.inv_new I) $ await ! tt $
-      nothing ! $ fpack ! (Placed w p z) (λ _. ftrue) at $ fjoin ! $ use1 𝓛 (‵ C ⊛ ‵ C) (common_twice 𝓛 w p z) $ split ! $ move ! (3 ∷ []) $ fsplit3 ! $ use1 𝓛 (‵ (latest O half s none) ⊛ ‵ (at_least O s none)) (latest_shows O 𝓛 half s none none (reaches_same none)) $ split ! $ move ! (0 ∷ 2 ∷ 3 ∷ []) $ fjoin3 ! $ move ! (2 ∷ 0 ∷ []) $ fjoin ! $ move ! (1 ∷ []) $ nothing ! $ fpack ! (length {A = ℕ} [] ≡ 0) (λ _. ftrue) refl $ fjoin ! $ move ! (3 ∷ 0 ∷ []) $ fjoin ! $ move ! (2 ∷ 0 ∷ []) $ fjoin ! $
+      nothing ! $ fpack ! (RingIsPlaced w p z) (λ _. ftrue) at $ fjoin ! $ use1 𝓛 (‵ C ⊛ ‵ C) (common_twice 𝓛 w p z) $ split ! $ move ! (3 ∷ []) $ fsplit3 ! $ use1 𝓛 (‵ (latest O half s none) ⊛ ‵ (at_least O s none)) (latest_shows O 𝓛 half s none none (reaches_same none)) $ split ! $ move ! (0 ∷ 2 ∷ 3 ∷ []) $ fjoin3 ! $ move ! (2 ∷ 0 ∷ []) $ fjoin ! $ move ! (1 ∷ []) $ nothing ! $ fpack ! (length {A = ℕ} [] ≡ 0) (λ _. ftrue) refl $ fjoin ! $ move ! (3 ∷ 0 ∷ []) $ fjoin ! $ move ! (2 ∷ 0 ∷ []) $ fjoin ! $
       now ! $ show ! (Made mine theirs life) z $ check ! (refl, refl, refl, refl) $ done !))))))))))

@@ -1,5 +1,5 @@
 -- What an end knows is cut and joined, lent, and moved up. Assumes `Logic`.
-use Rattle.piper_ring.proofs.Kit.{ℕ, Bool, List, [], ◌∷◌, Ura, Order, numbers, latest, SProp, ent, sep, snd∗, Lft, Share, Fml, GName, ftrue, fsep, finv, before, Logic, sem, ‵, raw, ◌⊛◌, ◌$◌, ◌∵◌, !, qed, move, drop, split, fsplit, fjoin, fpick, fpack, frame, use1, use2, updating, now, done, Ptr, beside_shr_laws, nothing, Lends, Lends-both, Lends-first, lends_twice, streams, Names, half, flag, writer_knows, reader_knows, arrived_first, Inner, Placed, common, reader_owns, reader_lends, writer_owns, writer_lends, Known, by_reader, by_writer, knows}
+use Rattle.piper_ring.proofs.Kit.{ℕ, Bool, List, [], ◌∷◌, Ura, Order, numbers, latest, SProp, ent, sep, snd∗, Lft, Share, Fml, GName, ftrue, fsep, finv, before, Logic, sem, ‵, raw, ◌⊛◌, ◌$◌, ◌∵◌, !, qed, move, drop, split, fsplit, fjoin, fpick, fpack, frame, use1, use2, updating, now, done, Ptr, beside_shr_laws, nothing, Lends, Lends-both, Lends-first, lends_twice, streams, Names, half, flag, writer_knows, reader_knows, arrived_first, Inner, RingIsPlaced, common, reader_owns, reader_lends, writer_owns, writer_lends, Known, by_reader, by_writer, knows}
 use base.Share.{left, right, halves}
 use base.Fml.{fbor, fshr_bor}
 use ghost.Rules.{Halves}
@@ -57,7 +57,7 @@ module _ {M : Type 1} {𝓤 : Ura M} (𝓛 : Logic 𝓤) where
     I = Inner w p z
 
     pub common_twice : ⟦ C ⟧ ⊢ ⟦ C ⟧ ∗ ⟦ C ⟧
-    common_twice = let Where : Type 0 = Placed w p z in qed 𝓛 (‵ C ∷ []) ∵ fsplit ! $ fpick ! (λ here. drop ! $
+    common_twice = let Where : Type 0 = RingIsPlaced w p z in qed 𝓛 (‵ C ∷ []) ∵ fsplit ! $ fpick ! (λ here. drop ! $
         use1 𝓛 (‵ (finv I) ⊛ ‵ (finv I)) (𝓛.invs.inv_dup I) $ split ! $ nothing ! $ fpack ! Where (λ _. ftrue) here $ fjoin ! $ frame ! $ nothing ! $ fpack ! Where (λ _. ftrue) here $ done !)
 
     pub reader_halves : (head seen stage : ℕ) → Halves 𝓤 H A (λ q. reader_knows w p z q head seen stage)

@@ -13,6 +13,7 @@ pub mod Stretches
 pub mod WriteView
 pub mod Meeting
 pub mod LendsBuffer
+pub mod Becomes
 pub mod Looks
 pub mod Opened
 pub mod SlotValues

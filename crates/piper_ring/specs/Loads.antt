@@ -58,6 +58,13 @@ pub record TookBack {T : Type 0} (names : Names) (had : Bool) (tickets : ℕ) (w
   pub none : waker ≡ None → IsUnregistered names had
   pub taken : WasTakenBack names had tickets waker
 
+-- a side of this ring took its place back, with the waker that was still registered there, or none
+pub record Reclaimed {T : Type 0} (names : Names) (had : Bool) (tickets : ℕ) (waker : Option T)
+    : Type 0 where
+  pub some : IsSome waker → had ≡ false
+  pub back : CameBack had waker
+  pub taken : WasTakenBack names had tickets waker
+
 -- a check of the other side's slot of this ring took the ticket `new`, where the last one was `old`,
 -- and got this waker with it, or none
 pub WasTaken : {T : Type 0} → Names → ℕ → ℕ → Option T → Type 0

@@ -6,7 +6,7 @@ use Rattle.piper_protocol.specs.declared.table.Point.{Point}
 use Rattle.piper_protocol.specs.declared.table.Point.TheVariants.{Reader, Writer}
 use Rattle.piper_protocol.specs.declared.table.Purpose.{Purpose}
 use Rattle.piper_ring.specs.Log.{idle}
-use Rattle.piper_ring.specs.ReadView.{HasLoadedTail, ReadView}
+use Rattle.piper_ring.specs.ReadView.{HasLoadedTail, KeepsAll, ReadView}
 use Rattle.piper_ring.specs.WriteView.{HasLoadedHead, WriteView}
 use Rattle.piper_ring.specs.declared.ends.slots.looks.Look.{Look}
 use Rattle.piper_ring.specs.declared.ends.slots.looks.Look.TheVariants as look
@@ -68,12 +68,14 @@ ReaderSees look.Ready r = HasBytes r
 ReaderSees look.Closed r = IsEnded r
 ReaderSees look.NotReady r = NothingYet r
 
--- a look of the reader takes no byte, and what it saw of closed it keeps. It checks only where no
--- byte is known, and then finds at least what the reader was told of
+-- a look of the reader takes no byte, and what it saw of closed, or knows of the end, it keeps. It
+-- checks only where no byte is known, and then finds at least what the reader was told of
 pub record ReaderLooked (a b : ReadView) : Type 0 where
   pub known : 0 < length a.known → b ≡ a
   pub fresh : a.known ≡ [] → ReaderIsUpToDate b
   pub saw : a.saw ≡ true → b.saw ≡ true
+  pub all : KeepsAll a b
+  pub ended : IsEnded a → IsEnded b
   pub rest : b ≡ record a { known = b.known; saw = b.saw; all = b.all }
 
 -- what a look of the writer finds: room, and the pipe open; or the pipe closed; or neither

@@ -5,7 +5,7 @@ use Rattle.rtrb.specs.Fifo.{position_of, slot_of as offset_of}
 use mathlib.Core.List.{IsPrefix}
 use Rattle.piper_ring.specs.Shared.{Ring, ring_of, ring_code}
 use Rattle.piper_ring.specs.Streams.{Reaches, either}
-use Rattle.piper_ring.specs.Loads.{FoundPublished}
+use Rattle.piper_ring.specs.Loads.{FoundClosed, FoundPublished}
 use Rattle.piper_ring.specs.declared.ends.reader.ReadParts.{ReadParts}
 use Rattle.piper_ring.specs.declared.ring.marks.WriteMark.{WriteMark}
 
@@ -79,7 +79,7 @@ Agree xs ys = (all : List ℕ) × IsPrefix xs all × IsPrefix ys all
 
 -- n bytes may be unread, as a load of the tail found: all that the end knows of, all that it was told
 -- of, and no more than fit; and just those up to the end where that is known
-pub record MayBeUnread (r : ReadView) (n : ℕ) : Type 0 where
+pub record ReadEndMayHave (r : ReadView) (n : ℕ) : Type 0 where
   pub known : length r.known ≤ n
   pub observed : r.observed ≤ length r.taken + n
   pub fits : n ≤ r.capacity
@@ -95,6 +95,26 @@ pub record KnowsMore (a b : ReadView) : Type 0 where
   pub more : (xs : List ℕ) × (b.known ≡ a.known ++ xs)
   pub all : KeepsAll a b
   pub rest : b ≡ record a { known = b.known; all = b.all }
+
+-- a load of the tail made b of a, which knew of no byte: it found all that had been published before,
+-- `stored` and what the end was told of, and the rest of the stream if it knows where that ends
+pub record LoadsTail (stored : List ℕ) (a b : ReadView) : Type 0 where
+  pub after : length stored ≤ length (b.taken ++ b.known)
+  pub observed : a.observed ≤ length (b.taken ++ b.known)
+  pub found : HasLoadedTail b
+  pub end : KnowsEnd a → b.taken ++ b.known ≡ b.all
+  pub more : KnowsMore a b
+
+-- a load of closed found this, and made b of a: it found the close of a writer that had closed the
+-- pipe before, of which the end may have been told, or may have seen it
+pub record ReaderLoadsClosed (was_shut is_closed : Bool) (a b : ReadView) : Type 0 where
+  pub after : was_shut ≡ true → is_closed ≡ true
+  pub saw : a.saw ≡ true → is_closed ≡ true
+  pub observed : a.observed_shut ≡ true → is_closed ≡ true
+  pub found : FoundClosed a.ring.names is_closed
+  pub end : is_closed ≡ true → HasTheRest b
+  pub all : KeepsAll a b
+  pub rest : b ≡ record a { saw = is_closed; all = b.all }
 
 -- since a, the end b learned from a mark what that reports
 pub record Observes (mark : WriteMark) (a b : ReadView) : Type 0 where

@@ -324,11 +324,11 @@ module _ (w p : Ptr) (z : Names) where
   abbrev pub Inner : Fml
   Inner = fex State state_holds
 
-  abbrev pub Placed : Type 0
-  Placed = InBlock w × (p ≡ behind w) × (size_of_block z.capacity < 2 ^ 63)
+  abbrev pub RingIsPlaced : Type 0
+  RingIsPlaced = InBlock w × (p ≡ behind w) × (size_of_block z.capacity < 2 ^ 63)
 
   abbrev pub common : Fml
-  common = fsep (fact Placed) (finv Inner)
+  common = fsep (fact RingIsPlaced) (finv Inner)
 
   -- the bytes `have` were sent first
   abbrev pub arrived_first : ℕ → List ℕ → Fml
@@ -385,4 +385,4 @@ module _ (w p : Ptr) (z : Names) where
 
   -- what an end gets when it leaves: all, where the other end was gone before
   abbrev pub remains_own : Bool → Fml
-  remains_own last = fsep (fact Placed) (where_gone last whole)
+  remains_own last = fsep (fact RingIsPlaced) (where_gone last whole)

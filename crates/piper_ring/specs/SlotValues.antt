@@ -3,15 +3,15 @@ use Rattle.std.specs.Prelude.{◌≡◌, ℕ, Bool, true, false}
 use Rattle.piper_cells.specs.declared.token_cell.Token.{Token}
 use Rattle.piper_ring.specs.Shared.{Names}
 use Rattle.piper_ring.specs.Loads.{FoundLeft}
-use Rattle.piper_ring.specs.Slot.{Stored, nothing_stored, Waits as WaitsOf, Wakes as WakesOf}
+use Rattle.piper_ring.specs.Slot.{Stored, nothing_stored, Waits, Wakes}
 use Rattle.piper_ring.specs.Words.{flag}
 use Rattle.piper_ring.specs.declared.ring.slots.WaiterState.{WaiterState}
-use Rattle.piper_ring.specs.declared.ring.slots.Wakes.{Wakes}
+use Rattle.piper_ring.specs.declared.ring.slots.WakerState.{WakerState}
 
-abbrev pub of_waits : WaiterState → WaitsOf Stored
+abbrev pub of_waits : WaiterState → Waits Stored
 of_waits s = (s.owns, (s.tickets, s.heard))
 
-abbrev pub of_wakes : Wakes → WakesOf Stored
+abbrev pub of_wakes : WakerState → Wakes Stored
 of_wakes s = (s.holds, (s.taken, s.stored))
 
 -- nobody has registered yet: the place is with the side that waits
@@ -21,7 +21,7 @@ IsUnused z r s =
     × (s.heard ≡ nothing_stored)
 
 -- no check has followed a store yet
-abbrev pub LooksFirst : Names → Bool → Wakes → Type 0
+abbrev pub LooksFirst : Names → Bool → WakerState → Type 0
 LooksFirst z r s =
     (s.names ≡ z) × (s.for_reader ≡ r) × (s.holds ≡ false) × (s.taken ≡ 0)
     × (s.stored ≡ nothing_stored)

@@ -5,7 +5,7 @@ use Rattle.rtrb.specs.Fifo.{position_of, slot_of as offset_of}
 use Rattle.piper_protocol.specs.LendBound.{lend_bound}
 use Rattle.piper_ring.specs.Shared.{Ring, ring_of, ring_code}
 use Rattle.piper_ring.specs.RoomOrder.{IsRoom, end_of}
-use Rattle.piper_ring.specs.Loads.{FoundConsumed}
+use Rattle.piper_ring.specs.Loads.{FoundClosed, FoundConsumed}
 pub use Rattle.piper_ring.specs.Streams.{either}
 use Rattle.piper_ring.specs.declared.ends.writer.WriteParts.{WriteParts}
 
@@ -76,7 +76,7 @@ Lendable w max n =
 
 -- n bytes may be unread, as a load of the head found: the room that the end knows of is free, and the
 -- bytes that it was told of are consumed
-pub record MayBeUnread (w : WriteView) (n : ℕ) : Type 0 where
+pub record WriteEndMayHave (w : WriteView) (n : ℕ) : Type 0 where
   pub room : n + w.room ≤ w.capacity
   pub observed : n + w.observed ≤ length w.sent
   pub found : FoundConsumed w.ring.names (length w.sent - n)
@@ -85,6 +85,20 @@ pub record MayBeUnread (w : WriteView) (n : ℕ) : Type 0 where
 pub record HasMoreRoom (a b : WriteView) : Type 0 where
   pub more : a.room ≤ b.room
   pub rest : b ≡ record a { room = b.room }
+
+-- a load of the head made b of a, which knew of no room: it found all that had been consumed before,
+-- `stored` bytes and those that the end was told of
+pub record LoadsHead (stored : ℕ) (a b : WriteView) : Type 0 where
+  pub after : stored + a.capacity ≤ length b.sent + b.room
+  pub observed : a.observed + a.capacity ≤ length b.sent + b.room
+  pub found : HasLoadedHead b
+  pub more : HasMoreRoom a b
+
+-- a load of closed found this: it found what the end closed, and what it saw closed
+pub record WriterLoadsClosed (w : WriteView) (is_closed : Bool) : Type 0 where
+  pub shut : w.shut ≡ true → is_closed ≡ true
+  pub saw : w.saw ≡ true → is_closed ≡ true
+  pub found : FoundClosed w.ring.names is_closed
 
 -- how the end keeps its view
 pub record IsWriteEnd (e : WriteParts) : Type 0 where

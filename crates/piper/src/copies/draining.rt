@@ -1,5 +1,5 @@
 //! Copies out of the pipe.
-ghost use Rattle.std.specs.Prelude.{◌≡◌, ◌<◌, ◌≤◌, ◌⊎◌, [], IfOk, IfErr, Ok, true, false};
+ghost use Rattle.std.specs.Prelude.{◌≡◌, ◌<◌, ◌≤◌, ◌⊎◌, [], IfOk, IfErr, Ok, false};
 ghost use Rattle.piper_ring.specs.ReadView.{in_one_piece};
 ghost use Rattle.piper_protocol.specs.Table.{ends, goes_on};
 ghost use Rattle.piper_ring.specs.Log.{Comes, found_of, made, next, now};
@@ -23,7 +23,7 @@ use piper_ring::{Look, OutOfMemory};
 
 impl Reader {
     ghost use Rattle.piper.specs.Handles.{SameReader};
-    ghost use Rattle.piper.specs.ReaderCalls.{DrainRest, Drained, DrainsAtOnce, DrainsLike, DrainsSlice, DrainsStd, DrainsWaiting, ReaderTried, WakesWriter};
+    ghost use Rattle.piper.specs.ReaderCalls.{DrainRest, DrainsAtOnce, DrainsLike, DrainsSlice, DrainsStd, DrainsWaiting, ReaderTried, WakesWriter};
 
     /// Moves known bytes into a writer of std.
     ///
@@ -84,8 +84,7 @@ impl Reader {
     pub fn try_drain(&mut self, dest: &mut [u8]) -> usize
         ensures ran { ReaderRan (reader_looks self.old (Purpose.Copy Form.Try)) (Answer.Count result)
             self.old self.new }
-        ensures drained { Drained result self.old self.new dest.old dest.new }
-        ensures rest { ReaderTried self.old self.new }
+        ensures tried { ReaderTried result self.old self.new dest.old dest.new }
     {
         let mut bytes = WriteBytes {
             bytes: dest,

@@ -1,5 +1,5 @@
 //! Copies into the pipe.
-ghost use Rattle.std.specs.Prelude.{◌≡◌, ◌<◌, ◌≤◌, ◌⊎◌, length, IfOk, IfErr, Ok, true, false};
+ghost use Rattle.std.specs.Prelude.{◌≡◌, ◌<◌, ◌≤◌, ◌⊎◌, length, IfOk, IfErr, Ok, false};
 ghost use Rattle.futures.specs.Poll.{OnPending};
 ghost use Rattle.piper_protocol.specs.Table.{ends, goes_on};
 ghost use Rattle.piper_ring.specs.Log.{Comes, found_of, made, next, now};
@@ -25,7 +25,7 @@ use piper_ring::{Look, OutOfMemory};
 
 impl Writer {
     ghost use Rattle.piper.specs.Handles.{SameWriter};
-    ghost use Rattle.piper.specs.WriterCalls.{FillRest, Filled, FillsAtOnce, FillsEnd, FillsLike, FillsSlice, FillsStd, FillsWaiting, WakesReader, WriterTried};
+    ghost use Rattle.piper.specs.WriterCalls.{FillRest, FillsAtOnce, FillsEnd, FillsLike, FillsSlice, FillsStd, FillsWaiting, WakesReader, WriterTried};
 
     /// Publishes bytes that a reader of std gives.
     ///
@@ -86,8 +86,7 @@ impl Writer {
     pub fn try_fill(&mut self, bytes: &[u8]) -> usize
         ensures ran { WriterRan (writer_looks (Purpose.Copy Form.Try)) (Answer.Count result)
             self.old self.new }
-        ensures filled { Filled result self.old self.new bytes.now }
-        ensures rest { WriterTried result self.old self.new }
+        ensures tried { WriterTried result self.old self.new bytes.now }
     {
         let mut source = ReadBytes { rest: bytes };
         match self.try_fill_with(&mut source) {

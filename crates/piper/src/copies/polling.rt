@@ -12,13 +12,12 @@ use futures::task::{Context, Poll};
 use piper_ring::OutOfMemory;
 
 impl Reader {
-    ghost use Rattle.piper.specs.ReaderCalls.{ReaderPolled, ReaderPollWaits};
+    ghost use Rattle.piper.specs.ReaderCalls.{ReaderPolled};
 
     // `poll`, as a call of its own: a reader of lines is shorter by it.
     #[inline(never)]
     fn poll_by_call(&mut self, cx: &mut Context<'_>) -> Poll<Result<bool, OutOfMemory>>
-        ensures found { ReaderPolled result self.old self.new }
-        ensures waits { ReaderPollWaits result self.old self.new cx.old cx.new }
+        ensures { ReaderPolled result self.old self.new cx.old cx.new }
     {
         self.poll(cx)
     }

@@ -1,5 +1,5 @@
 //! What a handle hands on to its end of the ring, with no step of its own.
-ghost use Rattle.std.specs.Prelude.{◌≡◌, ◌+◌, ◌<◌, ◌++◌, length, true};
+ghost use Rattle.std.specs.Prelude.{◌≡◌, ◌<◌, length, true};
 ghost use Rattle.std.specs.Borrow.{sem};
 
 use super::{Reader, Writer};
@@ -8,9 +8,9 @@ use piper_ring::{
 };
 
 impl Reader {
-    ghost use Rattle.piper.specs.OfReader.{end_of, ring, capacity, taken, known};
+    ghost use Rattle.piper.specs.OfReader.{end_of, ring};
     ghost use Rattle.piper.specs.OfWriter as of_writer;
-    ghost use Rattle.piper.specs.ReaderCalls.{MeetClosed, MeetMore, MeetSame, MeetWoken, ReaderObserves, ReaderWasWoken};
+    ghost use Rattle.piper.specs.ReaderCalls.{MeetWoken, Meets, ReaderObserves, ReaderWasWoken};
 
     /// Its end of the ring.
     pub fn end(&self) -> &ReadEnd
@@ -48,12 +48,8 @@ impl Reader {
     /// Requires: both handles are of one pipe.
     pub fn meet(&mut self, other: &mut Writer)
         requires { of_writer.ring other.old ≡ ring self.old }
-        ensures fifo { taken self.new ++ known self.new ≡ of_writer.sent other.new }
-        ensures room { of_writer.room other.new + length (known self.new) ≡ capacity self.new }
-        ensures more { MeetMore self.old self.new other.old other.new }
-        ensures closed { MeetClosed self.new other.new }
+        ensures met { Meets self.old self.new other.old other.new }
         ensures woken { MeetWoken self.old self.new other.old other.new }
-        ensures rest { MeetSame self.old self.new other.old other.new }
     {
         self.side.meet(&mut other.side);
     }

@@ -59,10 +59,10 @@ pub fn open_with_slots<T>(
     requires capacity { (0 < capacity) × (2 * capacity < 2 ^ 64) }
     requires fits { Fits space_words (cells_row T.row) }
     ensures pair { IfOk result (λ (r, w). (w.end.ring ≡ r.end.ring) × (w.cells ≡ r.cells)) }
-    ensures reader { IfOk result (λ (r, _). FreshReadEnd capacity r.end) }
-    ensures writer { IfOk result (λ (_, w). FreshWriteEnd capacity w.end) }
-    ensures read_slots { IfOk result (λ (r, _). FreshSlots r.end.ring.names r.slots) }
-    ensures write_slots { IfOk result (λ (_, w). FreshSlots w.end.ring.names w.slots) }
+    ensures reader { IfOk result (λ (r, _). FreshReadEnd capacity r.end
+        × FreshSlots r.end.ring.names r.slots) }
+    ensures writer { IfOk result (λ (_, w). FreshWriteEnd capacity w.end
+        × FreshSlots w.end.ring.names w.slots) }
     ensures refused { IfErr result HasFailed }
 {
     let (parts, space) = claim(&alloc, capacity)?.part(capacity);

@@ -47,7 +47,7 @@ impl Model for ReadEnd {
 }
 
 impl ReadEnd {
-    ghost use Rattle.piper_ring.specs.ReadView.{HasLoadedTail, Observes, KeepsAll, KnowsMore, MayBeUnread, KnowsEnd, HasTheRest, in_one_piece};
+    ghost use Rattle.piper_ring.specs.ReadView.{KeepsAll, LoadsTail, ReadEndMayHave, Observes, ReaderLoadsClosed, in_one_piece};
     ghost use Rattle.piper_ring.specs.Meeting.{EndsMeet};
     ghost use Rattle.piper_ring.specs.Loads.{FoundClosed};
     ghost use Rattle.piper_ring.specs.Shared.{ring_of};
@@ -79,7 +79,7 @@ impl ReadEnd {
     /// How many bytes are unread now. The writer may publish more at any time, until it is known
     /// where the pipe ends: then these are all that come.
     pub fn len(&self) -> usize
-        ensures { MayBeUnread self.now result }
+        ensures { ReadEndMayHave self.now result }
     {
         let (tail, _) = self.parts.seat.load_tail(&self.parts.heard);
         self.parts.indices.unread_to(tail as usize)
@@ -132,11 +132,7 @@ impl ReadEnd {
     /// and need not touch the other's word.
     pub fn load_tail(&mut self)
         requires { length self.old.known ≡ 0 }
-        ensures heard { length self.old.all ≤ length (self.new.taken ++ self.new.known) }
-        ensures fresh { (self.old.observed ≤ length (self.new.taken ++ self.new.known))
-            × HasLoadedTail self.new }
-        ensures end { KnowsEnd self.old → self.new.taken ++ self.new.known ≡ self.new.all }
-        ensures kept { KnowsMore self.old self.new }
+        ensures { LoadsTail self.old.all self.old self.new }
     {
         let parts = &mut self.parts;
         let (tail, published) = parts.seat.load_tail(&parts.heard);
@@ -157,13 +153,8 @@ impl ReadEnd {
 
     /// `load_tail`, if it knows of no byte.
     pub fn load_tail_if_empty(&mut self)
-        ensures fresh { self.old.known ≡ [] →
-            (self.old.observed ≤ length (self.new.taken ++ self.new.known))
-            × HasLoadedTail self.new }
-        ensures end { self.old.known ≡ [] → KnowsEnd self.old →
-            self.new.taken ++ self.new.known ≡ self.new.all }
+        ensures none { self.old.known ≡ [] → LoadsTail self.old.all self.old self.new }
         ensures known { 0 < length self.old.known → self.new ≡ self.old }
-        ensures kept { KnowsMore self.old self.new }
     {
         if self.knows_none() {
             self.load_tail();
@@ -192,12 +183,7 @@ impl ReadEnd {
     /// Loads closed, and keeps what it saw. If it is closed, it is known from then
     /// on where the pipe ends.
     pub fn load_closed(&mut self) -> bool
-        ensures end { IsTrue result → HasTheRest self.new }
-        ensures stays { (self.old.saw ≡ true → result ≡ true)
-            × (self.old.observed_shut ≡ true → result ≡ true) }
-        ensures found { FoundClosed self.old.ring.names result }
-        ensures all { KeepsAll self.old self.new }
-        ensures rest { self.new ≡ record self.old { saw = result; all = self.new.all } }
+        ensures { ReaderLoadsClosed self.old.observed_shut result self.old self.new }
     {
         let observed = self.parts.observed.duplicate();
         self.load_closed_knowing(&observed)
@@ -206,13 +192,7 @@ impl ReadEnd {
     /// `load_closed`, with evidence of what the writer did besides: it finds that, too.
     pub(crate) fn load_closed_knowing(&mut self, more: &WriteMark) -> bool
         requires { more.now.names ≡ self.old.ring.names }
-        ensures more { more.now.shut ≡ true → result ≡ true }
-        ensures end { HasTheRest self.new }
-        ensures stays { (self.old.saw ≡ true → result ≡ true)
-            × (self.old.observed_shut ≡ true → result ≡ true) }
-        ensures found { FoundClosed self.old.ring.names result }
-        ensures all { KeepsAll self.old self.new }
-        ensures rest { self.new ≡ record self.old { saw = result; all = self.new.all } }
+        ensures { ReaderLoadsClosed more.now.shut result self.old self.new }
     {
         let parts = &mut self.parts;
         let mut observed = parts.observed.duplicate();

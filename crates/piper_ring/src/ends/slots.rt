@@ -10,7 +10,7 @@ pub(crate) mod reader;
 pub(crate) mod side;
 pub(crate) mod writer;
 
-use crate::ring::slots::{SlotWords, WaiterState, Wakes};
+use crate::ring::slots::{SlotWords, WaiterState, WakerState};
 use piper_cells::lent_space::Lease;
 use piper_cells::token_cell::Token;
 use std::marker::Model;
@@ -75,7 +75,7 @@ pub(crate) struct SlotParts<H> {
     pub(crate) maybe_registered: bool,
     /// What the other end had stored when it last checked the slot before this one registered.
     pub(crate) heard: H,
-    pub(crate) wakes: Wakes,
+    pub(crate) wakes: WakerState,
 }
 
 /// What an end has of both slots: it waits in its own, and wakes whoever waits in the other's.

@@ -44,7 +44,7 @@ impl Model for WriteEnd {
 
 impl WriteEnd {
     ghost use Rattle.piper_ring.specs.Loads.{FoundClosed};
-    ghost use Rattle.piper_ring.specs.WriteView.{HasLoadedHead, HasMoreRoom, MayBeUnread, Lendable};
+    ghost use Rattle.piper_ring.specs.WriteView.{Lendable, LoadsHead, WriteEndMayHave, WriterLoadsClosed};
     ghost use Rattle.piper_ring.specs.LendsBuffer.{lends_buffer};
     ghost use Rattle.std.specs.Borrow.{sem};
     ghost use Rattle.piper_ring.specs.Shared.{ring_of};
@@ -82,7 +82,7 @@ impl WriteEnd {
 
     /// How many bytes are unread now. The reader may consume some at any time.
     pub fn len(&self) -> usize
-        ensures { MayBeUnread self.now result }
+        ensures { WriteEndMayHave self.now result }
     {
         let (head, _) = self.parts.seat.load_head(&self.parts.observed);
         self.parts.indices.unread_from(head as usize)
@@ -130,9 +130,7 @@ impl WriteEnd {
     /// none, as the reader's `load_tail`.
     pub fn load_head(&mut self)
         requires { self.old.room ≡ 0 }
-        ensures fresh { (self.old.observed + self.old.capacity
-            ≤ length self.new.sent + self.new.room) × HasLoadedHead self.new }
-        ensures kept { HasMoreRoom self.old self.new }
+        ensures { LoadsHead self.old.observed self.old self.new }
     {
         let observed = self.parts.observed.duplicate();
         self.load_head_knowing(&observed);
@@ -142,10 +140,7 @@ impl WriteEnd {
     pub(crate) fn load_head_knowing(&mut self, more: &ReadMark)
         requires none { self.old.room ≡ 0 }
         requires ring { more.now.names ≡ self.old.ring.names }
-        ensures more { more.now.count + self.old.capacity ≤ length self.new.sent + self.new.room }
-        ensures fresh { (self.old.observed + self.old.capacity
-            ≤ length self.new.sent + self.new.room) × HasLoadedHead self.new }
-        ensures kept { HasMoreRoom self.old self.new }
+        ensures { LoadsHead more.now.count self.old self.new }
     {
         let parts = &mut self.parts;
         let mut observed = parts.observed.duplicate();
@@ -158,10 +153,8 @@ impl WriteEnd {
     /// Loads closed, and keeps what it saw. What this end closed it finds
     /// closed.
     pub fn load_closed(&mut self) -> bool
+        ensures found { WriterLoadsClosed self.old result }
         ensures end { self.new ≡ record self.old { saw = result } }
-        ensures stays { (self.new.shut ≡ true → result ≡ true)
-            × (self.old.saw ≡ true → result ≡ true) }
-        ensures found { FoundClosed self.old.ring.names result }
     {
         let parts = &mut self.parts;
         parts.seat.load_closed(&mut parts.saw) != 0
@@ -203,10 +196,8 @@ impl WriteEnd {
 
     /// `load_head`, if it knows of no room.
     pub fn load_head_if_full(&mut self)
-        ensures fresh { self.old.room ≡ 0 → (self.old.observed + self.old.capacity
-            ≤ length self.new.sent + self.new.room) × HasLoadedHead self.new }
+        ensures none { self.old.room ≡ 0 → LoadsHead self.old.observed self.old self.new }
         ensures known { 0 < self.old.room → self.new ≡ self.old }
-        ensures kept { HasMoreRoom self.old self.new }
     {
         if self.knows_none() {
             self.load_head();

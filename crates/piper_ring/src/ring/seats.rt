@@ -15,7 +15,7 @@ use crate::ring::memory::{
 };
 use crate::ring::places::{Base, Blank, Places};
 use crate::ring::remains::Remains;
-use crate::ring::slots::{WaiterState, Wakes};
+use crate::ring::slots::{WaiterState, WakerState};
 use piper_cells::lent_space::{Lease, Lender};
 use piper_cells::token_cell::Token;
 use std::marker::{Brand, Model, PhantomData, Send, Sync};
@@ -77,9 +77,9 @@ pub(crate) fn open(
     WriteSeat,
     Blank,
     WaiterState,
-    Wakes,
+    WakerState,
     WaiterState,
-    Wakes,
+    WakerState,
 )
     requires { (lender.start ≡ space_of parts.start) × (lender.words ≡ space_words) }
     ensures ring { (result.0.words ≡ parts.start)
@@ -116,9 +116,9 @@ pub(crate) fn open(
     let writer = WriteSeat { words: start };
     let room = Blank { mark: PhantomData };
     let reader_waits = WaiterState { mark: PhantomData };
-    let writer_wakes = Wakes { mark: PhantomData };
+    let writer_wakes = WakerState { mark: PhantomData };
     let writer_waits = WaiterState { mark: PhantomData };
-    let reader_wakes = Wakes { mark: PhantomData };
+    let reader_wakes = WakerState { mark: PhantomData };
     (
         reader,
         writer,

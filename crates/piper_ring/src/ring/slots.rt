@@ -45,7 +45,7 @@ impl Drop for WaiterState {
 /// A side, at the slot in which the other waits: the writer at the reader's if `for_reader` is
 /// `true`, else the reader at the writer's. `holds` is whether it has the place of the waker,
 /// `taken` whose ticket it took last, and `stored` what it had stored when it checked last.
-pub(crate) struct Wakes {
+pub(crate) struct WakerState {
     pub(crate) mark: PhantomData<*mut u8>,
     pub(crate) ghost names: { Names } by { names_code },
     pub(crate) ghost for_reader: { Bool },
@@ -54,17 +54,17 @@ pub(crate) struct Wakes {
     pub(crate) ghost stored: { Stored } by { stored_code },
 }
 
-impl Model for Wakes {
+impl Model for WakerState {
     ghost also_owns = { λ s. wakes_in s.names s.for_reader s.holds s.taken s.stored };
 
     ghost also_shares = { λ _ _ _. ftrue };
 }
 
-unsafe impl Send for Wakes {}
+unsafe impl Send for WakerState {}
 
-unsafe impl Sync for Wakes {}
+unsafe impl Sync for WakerState {}
 
-impl Drop for Wakes {
+impl Drop for WakerState {
     fn drop(self) {
         let Self { mark: _ } = self;
     }
@@ -145,7 +145,7 @@ impl<'a> SlotWords<'a> {
 
     /// 1 if a waker is registered in the other side's slot, else 0: then this check came after
     /// all that this side had stored.
-    pub(crate) fn load_flag(self, slot: &mut Wakes, flag: usize) -> u64
+    pub(crate) fn load_flag(self, slot: &mut WakerState, flag: usize) -> u64
         requires { (slot.old.names ≡ self.names) × (slot.old.for_reader ≡ self.for_reader)
             × (slot.old.holds ≡ false) × (flag ≡ flag_word slot.old.for_reader) }
         ensures side { slot.new ≡ record slot.old
@@ -161,7 +161,7 @@ impl<'a> SlotWords<'a> {
 
     /// 1 if it took the waker that was registered in the other side's slot, with the right to
     /// its place, else 0: then this check came after all that this side had stored.
-    pub(crate) fn take_waker(self, slot: &mut Wakes, flag: usize) -> (u64, Token)
+    pub(crate) fn take_waker(self, slot: &mut WakerState, flag: usize) -> (u64, Token)
         requires { (slot.old.names ≡ self.names) × (slot.old.for_reader ≡ self.for_reader)
             × (slot.old.holds ≡ false) × (flag ≡ flag_word slot.old.for_reader) }
         ensures side { slot.new ≡ record slot.old
@@ -179,7 +179,7 @@ impl<'a> SlotWords<'a> {
     }
 
     /// Hands the place of the other side's waker back, with nothing in it.
-    pub(crate) fn give_back(self, slot: &mut Wakes, right: Token, back: usize)
+    pub(crate) fn give_back(self, slot: &mut WakerState, right: Token, back: usize)
         requires { (slot.old.names ≡ self.names) × (slot.old.for_reader ≡ self.for_reader)
             × (slot.old.holds ≡ true) × (back ≡ flag_word slot.old.for_reader + 1)
             × IsTokenOf (waker_place slot.old.names slot.old.for_reader) true false right }
@@ -196,7 +196,7 @@ impl<'a> SlotWords<'a> {
 
     /// Both sides of a slot held by one thread: a side that has registered, and since which the
     /// other checked after something new, was taken. It is no step of the program.
-    pub(crate) fn meet_slot(self, waits: &mut WaiterState, wakes: &mut Wakes)
+    pub(crate) fn meet_slot(self, waits: &mut WaiterState, wakes: &mut WakerState)
         requires { (waits.old.names ≡ self.names) × (wakes.old.names ≡ self.names)
             × (wakes.old.for_reader ≡ waits.old.for_reader) }
         ensures remembered { IsRemembered Stored (of_waits waits.old) (of_wakes wakes.old) }

@@ -6,6 +6,5 @@ use Rattle.example_order.proofs.rounds.carry_some.Goals as goal
 
 pub returns-clause-came : goal.returns-clause-came
 returns-clause-came c =
-    let met = c.meet-2.ensures in
-    filled_and_drained _ _ _ _ _ _ _ _ _ _ _ c.try_fill.ensures.filled met.rest met.closed met.fifo c.try_drain.ensures.drained
+    filled_and_drained _ _ _ _ _ _ _ _ _ _ _ c.try_fill.ensures.tried.filled c.meet-2.ensures.met c.try_drain.ensures.tried.drained
     (grind (arith, common_steps)) (grind (arith, common_steps)) (grind (arith, common_steps)) c.requires.room c.try_drain.auto.dest

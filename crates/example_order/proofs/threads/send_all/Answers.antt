@@ -6,13 +6,13 @@ use Rattle.example_order.proofs.threads.send_all.Goals as goal
 pub loop-preserved : goal.loop-preserved
 loop-preserved g c =
     let was = c.loop.invariant in
-    let fill = c.try_fill-given.ensures in
+    let fill = c.try_fill-given.ensures.tried in
     let bytes = c.args.bytes.now in
     let n = c.try_fill-given.result in record {
       turns = search rules;
       within = search rules;
       ring = search rules;
-      front = front_grows bytes c.loop.writer.side.end.sent c.try_fill-given.new.self.side.end.sent c.loop.given n c.loop.writer.side.end.saw was.within was.front was.all fill.rest.over fill.filled.front;
+      front = front_grows bytes c.loop.writer.side.end.sent c.try_fill-given.new.self.side.end.sent c.loop.given n c.loop.writer.side.end.saw was.within was.front was.all fill.over fill.filled.front;
       all = λ unseen.
           let before : c.loop.writer.side.end.saw ≡ false = search rules in
           fill.filled.all unseen ∙ ap (λ xs. xs ++ take n (left_after bytes c.loop.given)) (was.all before) ∙ first_and_next bytes c.loop.given n was.within;
@@ -28,8 +28,8 @@ returns g c =
         closed = c.drop.ensures.mark.2;
       }
       | in-Some+then-given-bytes w ↦
-          let fill = w.try_fill-given.ensures in
-          let front = front_grows c.args.bytes.now c.loop.writer.side.end.sent w.try_fill-given.new.self.side.end.sent c.loop.given w.try_fill-given.result c.loop.writer.side.end.saw was.within was.front was.all fill.rest.over fill.filled.front in
+          let fill = w.try_fill-given.ensures.tried in
+          let front = front_grows c.args.bytes.now c.loop.writer.side.end.sent w.try_fill-given.new.self.side.end.sent c.loop.given w.try_fill-given.result c.loop.writer.side.end.saw was.within was.front was.all fill.over fill.filled.front in
           record {
             ring = search rules;
             front = (front.0, c.drop.ensures.mark.1 ∙ ap (λ writer. writer.side.end.sent) w.writer-is ∙ front.1);

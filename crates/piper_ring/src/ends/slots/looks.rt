@@ -3,7 +3,6 @@
 ghost use Rattle.std.specs.Prelude.{◌≡◌, ◌+◌, ◌<◌, ◌≤◌, ◌++◌, IsTrue, IsFalse, length, not, true, false};
 ghost use Rattle.piper_protocol.specs.Table.{goes_on, reader_found, reader_found_none, reader_looked, writer_found, writer_found_none};
 ghost use Rattle.piper_ring.specs.Log.{Comes, Opened, now};
-ghost use Rattle.piper_ring.specs.ReadView.{KeepsAll};
 
 use crate::ends::reader::ReadEnd;
 use crate::ends::slots::side::Side;
@@ -22,7 +21,7 @@ pub enum Look {
 }
 
 impl<T> Side<ReadEnd, T> {
-    ghost use Rattle.piper_ring.specs.Looks.{HasBytes, IsEnded, ReaderIsUpToDate, ReaderLooked, ReaderSees, look_next, looks_at};
+    ghost use Rattle.piper_ring.specs.Looks.{HasBytes, ReaderIsUpToDate, ReaderLooked, ReaderSees, look_next, looks_at};
 
     /// A call begins, and looks for a byte that is known, or else for one that was published since.
     /// Returns whether there is one.
@@ -33,8 +32,6 @@ impl<T> Side<ReadEnd, T> {
         ensures none { IsFalse result →
             (length self.new.end.known ≡ 0) × ReaderIsUpToDate self.new.end }
         ensures looked { ReaderLooked self.old.end self.new.end }
-        ensures stays { KeepsAll self.old.end self.new.end
-            × (IsEnded self.old.end → IsEnded self.new.end) }
         ensures rest { (self.new.slots ≡ self.old.slots) × (self.new.cells ≡ self.old.cells) }
     {
         let none = self.end.knows_none();
@@ -57,8 +54,6 @@ impl<T> Side<ReadEnd, T> {
             ≤ length (self.new.end.taken ++ self.new.end.known))
             × (self.old.slots.heard.closed ≡ true → self.new.end.saw ≡ true) }
         ensures looked { ReaderLooked self.old.end self.new.end }
-        ensures stays { KeepsAll self.old.end self.new.end
-            × (IsEnded self.old.end → IsEnded self.new.end) }
         ensures rest { (self.new.slots ≡ self.old.slots) × (self.new.cells ≡ self.old.cells) }
     {
         let is_closed = self.load_closed();
@@ -81,8 +76,6 @@ impl<T> Side<ReadEnd, T> {
             self.old.log self.new.log }
         ensures found { ReaderSees result self.new.end }
         ensures looked { ReaderLooked self.old.end self.new.end }
-        ensures stays { KeepsAll self.old.end self.new.end
-            × (IsEnded self.old.end → IsEnded self.new.end) }
         ensures rest { (self.new.slots ≡ self.old.slots) × (self.new.cells ≡ self.old.cells) }
     {
         if self.look_first(purpose) {
@@ -119,8 +112,7 @@ impl<T> Side<WriteEnd, T> {
     /// Looks once more, after a call that waits has registered. The head is loaded before closed.
     pub fn look_again(&mut self, purpose: Purpose) -> Look
         requires at { now self.old.log ≡ goes_on (Point.Writer (WritePoint.LookHeadAgain purpose)) }
-        requires none { self.old.end.room ≡ 0 }
-        requires open { (self.old.end.saw ≡ false) × (self.old.end.shut ≡ false) }
+        requires none { WriterSees Look.NotReady self.old.end }
         ensures log { Comes (look_next result purpose (Point.Writer (writer_found purpose)))
             self.old.log self.new.log }
         ensures found { WriterSees result self.new.end }

@@ -1,5 +1,5 @@
 //! The reader's side: how it waits in its slot, and wakes whoever waits in the writer's.
-ghost use Rattle.std.specs.Prelude.{◌≡◌, ◌<◌, ◌≤◌, ◌++◌, ◌↔◌, [], length, take, drop, None, IsSome, true, false, is_some, IsTrue, IsFalse};
+ghost use Rattle.std.specs.Prelude.{◌≡◌, ◌<◌, ◌≤◌, ◌++◌, [], length, take, drop, None, true, false, is_some, IsTrue, IsFalse};
 ghost use Rattle.piper_ring.specs.Log.{Comes, made, next, now, then};
 
 use crate::ends::finished::{Finished, FinishedReader};
@@ -55,10 +55,10 @@ impl SlotEnd for ReadEnd {
 }
 
 impl<T> Side<ReadEnd, T> {
+    ghost use Rattle.piper_ring.specs.Becomes.{Becomes};
     ghost use Rattle.piper_ring.specs.Cells.{GetsLeft};
-    ghost use Rattle.piper_ring.specs.Loads.{FoundClosed};
     ghost use Rattle.piper_ring.specs.Looks.{HasBytes};
-    ghost use Rattle.piper_ring.specs.ReadView.{HasLoadedTail, HasTheRest, KeepsAll, KnowsEnd, KnowsMore, Observes, in_one_piece};
+    ghost use Rattle.piper_ring.specs.ReadView.{LoadsTail, Observes, ReaderLoadsClosed, in_one_piece};
     ghost use Rattle.piper_ring.specs.Meeting.{EndsMeet};
     ghost use Rattle.piper_ring.specs.SlotsView.{IsReaderPending, ReaderHasNews, TakesTicket, WaitsAsBefore, IsWriterPending, WriterHasNews};
 
@@ -69,17 +69,11 @@ impl<T> Side<ReadEnd, T> {
     pub fn load_tail(&mut self) -> bool
         requires turn { next self.old.log ≡ Action.LoadIndex }
         requires none { length self.old.end.known ≡ 0 }
-        ensures log { self.new.log ≡ made (Found.IndexLoaded result) self.old.log }
-        ensures none { (IsTrue result → length self.new.end.known ≡ 0)
+        ensures found { (IsTrue result → length self.new.end.known ≡ 0)
             × (IsFalse result → HasBytes self.new.end) }
-        ensures after { length self.old.slots.heard.bytes
-            ≤ length (self.new.end.taken ++ self.new.end.known) }
-        ensures fresh { (self.old.end.observed ≤ length (self.new.end.taken ++ self.new.end.known))
-            × HasLoadedTail self.new.end }
-        ensures end { KnowsEnd self.old.end →
-            self.new.end.taken ++ self.new.end.known ≡ self.new.end.all }
-        ensures kept { KnowsMore self.old.end self.new.end }
-        ensures rest { (self.new.slots ≡ self.old.slots) × (self.new.cells ≡ self.old.cells) }
+        ensures end { LoadsTail self.old.slots.heard.bytes self.old.end self.new.end }
+        ensures side { Becomes self.old self.new self.new.end self.old.slots
+            (made (Found.IndexLoaded result) self.old.log) }
     {
         self.end.observe_stored(&self.slots.parts.heard);
         self.end.load_tail();
@@ -93,16 +87,10 @@ impl<T> Side<ReadEnd, T> {
     #[inline(always)]
     pub fn load_closed(&mut self) -> bool
         requires turn { next self.old.log ≡ Action.LoadClosed }
-        ensures log { self.new.log ≡ made (Found.Flag result) self.old.log }
-        ensures after { self.old.slots.heard.closed ≡ true → result ≡ true }
-        ensures stays { (self.old.end.saw ≡ true → result ≡ true)
-            × (self.old.end.observed_shut ≡ true → result ≡ true) }
-        ensures found { FoundClosed self.old.end.ring.names result }
-        ensures all { (IsTrue result → HasTheRest self.new.end)
-            × KeepsAll self.old.end self.new.end }
-        ensures end { self.new.end
-            ≡ record self.old.end { saw = result; all = self.new.end.all } }
-        ensures rest { (self.new.slots ≡ self.old.slots) × (self.new.cells ≡ self.old.cells) }
+        ensures end { ReaderLoadsClosed self.old.slots.heard.closed result
+            self.old.end self.new.end }
+        ensures side { Becomes self.old self.new self.new.end self.old.slots
+            (made (Found.Flag result) self.old.log) }
     {
         let is_closed = self.end.load_closed_knowing(&self.slots.parts.heard);
         self.log.closed_loaded(is_closed);
@@ -115,12 +103,10 @@ impl<T> Side<ReadEnd, T> {
     pub fn store_head(&mut self, n: usize)
         requires turn { next self.old.log ≡ Action.StoreHead n }
         requires there { n ≤ in_one_piece self.old.end }
-        ensures log { self.new.log ≡ made Found.Nothing self.old.log }
-        ensures end { self.new.end ≡ record self.old.end {
+        ensures { Becomes self.old self.new (record self.old.end {
           taken = self.old.end.taken ++ take n self.old.end.known;
           known = drop n self.old.end.known;
-        } }
-        ensures rest { (self.new.slots ≡ self.old.slots) × (self.new.cells ≡ self.old.cells) }
+        }) self.old.slots (made Found.Nothing self.old.log) }
     {
         self.end.store_head(n);
         self.log.note(Found::Nothing);
@@ -170,8 +156,7 @@ impl<T> Side<ReadEnd, T> {
     pub fn observe(&mut self, mark: &WriteMark)
         requires { mark.now.names ≡ self.old.end.ring.names }
         ensures end { Observes mark.now self.old.end self.new.end }
-        ensures rest { (self.new.slots ≡ self.old.slots) × (self.new.cells ≡ self.old.cells)
-            × (self.new.log ≡ self.old.log) }
+        ensures rest { Becomes self.old self.new self.new.end self.old.slots self.old.log }
     {
         self.end.observe(mark);
     }
@@ -189,9 +174,8 @@ impl<T> Side<ReadEnd, T> {
             self.old.slots.taken ≡ writer.old.slots.tickets }
         ensures capacity { (writer.old.end.capacity ≡ self.old.end.capacity)
             × (0 < self.old.end.capacity) }
-        ensures kept { (self.new.slots ≡ self.old.slots) × (self.new.cells ≡ self.old.cells)
-            × (self.new.log ≡ self.old.log) × (writer.new.slots ≡ writer.old.slots)
-            × (writer.new.cells ≡ writer.old.cells) × (writer.new.log ≡ writer.old.log) }
+        ensures rest { Becomes self.old self.new self.new.end self.old.slots self.old.log
+            × Becomes writer.old writer.new writer.new.end writer.old.slots writer.old.log }
     {
         // A ring holds at least one byte.
         let _ = self.end.capacity();

@@ -1,5 +1,5 @@
 //! A side of a ring: how it waits in its slot, and wakes whoever waits in the other's.
-ghost use Rattle.std.specs.Prelude.{◌≡◌, ◌<◌, ◌≢◌, None, IsSome, IfOk, IfErr, true, false, is_some, not, IsTrue, IsFalse};
+ghost use Rattle.std.specs.Prelude.{◌≡◌, ◌+◌, ◌≢◌, None, IsSome, IfOk, IfErr, true, false, is_some, not, IsTrue, IsFalse};
 ghost use Rattle.piper_ring.specs.Cells.{AreCellsOf};
 ghost use Rattle.piper_ring.specs.Shared.{waker_place};
 ghost use Rattle.piper_ring.specs.Log.{IsOutside, began, drew, found_of, made, next, other, own};
@@ -15,7 +15,7 @@ use piper_protocol::table::{Action, Found, Point};
 /// A side of a ring whose sides can wait.
 ///
 /// Its log says what it did. An access that the call table knows asks that it is its turn there, by
-/// a clause named `turn`, and adds what it found, by one named `log`.
+/// a clause named `turn`, and adds what it found, as `Becomes` says.
 #[derive(Drop)]
 pub struct Side<E: SlotEnd, T> {
     pub(crate) end: E,
@@ -46,8 +46,9 @@ fn place<'a, E: SlotEnd, T>(
 }
 
 impl<E: SlotEnd, T> Side<E, T> {
-    ghost use Rattle.piper_ring.specs.Loads.{CameBack, FoundFlag, FoundWaiter, IsAway, IsUnregistered, TookBack, WasPut, WasTakenBack};
-    ghost use Rattle.piper_ring.specs.SlotsView.{Registers, TakesTicket, WaitsAsBefore};
+    ghost use Rattle.piper_ring.specs.Becomes.{Becomes};
+    ghost use Rattle.piper_ring.specs.Loads.{FoundFlag, FoundWaiter, IsAway, IsUnregistered, Reclaimed, TookBack, WasPut};
+    ghost use Rattle.piper_ring.specs.SlotsView.{TakesTicket};
 
     /// Its end of the ring.
     #[inline(always)]
@@ -70,9 +71,7 @@ impl<E: SlotEnd, T> Side<E, T> {
     /// A call begins, at this point of the table.
     #[inline(always)]
     pub fn begin(&mut self, first: Point)
-        ensures log { self.new.log ≡ began first self.old.log }
-        ensures rest { (self.new.end ≡ self.old.end) × (self.new.slots ≡ self.old.slots)
-            × (self.new.cells ≡ self.old.cells) }
+        ensures { Becomes self.old self.new self.old.end self.old.slots (began first self.old.log) }
     {
         self.log.begin(first);
     }
@@ -80,9 +79,7 @@ impl<E: SlotEnd, T> Side<E, T> {
     /// A copy drew whether it yields.
     #[inline(always)]
     pub fn drew(&mut self, is_drawn: bool)
-        ensures log { self.new.log ≡ drew is_drawn self.old.log }
-        ensures rest { (self.new.end ≡ self.old.end) × (self.new.slots ≡ self.old.slots)
-            × (self.new.cells ≡ self.old.cells) }
+        ensures { Becomes self.old self.new self.old.end self.old.slots (drew is_drawn self.old.log) }
     {
         self.log.drew(is_drawn);
     }
@@ -93,9 +90,7 @@ impl<E: SlotEnd, T> Side<E, T> {
     pub fn note(&mut self, action: Action, found: Found)
         requires turn { next self.old.log ≡ action }
         requires outside { IsOutside action }
-        ensures log { self.new.log ≡ made found self.old.log }
-        ensures rest { (self.new.end ≡ self.old.end) × (self.new.slots ≡ self.old.slots)
-            × (self.new.cells ≡ self.old.cells) }
+        ensures { Becomes self.old self.new self.old.end self.old.slots (made found self.old.log) }
     {
         let _ = action;
         self.log.note(found);
@@ -106,9 +101,8 @@ impl<E: SlotEnd, T> Side<E, T> {
     pub fn note_moved<F>(&mut self, action: Action, moved: &Result<usize, F>)
         requires turn { next self.old.log ≡ action }
         requires outside { IsOutside action }
-        ensures log { self.new.log ≡ made (found_of moved.now) self.old.log }
-        ensures rest { (self.new.end ≡ self.old.end) × (self.new.slots ≡ self.old.slots)
-            × (self.new.cells ≡ self.old.cells) }
+        ensures { Becomes self.old self.new self.old.end self.old.slots
+            (made (found_of moved.now) self.old.log) }
     {
         let _ = action;
         self.log.note(match moved {
@@ -123,9 +117,8 @@ impl<E: SlotEnd, T> Side<E, T> {
     pub fn own_emptied(&mut self)
         requires turn { next self.old.log ≡ Action.Take (own E.READS) }
         requires none { self.old.slots.maybe_registered ≡ false }
-        ensures log { self.new.log ≡ made Found.Nothing self.old.log }
-        ensures rest { (self.new.end ≡ self.old.end) × (self.new.slots ≡ self.old.slots)
-            × (self.new.cells ≡ self.old.cells) }
+        ensures { Becomes self.old self.new self.old.end self.old.slots
+            (made Found.Nothing self.old.log) }
     {
         self.log.note(Found::Nothing);
     }
@@ -133,12 +126,11 @@ impl<E: SlotEnd, T> Side<E, T> {
     /// `cancel`, as the step of the table that empties the own slot in a close.
     pub fn take_own(&mut self) -> Option<T>
         requires turn { next self.old.log ≡ Action.Take (own E.READS) }
-        ensures log { self.new.log ≡ made (Found.Waker (is_some result)) self.old.log }
-        ensures slots { self.new.slots ≡ record self.old.slots
-            { owns = self.new.slots.owns; maybe_registered = false } }
+        ensures side { Becomes self.old self.new self.old.end
+            (record self.old.slots { owns = self.new.slots.owns; maybe_registered = false })
+            (made (Found.Waker (is_some result)) self.old.log) }
         ensures out { TookBack self.old.slots.names
             self.old.slots.owns self.old.slots.tickets result }
-        ensures rest { (self.new.end ≡ self.old.end) × (self.new.cells ≡ self.old.cells) }
     {
         let waker = self.cancel();
         self.log.note(Found::Waker(waker.is_some()));
@@ -147,14 +139,13 @@ impl<E: SlotEnd, T> Side<E, T> {
 
     /// Takes its waker back, if it is still registered in this side's slot.
     pub fn cancel(&mut self) -> Option<T>
-        ensures owns { IsSome result →
-            self.new.slots ≡ record self.old.slots { owns = true; maybe_registered = false } }
-        ensures none { result ≡ None →
-            self.new.slots ≡ record self.old.slots { maybe_registered = false } }
+        ensures owns { IsSome result → self.new.slots.owns ≡ true }
+        ensures none { result ≡ None → self.new.slots.owns ≡ self.old.slots.owns }
+        ensures side { Becomes self.old self.new self.old.end
+            (record self.old.slots { owns = self.new.slots.owns; maybe_registered = false })
+            self.old.log }
         ensures out { TookBack self.old.slots.names
             self.old.slots.owns self.old.slots.tickets result }
-        ensures rest { (self.new.end ≡ self.old.end) × (self.new.cells ≡ self.old.cells)
-            × (self.new.log ≡ self.old.log) }
     {
         let parts = &mut self.slots.parts;
         if parts.right.is_some() {
@@ -174,17 +165,14 @@ impl<E: SlotEnd, T> Side<E, T> {
     /// Takes the place of its waker back, with the waker that is still registered there, if one is.
     /// It fails if the other side has the place just now.
     pub fn reclaim_waker(&mut self) -> Result<Option<T>, Away>
-        ensures owns { IfOk result (λ _.
-            self.new.slots ≡ record self.old.slots { owns = true; maybe_registered = false }) }
-        ensures found { IfOk result (λ waker. IsSome waker → self.old.slots.owns ≡ false) }
-        ensures back { IfOk result (CameBack self.old.slots.owns) }
-        ensures out { IfOk result (WasTakenBack self.old.slots.names
+        ensures owns { IfOk result (λ _. self.new.slots.owns ≡ true) }
+        ensures out { IfOk result (Reclaimed self.old.slots.names
             self.old.slots.owns self.old.slots.tickets) }
         ensures away { IfErr result (λ _. (self.old.slots.owns ≡ false)
-            × IsAway self.old.slots.names
-            × (self.new.slots ≡ record self.old.slots { maybe_registered = false })) }
-        ensures rest { (self.new.end ≡ self.old.end) × (self.new.cells ≡ self.old.cells)
-            × (self.new.log ≡ self.old.log) }
+            × (self.new.slots.owns ≡ false) × IsAway self.old.slots.names) }
+        ensures side { Becomes self.old self.new self.old.end
+            (record self.old.slots { owns = self.new.slots.owns; maybe_registered = false })
+            self.old.log }
     {
         let parts = &mut self.slots.parts;
         if parts.right.is_some() {
@@ -209,9 +197,8 @@ impl<E: SlotEnd, T> Side<E, T> {
         ensures registered { IsTrue result →
             (self.old.slots.owns ≡ false) × FoundFlag self.old.slots.names 1 }
         ensures none { IsFalse result → IsUnregistered self.old.slots.names self.old.slots.owns }
-        ensures kept { self.new.slots ≡ record self.old.slots { maybe_registered = result } }
-        ensures rest { (self.new.end ≡ self.old.end) × (self.new.cells ≡ self.old.cells)
-            × (self.new.log ≡ self.old.log) }
+        ensures side { Becomes self.old self.new self.old.end
+            (record self.old.slots { maybe_registered = result }) self.old.log }
     {
         let parts = &mut self.slots.parts;
         let waits = &mut parts.waits;
@@ -230,9 +217,12 @@ impl<E: SlotEnd, T> Side<E, T> {
         requires turn { next self.old.log ≡ Action.Register }
         requires owns { self.old.slots.owns ≡ true }
         ensures put { WasPut self.old.slots.names self.new.slots.tickets waker }
-        ensures registered { Registers self.old.slots self.new.slots }
-        ensures rest { (self.new.end ≡ self.old.end) × (self.new.cells ≡ self.old.cells)
-            × (self.new.log ≡ self.old.log) }
+        ensures side { Becomes self.old self.new self.old.end (record self.old.slots {
+          owns = false;
+          maybe_registered = true;
+          tickets = self.old.slots.tickets + 1;
+          heard = self.new.slots.heard;
+        }) self.old.log }
     {
         let parts = &mut self.slots.parts;
         let Some(mut right) = parts.right.take() else {
@@ -248,13 +238,11 @@ impl<E: SlotEnd, T> Side<E, T> {
     #[inline(always)]
     pub fn nobody_waits(&mut self) -> bool
         requires turn { next self.old.log ≡ Action.Take (other E.READS) }
-        ensures none { IsTrue result → (self.new.slots.stored ≡ E.stored_of self.new.end)
-            × (self.new.log ≡ made (Found.Waker false) self.old.log) }
-        ensures some { IsFalse result → (self.new.slots ≡ self.old.slots)
-            × (self.new.log ≡ self.old.log) × FoundWaiter self.old.slots.names 1 }
-        ensures kept { self.new.slots
-            ≡ record self.old.slots { stored = self.new.slots.stored } }
-        ensures rest { (self.new.end ≡ self.old.end) × (self.new.cells ≡ self.old.cells) }
+        ensures none { IsTrue result → Becomes self.old self.new self.old.end
+            (record self.old.slots { stored = E.stored_of self.old.end })
+            (made (Found.Waker false) self.old.log) }
+        ensures some { IsFalse result → FoundWaiter self.old.slots.names 1
+            × Becomes self.old self.new self.old.end self.old.slots self.old.log }
     {
         let wakes = &mut self.slots.parts.wakes;
         let flag = flag_of(!E::READS);
@@ -269,11 +257,10 @@ impl<E: SlotEnd, T> Side<E, T> {
     /// slot. Returns the waker that it put there, and its place is handed back.
     pub fn take(&mut self) -> Option<T>
         requires turn { next self.old.log ≡ Action.Take (other E.READS) }
-        ensures log { self.new.log ≡ made (Found.Waker (is_some result)) self.old.log }
-        ensures rests { self.new.slots.stored ≡ E.stored_of self.new.end }
         ensures ticket { TakesTicket self.old.slots self.new.slots result }
-        ensures own { WaitsAsBefore self.old.slots self.new.slots }
-        ensures rest { (self.new.end ≡ self.old.end) × (self.new.cells ≡ self.old.cells) }
+        ensures side { Becomes self.old self.new self.old.end (record self.old.slots
+            { taken = self.new.slots.taken; stored = E.stored_of self.old.end })
+            (made (Found.Waker (is_some result)) self.old.log) }
     {
         let wakes = &mut self.slots.parts.wakes;
         let flag = flag_of(!E::READS);
@@ -297,9 +284,8 @@ impl<E: SlotEnd, T> Side<E, T> {
         ensures taken { self.old.slots.owns ≡ false → left.old.stored ≢ self.old.slots.heard →
             left.old.taken ≡ self.old.slots.tickets }
         ensures capacity { E.capacity_of self.old.end ≡ (E.names_of self.old.end).capacity }
-        ensures rest { (self.new.slots ≡ self.old.slots) × (self.new.end ≡ self.old.end)
-            × (self.new.cells ≡ self.old.cells) × (self.new.log ≡ self.old.log)
-            × (left.new ≡ left.old) }
+        ensures rest { (left.new ≡ left.old)
+            × Becomes self.old self.new self.old.end self.old.slots self.old.log }
     {
         let words = self.end.slot_words();
         words.meet_slot(&mut self.slots.parts.waits, &mut left.parts.wakes);

@@ -1,5 +1,5 @@
 //! The writer's side: how it waits in its slot, and wakes whoever waits in the reader's.
-ghost use Rattle.std.specs.Prelude.{◌≡◌, ◌+◌, ◌-◌, ◌<◌, ◌≤◌, ◌++◌, ◌↔◌, ◌==◌, [], length, take, drop, max, None, IsSome, true, false, is_some, IsTrue, IsFalse};
+ghost use Rattle.std.specs.Prelude.{◌≡◌, ◌+◌, ◌-◌, ◌<◌, ◌≤◌, ◌++◌, ◌==◌, [], length, take, drop, max, None, true, false, is_some, IsTrue, IsFalse};
 ghost use Rattle.std.specs.Borrow.{sem};
 ghost use Rattle.piper_ring.specs.Log.{Comes, closed_loaded, made, next, now, then};
 
@@ -63,12 +63,12 @@ impl SlotEnd for WriteEnd {
 }
 
 impl<T> Side<WriteEnd, T> {
+    ghost use Rattle.piper_ring.specs.Becomes.{Becomes};
     ghost use Rattle.piper_ring.specs.Cells.{GetsLeft};
-    ghost use Rattle.piper_ring.specs.Loads.{FoundClosed};
     ghost use Rattle.piper_ring.specs.Looks.{HasRoom};
     ghost use Rattle.piper_ring.specs.SlotsView.{TakesTicket, WaitsAsBefore};
     ghost use Rattle.piper_ring.specs.LendsBuffer.{lends_side};
-    ghost use Rattle.piper_ring.specs.WriteView.{HasLoadedHead, HasMoreRoom, Lendable};
+    ghost use Rattle.piper_ring.specs.WriteView.{Lendable, LoadsHead, WriterLoadsClosed};
 
     /// Loads the head, as `load_head` of its end, and returns whether no room is known even now.
     /// Once it has registered it finds all that the reader had given back before its last check of
@@ -77,15 +77,11 @@ impl<T> Side<WriteEnd, T> {
     pub fn load_head(&mut self) -> bool
         requires turn { next self.old.log ≡ Action.LoadIndex }
         requires none { self.old.end.room ≡ 0 }
-        ensures log { self.new.log ≡ made (Found.IndexLoaded result) self.old.log }
-        ensures none { (IsTrue result → self.new.end.room ≡ 0)
+        ensures found { (IsTrue result → self.new.end.room ≡ 0)
             × (IsFalse result → HasRoom self.new.end) }
-        ensures after { self.old.slots.heard.count + self.old.end.capacity
-            ≤ length self.new.end.sent + self.new.end.room }
-        ensures fresh { (self.old.end.observed + self.old.end.capacity
-            ≤ length self.new.end.sent + self.new.end.room) × HasLoadedHead self.new.end }
-        ensures kept { HasMoreRoom self.old.end self.new.end }
-        ensures rest { (self.new.slots ≡ self.old.slots) × (self.new.cells ≡ self.old.cells) }
+        ensures end { LoadsHead self.old.slots.heard.count self.old.end self.new.end }
+        ensures side { Becomes self.old self.new self.new.end self.old.slots
+            (made (Found.IndexLoaded result) self.old.log) }
     {
         self.end.load_head_knowing(&self.slots.parts.heard.count);
         let none = self.end.knows_none();
@@ -97,11 +93,9 @@ impl<T> Side<WriteEnd, T> {
     #[inline(always)]
     pub fn load_closed_first(&mut self) -> bool
         requires turn { next self.old.log ≡ Action.LoadClosed }
-        ensures log { self.new.log ≡ closed_loaded (self.old.end.room == 0) result self.old.log }
-        ensures end { self.new.end ≡ record self.old.end { saw = result } }
-        ensures stays { (self.new.end.shut ≡ true → result ≡ true)
-            × (self.old.end.saw ≡ true → result ≡ true) }
-        ensures rest { (self.new.slots ≡ self.old.slots) × (self.new.cells ≡ self.old.cells) }
+        ensures found { WriterLoadsClosed self.old.end result }
+        ensures side { Becomes self.old self.new (record self.old.end { saw = result })
+            self.old.slots (closed_loaded (self.old.end.room == 0) result self.old.log) }
     {
         let none = self.end.knows_none();
         let is_closed = self.end.load_closed();
@@ -116,11 +110,10 @@ impl<T> Side<WriteEnd, T> {
     pub fn load_closed(&mut self) -> bool
         requires turn { next self.old.log ≡ Action.LoadClosed }
         requires unseen { self.old.end.saw ≡ false }
-        ensures log { self.new.log ≡ made (Found.Flag result) self.old.log }
-        ensures end { self.new.end ≡ record self.old.end { saw = result } }
         ensures after { self.old.slots.heard.closed ≡ true → result ≡ true }
-        ensures shut { self.new.end.shut ≡ false }
-        ensures rest { (self.new.slots ≡ self.old.slots) × (self.new.cells ≡ self.old.cells) }
+        ensures shut { self.old.end.shut ≡ false }
+        ensures side { Becomes self.old self.new (record self.old.end { saw = result })
+            self.old.slots (made (Found.Flag result) self.old.log) }
     {
         let is_closed = self.end.load_closed_knowing(&self.slots.parts.heard.closed);
         self.log.closed_loaded(is_closed);
@@ -130,12 +123,9 @@ impl<T> Side<WriteEnd, T> {
     /// Loads closed, as `load_closed` of its end, for a call that asks for nothing else.
     pub fn check_closed(&mut self) -> bool
         requires turn { next self.old.log ≡ Action.LoadClosed }
-        ensures log { self.new.log ≡ made (Found.Flag result) self.old.log }
-        ensures end { self.new.end ≡ record self.old.end { saw = result } }
-        ensures stays { (self.new.end.shut ≡ true → result ≡ true)
-            × (self.old.end.saw ≡ true → result ≡ true) }
-        ensures found { FoundClosed self.old.end.ring.names result }
-        ensures rest { (self.new.slots ≡ self.old.slots) × (self.new.cells ≡ self.old.cells) }
+        ensures found { WriterLoadsClosed self.old.end result }
+        ensures side { Becomes self.old self.new (record self.old.end { saw = result })
+            self.old.slots (made (Found.Flag result) self.old.log) }
     {
         let is_closed = self.end.load_closed();
         self.log.closed_loaded(is_closed);
@@ -156,9 +146,8 @@ impl<T> Side<WriteEnd, T> {
     /// `unlend` of its end.
     #[inline(always)]
     pub fn unlend(&mut self)
-        ensures end { self.new.end ≡ record self.old.end { lent = [] } }
-        ensures rest { (self.new.slots ≡ self.old.slots) × (self.new.cells ≡ self.old.cells)
-            × (self.new.log ≡ self.old.log) }
+        ensures { Becomes self.old self.new (record self.old.end { lent = [] })
+            self.old.slots self.old.log }
     {
         self.end.unlend();
     }
@@ -169,14 +158,12 @@ impl<T> Side<WriteEnd, T> {
     pub fn store_tail(&mut self, n: usize)
         requires turn { next self.old.log ≡ Action.StoreTail n }
         requires there { n ≤ length self.old.end.lent }
-        ensures log { self.new.log ≡ made Found.Nothing self.old.log }
         ensures room { n ≤ self.old.end.room }
-        ensures end { self.new.end ≡ record self.old.end {
+        ensures side { Becomes self.old self.new (record self.old.end {
           sent = self.old.end.sent ++ take n self.old.end.lent;
           lent = drop n self.old.end.lent;
           room = self.old.end.room - n;
-        } }
-        ensures rest { (self.new.slots ≡ self.old.slots) × (self.new.cells ≡ self.old.cells) }
+        }) self.old.slots (made Found.Nothing self.old.log) }
     {
         self.end.store_tail(n);
         self.log.note(Found::Nothing);
@@ -185,9 +172,9 @@ impl<T> Side<WriteEnd, T> {
     /// Stores closed, for good: nothing is lent any more.
     pub fn store_closed(&mut self)
         requires turn { next self.old.log ≡ Action.StoreClosed true }
-        ensures log { self.new.log ≡ made Found.Nothing self.old.log }
-        ensures end { self.new.end ≡ record self.old.end { shut = true; saw = true; lent = [] } }
-        ensures rest { (self.new.slots ≡ self.old.slots) × (self.new.cells ≡ self.old.cells) }
+        ensures side { Becomes self.old self.new
+            (record self.old.end { shut = true; saw = true; lent = [] })
+            self.old.slots (made Found.Nothing self.old.log) }
     {
         self.end.store_closed();
         self.log.note(Found::Nothing);
@@ -234,10 +221,9 @@ impl<T> Side<WriteEnd, T> {
     /// `observe` of its end.
     pub fn observe(&mut self, mark: &ReadMark)
         requires { mark.now.names ≡ self.old.end.ring.names }
-        ensures end { self.new.end
-            ≡ record self.old.end { observed = max self.old.end.observed mark.now.count } }
-        ensures rest { (self.new.slots ≡ self.old.slots) × (self.new.cells ≡ self.old.cells)
-            × (self.new.log ≡ self.old.log) }
+        ensures { Becomes self.old self.new (record self.old.end
+            { observed = max self.old.end.observed mark.now.count })
+            self.old.slots self.old.log }
     {
         self.end.observe(mark);
     }
@@ -245,10 +231,9 @@ impl<T> Side<WriteEnd, T> {
     /// `observe_last` of its end.
     pub fn observe_last(&mut self, mark: &LastReadMark)
         requires { mark.now.consumed.names ≡ self.old.end.ring.names }
-        ensures end { self.new.end ≡ record self.old.end
-            { observed = max self.old.end.observed mark.now.consumed.count; saw = true } }
-        ensures rest { (self.new.slots ≡ self.old.slots) × (self.new.cells ≡ self.old.cells)
-            × (self.new.log ≡ self.old.log) }
+        ensures { Becomes self.old self.new (record self.old.end
+            { observed = max self.old.end.observed mark.now.consumed.count; saw = true })
+            self.old.slots self.old.log }
     {
         self.end.observe_last(mark);
     }

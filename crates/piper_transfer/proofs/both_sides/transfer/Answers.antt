@@ -39,9 +39,9 @@ returns g c =
     let s = g.S.Source.fails both.new.source in
     let new_writer = c.in_ok-input.ensures.input.sent in
     let new_reader = c.in_ok-input.ensures.output.taken in
-    let met : r2 ≡ record r1 { known = r2.known; all = r2.all } = c.meet.ensures.rest.reader in
-    let sent : c.meet.new.other.side.end.sent ≡ w1.sent = ap (λ (v : WriteView). v.sent) c.meet.ensures.rest.writer in
-    let fifo = c.meet.ensures.fifo ∙ sent in
+    let met : r2 ≡ record r1 { known = r2.known; all = r2.all } = c.meet.ensures.met.reader in
+    let sent : c.meet.new.other.side.end.sent ≡ w1.sent = ap (λ (v : WriteView). v.sent) c.meet.ensures.met.writer in
+    let fifo = c.meet.ensures.met.fifo ∙ sent in
     elim c.match-both.branch [
       | in-Ok w ↦
           let q = w.flush.new.dest in
@@ -51,7 +51,7 @@ returns g c =
           let whole : IsDrained r1 w1 = rw w.in-Ok.is at both.ensures.drained in
           let input_ended : OnOk filled (IsAtEnd j) = rw w.in-Ok.is at both.ensures.input_ended in
           let input_told : IfErr filled (IsOfSource s) = rw w.in-Ok.is at both.ensures.input_told in
-          let none : r2.known ≡ [] = none_known r1 r2 w1 c.meet.new.other.side.end whole met c.meet.ensures.fifo sent c.meet.ensures.closed.all c.meet.ensures.more.all in
+          let none : r2.known ≡ [] = none_known r1 r2 w1 c.meet.new.other.side.end whole met c.meet.ensures.met.fifo sent c.meet.ensures.met.all c.meet.ensures.met.kept in
           let same : c.match-both.ended ≡ result_and w.flush.result filled = search rules in
           let ended = ends_with_both w.flush.result filled c.match-both.ended (IsAtEnd j) same input_ended in
           let d = g.D.Destination.fails w.flush.new.dest in

@@ -7,22 +7,22 @@ pub loop-init : goal.loop-init
 loop-init g c = (tt, tt, poured_none _ _ _ _)
 
 pub returns-in-Pending-clause-poured : goal.returns-in-Pending-clause-poured
-returns-in-Pending-clause-poured g c = poured_looked _ _ _ _ _ _ _ c.loop.invariant.2 c.poll.ensures.found.looked
+returns-in-Pending-clause-poured g c = poured_looked _ _ _ _ _ _ _ c.loop.invariant.2 c.poll.ensures.polled.looked
 
 pub returns-in-Ok-false-clause-poured : goal.returns-in-Ok-false-clause-poured
-returns-in-Ok-false-clause-poured g c = poured_looked _ _ _ _ _ _ _ c.loop.invariant.2 c.poll.ensures.found.looked
+returns-in-Ok-false-clause-poured g c = poured_looked _ _ _ _ _ _ _ c.loop.invariant.2 c.poll.ensures.polled.looked
 
 pub returns-in-Err-clause-poured : goal.returns-in-Err-clause-poured
-returns-in-Err-clause-poured g c = poured_looked _ _ _ _ _ _ _ c.loop.invariant.2 c.poll.ensures.found.looked
+returns-in-Err-clause-poured g c = poured_looked _ _ _ _ _ _ _ c.loop.invariant.2 c.poll.ensures.polled.looked
 
 pub returns-in-Err-write_some-clause-poured : goal.returns-in-Err-write_some-clause-poured
-returns-in-Err-write_some-clause-poured g c = poured_round _ _ _ _ _ _ _ _ _ c.loop.invariant.2 c.poll.ensures.found.looked c.write_some.ensures.poured
+returns-in-Err-write_some-clause-poured g c = poured_round _ _ _ _ _ _ _ _ _ c.loop.invariant.2 c.poll.ensures.polled.looked c.write_some.ensures.poured
 
 pub loop-preserved : goal.loop-preserved
-loop-preserved g c = (tt, tt, poured_round _ _ _ _ _ _ _ _ _ c.loop.invariant.2 c.poll.ensures.found.looked c.write_some.ensures.poured)
+loop-preserved g c = (tt, tt, poured_round _ _ _ _ _ _ _ _ _ c.loop.invariant.2 c.poll.ensures.polled.looked c.write_some.ensures.poured)
 
 pub returns-in-Pending-clause-still : goal.returns-in-Pending-clause-still
-returns-in-Pending-clause-still g c = reader_still _ _ _ c.in-Pending.ensures.waits.pending
+returns-in-Pending-clause-still g c = reader_still _ _ _ c.in-Pending.ensures.polled.pending
 
 pub returns-in-Err-clause-reported : goal.returns-in-Err-clause-reported
 returns-in-Err-clause-reported g c = rw c.no_waker.ensures.value (_, c.no_waker.ensures.refused)

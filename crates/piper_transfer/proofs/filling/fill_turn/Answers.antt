@@ -12,38 +12,38 @@ pub returns-then-is_over-clause-fed : goal.returns-then-is_over-clause-fed
 returns-then-is_over-clause-fed g c = c.loop.invariant.2
 
 pub returns-in-Pending-clause-fed : goal.returns-in-Pending-clause-fed
-returns-in-Pending-clause-fed g c = fed_looked _ _ _ _ _ c.loop.invariant.2 c.poll.ensures.found.looked
+returns-in-Pending-clause-fed g c = fed_looked _ _ _ _ _ c.loop.invariant.2 c.poll.ensures.polled.looked
 
 pub returns-in-Ok-false-clause-fed : goal.returns-in-Ok-false-clause-fed
-returns-in-Ok-false-clause-fed g c = fed_looked _ _ _ _ _ c.loop.invariant.2 c.poll.ensures.found.looked
+returns-in-Ok-false-clause-fed g c = fed_looked _ _ _ _ _ c.loop.invariant.2 c.poll.ensures.polled.looked
 
 pub returns-in-Err-clause-fed : goal.returns-in-Err-clause-fed
 returns-in-Err-clause-fed g c =
-    let looked = c.poll.ensures.found.looked in
+    let looked = c.poll.ensures.polled.looked in
     let closed = c.close.ensures in
     fed_same _ _ _ _ _ c.loop.invariant.2 (closed.sent ∙ ap (λ (v : WriteView). v.sent) looked.rest) (closed.ring ∙ ap (λ (v : WriteView). v.ring) looked.rest)
 
 pub returns-in-Ok-eq0-clause-fed : goal.returns-in-Ok-eq0-clause-fed
 returns-in-Ok-eq0-clause-fed g c =
-    let read = fed_round _ _ _ _ _ _ _ c.loop.invariant.2 c.poll.ensures.found.looked c.read_chunk.ensures.fed in
+    let read = fed_round _ _ _ _ _ _ _ c.loop.invariant.2 c.poll.ensures.polled.looked c.read_chunk.ensures.fed in
     let closed = c.close-in-Ok-eq0.ensures in
     fed_same _ _ _ _ _ read closed.sent closed.ring
 
 pub returns-in-Err-Failed-clause-fed : goal.returns-in-Err-Failed-clause-fed
 returns-in-Err-Failed-clause-fed g c =
-    let read = fed_round _ _ _ _ _ _ _ c.loop.invariant.2 c.poll.ensures.found.looked c.read_chunk.ensures.fed in
+    let read = fed_round _ _ _ _ _ _ _ c.loop.invariant.2 c.poll.ensures.polled.looked c.read_chunk.ensures.fed in
     let closed = c.close-in-Err-Failed.ensures in
     fed_same _ _ _ _ _ read closed.sent closed.ring
 
 pub returns-in-Err-Told-clause-fed : goal.returns-in-Err-Told-clause-fed
-returns-in-Err-Told-clause-fed g c = fed_round _ _ _ _ _ _ _ c.loop.invariant.2 c.poll.ensures.found.looked c.read_chunk.ensures.fed
+returns-in-Err-Told-clause-fed g c = fed_round _ _ _ _ _ _ _ c.loop.invariant.2 c.poll.ensures.polled.looked c.read_chunk.ensures.fed
 
 pub loop-preserved : goal.loop-preserved
 loop-preserved g c =
-    (tt, tt, fed_round _ _ _ _ _ _ _ c.loop.invariant.2 c.poll.ensures.found.looked c.read_chunk.ensures.fed, c.read_chunk.ensures.is_open)
+    (tt, tt, fed_round _ _ _ _ _ _ _ c.loop.invariant.2 c.poll.ensures.polled.looked c.read_chunk.ensures.fed, c.read_chunk.ensures.is_open)
 
 pub returns-in-Pending-clause-still : goal.returns-in-Pending-clause-still
-returns-in-Pending-clause-still g c = writer_still _ _ _ c.in-Pending.ensures.waits.pending
+returns-in-Pending-clause-still g c = writer_still _ _ _ c.in-Pending.ensures.polled.pending
 
 pub returns-in-Err-clause-stopped : goal.returns-in-Err-clause-stopped
 returns-in-Err-clause-stopped g c = rw (c.close.ensures.answer, c.no_waker-error.ensures.value) (_, c.no_waker-error.ensures.refused)

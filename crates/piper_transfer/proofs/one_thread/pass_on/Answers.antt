@@ -7,19 +7,19 @@ use Rattle.piper_transfer.proofs.one_thread.pass_on.Goals as goal
 
 pub returns-clause-room : goal.returns-clause-room
 returns-clause-room g c =
-    let first = c.meet.ensures in
-    let second = c.meet-2.ensures in
+    let first = c.meet.ensures.met in
+    let second = c.meet-2.ensures.met in
     let drained = c.drain_known.ensures in
     room_again c.meet.new.self.side.end c.drain_known.new.reader.side.end c.meet-2.new.self.side.end
     c.meet.new.other.side.end c.meet-2.new.other.side.end
-    first.fifo drained.known (search rules) (ap (λ (v : ReadView). v.taken) second.rest.reader) second.fifo (ap (λ (v : WriteView). v.sent) second.rest.writer)
+    first.fifo drained.known (search rules) (ap (λ (v : ReadView). v.taken) second.reader) second.fifo (ap (λ (v : WriteView). v.sent) second.writer)
     second.room (search rules)
 
 pub returns-clause-all : goal.returns-clause-all
 returns-clause-all g c =
-    let first = c.meet.ensures in
-    let second = c.meet-2.ensures in
+    let first = c.meet.ensures.met in
+    let second = c.meet-2.ensures.met in
     let drained = c.drain_known.ensures in
     taken_all c.meet.new.self.side.end c.drain_known.new.reader.side.end c.meet-2.new.self.side.end
     c.meet.new.other.side.end c.meet-2.new.other.side.end
-    first.fifo drained.known (search rules) (ap (λ (v : ReadView). v.taken) second.rest.reader) (ap (λ (v : WriteView). v.sent) second.rest.writer)
+    first.fifo drained.known (search rules) (ap (λ (v : ReadView). v.taken) second.reader) (ap (λ (v : WriteView). v.sent) second.writer)

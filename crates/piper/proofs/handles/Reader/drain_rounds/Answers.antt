@@ -14,7 +14,7 @@ rounds-preserved g c =
       rest = search rules;
       woke = record {
         called = calls_then c.args.self.now.side.slots c.rounds.self.side.slots c.wake_other.new.side.slots (ap (λ (s : SlotsView). s.names) before.rest.slots) before.woke.called
-            (rw (c.store_head.ensures.rest.0, c.drain_round.ensures.rest.slots) at c.wake_other.ensures.called);
+            (rw (c.store_head.ensures.slots, c.drain_round.ensures.rest.slots) at c.wake_other.ensures.called);
         notifies = search rules;
       };
     }

@@ -23,18 +23,18 @@ dropped : (c : goal.After-result-1) → HasDropped c.args.self.side.end.ring.nam
 dropped c = record {
   taken = c.finish-side.result.taken;
   tickets = (c.args.self.side.slots.taken, c.finish-side.result.side.slots.taken);
-  took = rw (c.begin.ensures.rest.1, c.args.self.side.of_one_ring) at c.finish-side.ensures.ticket.waker;
+  took = rw (c.begin.ensures.slots, c.args.self.side.of_one_ring) at c.finish-side.ensures.ticket.waker;
   called = is_called c;
   left = c.finish-side.result.left;
-  gets = rw c.begin.ensures.rest.0 at c.finish-side.ensures.left;
+  gets = rw c.begin.ensures.end at c.finish-side.ensures.left;
   reader = c.let_left_go.ensures.reader;
   writer = c.let_left_go.ensures.writer;
 }
 
 pub returns-clause-woken : goal.returns-clause-woken
 returns-clause-woken c =
-    let took = rw c.begin.ensures.rest.1 at c.finish-side.ensures.ticket.waker in
-    let none = rw c.begin.ensures.rest.1 at c.finish-side.ensures.ticket.none in record {
+    let took = rw c.begin.ensures.slots at c.finish-side.ensures.ticket.waker in
+    let none = rw c.begin.ensures.slots at c.finish-side.ensures.ticket.none in record {
       count = search rules;
       over = search rules;
       called = rw (same_slots c) (calls_one _ _ _ _ took none (is_called c));

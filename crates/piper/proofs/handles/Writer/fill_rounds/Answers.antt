@@ -9,7 +9,7 @@ use Rattle.piper.proofs.handles.Writer.fill_rounds.Goals as goal
 pub returns-then-asks-eq0-clause-filled : goal.returns-then-asks-eq0-clause-filled
 returns-then-asks-eq0-clause-filled g c =
     let before = c.rounds.invariant in
-    rw c.note.ensures.rest.0 (fill_ended _ g.met.R.ReadLike.gives_in_order _ _ _ _ _ _ _ before.filled
+    rw c.note.ensures.end (fill_ended _ g.met.R.ReadLike.gives_in_order _ _ _ _ _ _ _ before.filled
     refl _ _
     (g.met.R.ReadLike.gives_nothing c.rounds.source) (inr (c.asks-asks.ensures.dry c.if-asks-eq0.true))
     (λ full. omega (arith, before.total, c.requires.some.0, full)))
@@ -19,21 +19,21 @@ returns-then-load_closed-clause-filled g c =
     let before = c.rounds.invariant in
     let round = c.fill_round.ensures in
     fill_closed _ g.met.R.ReadLike.gives_in_order _ _ _ _ _ _ _ before.filled round.end _ _ _ _
-    _ c.in-Ok.ensures.bound c.in-Ok.ensures.most c.in-Ok.ensures.bytes (ap (λ (w : WriteView). w.saw) round.end ∙ before.open_yet) c.load_closed.ensures.end c.if-load_closed.true
+    _ c.in-Ok.ensures.bound c.in-Ok.ensures.most c.in-Ok.ensures.bytes (ap (λ (w : WriteView). w.saw) round.end ∙ before.open_yet) c.load_closed.ensures.side.end c.if-load_closed.true
 
 pub rounds-preserved : goal.rounds-preserved
 rounds-preserved g c =
     let before = c.rounds.invariant in record {
       ran = search rules;
       filled = filled_more _ g.met.R.ReadLike.gives_in_order _ _ _ _ _ _ _ before.filled c.fill_round.ensures.end _ _ _ _ c.in-Ok.ensures.bound c.in-Ok.ensures.bytes
-          (ap (λ (w : WriteView). w.saw) c.fill_round.ensures.end ∙ before.open_yet) c.load_closed.ensures.end c.store_tail.ensures.room (c.wake_other.ensures.rest.0 ∙ c.store_tail.ensures.end);
+          (ap (λ (w : WriteView). w.saw) c.fill_round.ensures.end ∙ before.open_yet) c.load_closed.ensures.side.end c.store_tail.ensures.room (c.wake_other.ensures.rest.0 ∙ c.store_tail.ensures.side.end);
       total = search rules;
       open_yet = search rules;
       failures = search rules;
       rest = search rules;
       woke = record {
         called = calls_then c.args.self.now.side.slots c.rounds.self.side.slots c.wake_other.new.side.slots (ap (λ (s : SlotsView). s.names) before.rest.slots) before.woke.called
-            (rw (c.store_tail.ensures.rest.0, c.load_closed.ensures.rest.0, c.fill_round.ensures.rest.slots) at c.wake_other.ensures.called);
+            (rw (c.store_tail.ensures.side.slots, c.load_closed.ensures.side.slots, c.fill_round.ensures.rest.slots) at c.wake_other.ensures.called);
         notifies = search rules;
       };
     }

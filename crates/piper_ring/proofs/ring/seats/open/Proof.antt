@@ -4,7 +4,7 @@ use types.Run.{assigns}
 use Rattle.piper_ring.specs.Places as P
 use Rattle.piper_ring.specs.SlotValues.{IsUnused, LooksFirst}
 use Rattle.piper_ring.specs.contracts.ring.slots.WaiterState as Waits
-use Rattle.piper_ring.specs.contracts.ring.slots.Wakes as Wakes
+use Rattle.piper_ring.specs.contracts.ring.slots.WakerState as Wakes
 use Rattle.piper_ring.proofs.Opening.{as_places, begins, Slotted, IsNamed}
 use Rattle.piper_cells.specs.Space.{lender}
 use Rattle.piper_cells.specs.contracts.lent_space.Lender as Lender

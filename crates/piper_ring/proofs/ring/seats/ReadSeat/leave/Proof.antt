@@ -1,7 +1,7 @@
 -- `leave` is one swap: it gives the end's places to the invariant, and takes all of the memory out
 -- where the other end is gone. Assumes `Logic`.
 use types.Kit.{group}
-use Rattle.piper_ring.proofs.Kit.{Bool, true, ◌≡◌, ℕ, ◌+◌, ◌-◌, ◌^◌, List, [], ◌∷◌, sym, refl, ap, arith, lit<, w64, Val, vint, vptr, SProp, emp, Fml, ftrue, ‵, raw, ◌⊛◌, given, mean, at_ret, ◌$◌, ◌∵◌, !, qed, by, move, keep, drop, join, split, fsplit, fsplit3, fjoin, fpick, fpack, learn, use0, use1, use2, rewrite, feq_i, flt_i, stop, fld, lit, of_opd, bin, no_more, and_then, first, blocks, exec, Calls-last, returns, enter, alloc_all, pass_all, free_all, look_at, get, get_in, sets, lands_last, is, env, agg, sub, whole as shape_all, fact, fact_i, tables, yes, owns, types_at, plain, Ptr, block_ptr, ptr_val, block_of, count_of, at_block, u64, nothing, alive, Stays, stay_dropped, walk_of, Goes-dropped, word-Good, after as from_on, asks, always, span, pair_val, pair_of, proved, leaves, seq_cst, fm, found, finds, swaps, unset, Names, Placed, flag, common, half, blanks, reader_knows, where_gone, pointer_val, ghost_val, pointer_told, ghost_told, PointerData, pointer_made}
+use Rattle.piper_ring.proofs.Kit.{Bool, true, ◌≡◌, ℕ, ◌+◌, ◌-◌, ◌^◌, List, [], ◌∷◌, sym, refl, ap, arith, lit<, w64, Val, vint, vptr, SProp, emp, Fml, ftrue, ‵, raw, ◌⊛◌, given, mean, at_ret, ◌$◌, ◌∵◌, !, qed, by, move, keep, drop, join, split, fsplit, fsplit3, fjoin, fpick, fpack, learn, use0, use1, use2, rewrite, feq_i, flt_i, stop, fld, lit, of_opd, bin, no_more, and_then, first, blocks, exec, Calls-last, returns, enter, alloc_all, pass_all, free_all, look_at, get, get_in, sets, lands_last, is, env, agg, sub, whole as shape_all, fact, fact_i, tables, yes, owns, types_at, plain, Ptr, block_ptr, ptr_val, block_of, count_of, at_block, u64, nothing, alive, Stays, stay_dropped, walk_of, Goes-dropped, word-Good, after as from_on, asks, always, span, pair_val, pair_of, proved, leaves, seq_cst, fm, found, finds, swaps, unset, Names, RingIsPlaced, flag, common, half, blanks, reader_knows, where_gone, pointer_val, ghost_val, pointer_told, ghost_told, PointerData, pointer_made}
 use Rattle.piper_ring.specs.Loads.{FoundGone, as_gone}
 use Rattle.piper_ring.specs.Shared as shared
 use Rattle.piper_ring.proofs.Rights.{common_twice}
@@ -43,7 +43,7 @@ leave_spec 𝓤 𝓛 𝓜 𝓡 wired =
     sets ! (agg ! (and_then ! (get ! refl) (no_more !))) refl (tt, (tt, tt)) $ sets ! (agg ! (and_then ! (get ! refl) (and_then ! (get ! refl) (no_more !)))) refl (tt, (record { fits = fits }, ((tt, tt), tt))) $
     fpick ! (λ last. fsplit ! $ fpick ! (λ observed. drop ! $ rewrite ! 0 (λ (r : Ptr). ‵ (where_gone last (shared.whole r p z))) isw refl $
     let rest : Remains.the_row.Denot = record { words = w'; at = p; names = z; last = last } in
-    nothing ! $ fpack ! (Placed w' p z) (λ _. ftrue) (tt, at.1, at.2) $ fjoin ! $ use0 𝓛 (‵ (PointerData.own_val (w', tt) (pointer_val w' ∷ []))) (pointer_made 𝓛 w') $ fjoin ! $
+    nothing ! $ fpack ! (RingIsPlaced w' p z) (λ _. ftrue) (tt, at.1, at.2) $ fjoin ! $ use0 𝓛 (‵ (PointerData.own_val (w', tt) (pointer_val w' ∷ []))) (pointer_made 𝓛 w') $ fjoin ! $
     flt_i ! n (2 ^ 64) fits $ feq_i ! (List Val) (vint w64 n ∷ []) (vint w64 n ∷ []) refl $ fjoin ! $
     use2 𝓛 (‵ ((denote.Struct.Tuple.Tuple (u64 ∷ Remains.the_row ∷ [])).own_val (n, rest) (pair_val (vint w64 n) (pointer_val w') ∷ []))) (pair_of 𝓛 u64 Remains.the_row n rest (vint w64 n) (pointer_val w')) $
     use0 𝓛 (raw (fact 𝓤 (FoundGone z n))) (fact_i 𝓤 (FoundGone z n) (emp 𝓤) (as_gone z n)) $

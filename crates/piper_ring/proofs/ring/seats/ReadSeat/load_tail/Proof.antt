@@ -1,5 +1,5 @@
 -- `load_tail` is one load of the tail, beside a share of what the reader knows. Assumes `Logic`.
-use Rattle.piper_ring.proofs.Kit.{lit<, ◌≡◌, ℕ, ◌+◌, ◌≤◌, ◌^◌, List, [], ◌∷◌, true, false, length, refl, w64, named, Val, vint, vptr, SProp, emp, via, Share, Fml, ftrue, flft, fhide, ‵, raw, ◌⊛◌, given, learn, split3, rewrite, use3, mean, at_ret, ◌$◌, ◌∵◌, !, qed, by, move, keep, drop, split, join, fsplit, fjoin, fpick, fpack, use0, use1, use2, feq_i, flt_i, stop, fld, load, look, lit, of_opd, bin, no_more, and_then, first, blocks, exec, Calls-last, returns, enter, alloc_all, pass_all, free_all, look_at, get, through, sets, lands_last, env, agg, shr_bor-open, obor_close, fact, fact_i, tables, yes, owns, types_at, plain, Ptr, block_ptr, block_of, count_of, at_block, RefOf, u64, shr_vals, shr_Tells, hidden_shr, hide, unhide, nothing, lent_out, Stays, stay_dropped, walk_of, Goes-dropped, tail, pointer_in, pointer_out, position_of, proved, leaves, pair_val, pair_of, seq_cst, fm, found, finds, loads, announced, Names, flag, Placed, common, reader_knows, reader_lends, PointerData, ghost_val, GhostData, ghost_made, ghost_coded}
+use Rattle.piper_ring.proofs.Kit.{lit<, ◌≡◌, ℕ, ◌+◌, ◌≤◌, ◌^◌, List, [], ◌∷◌, true, false, length, refl, w64, named, Val, vint, vptr, SProp, emp, via, Share, Fml, ftrue, flft, fhide, ‵, raw, ◌⊛◌, given, learn, split3, rewrite, use3, mean, at_ret, ◌$◌, ◌∵◌, !, qed, by, move, keep, drop, split, join, fsplit, fjoin, fpick, fpack, use0, use1, use2, feq_i, flt_i, stop, fld, load, look, lit, of_opd, bin, no_more, and_then, first, blocks, exec, Calls-last, returns, enter, alloc_all, pass_all, free_all, look_at, get, through, sets, lands_last, env, agg, shr_bor-open, obor_close, fact, fact_i, tables, yes, owns, types_at, plain, Ptr, block_ptr, block_of, count_of, at_block, RefOf, u64, shr_vals, shr_Tells, hidden_shr, hide, unhide, nothing, lent_out, Stays, stay_dropped, walk_of, Goes-dropped, tail, pointer_in, pointer_out, position_of, proved, leaves, pair_val, pair_of, seq_cst, fm, found, finds, loads, announced, Names, flag, RingIsPlaced, common, reader_knows, reader_lends, PointerData, ghost_val, GhostData, ghost_made, ghost_coded}
 use Rattle.piper_ring.specs.Loads.{FoundPublished, as_published}
 use Rattle.piper_ring.specs.contracts.ring.marks.WriteMark as Mark
 use Rattle.piper_ring.proofs.Rights.{reader_halves}
@@ -22,7 +22,7 @@ load_tail_spec 𝓤 𝓛 𝓜 𝓡 wired =
     use1 𝓛 (‵ (hidden_shr GhostData κs.1.0 (record {}, tt) b2 o2) ⊛ ‵ (fhide (announced t.names t.bytes t.shut))) (lent_out 𝓛 Mark.struct (Mark.the_codes ghost_coded) Mark.the_heap Mark.the_lent κs.1.0 t b2 o2) $
     split ! $ drop ! $ unhide ! $ rewrite ! 0 (λ (n : Names). ‵ (announced n t.bytes t.shut)) asked refl $ keep ! (2 ∷ 0 ∷ 3 ∷ 4 ∷ []) $ fsplit ! $ drop ! $
     use1 𝓛 (‵ (hidden_shr PointerData κ (w, tt) b o) ⊛ ‵ (fhide (reader_lends w p z h.head h.seen h.leaving κ))) (lent_out 𝓛 Seat.struct Seat.the_codes Seat.the_heap Seat.the_lent κ h b o) $
-    split ! $ unhide ! $ fsplit ! $ fsplit ! $ keep ! (0 ∷ 3 ∷ 5 ∷ 4 ∷ 6 ∷ []) $ hide ! $ move ! (1 ∷ []) $ unhide ! $ fsplit ! $ fsplit ! $ fpick ! (λ at. drop ! $ nothing ! $ fpack ! (Placed w p z) (λ _. ftrue) at $ fjoin ! $
+    split ! $ unhide ! $ fsplit ! $ fsplit ! $ keep ! (0 ∷ 3 ∷ 5 ∷ 4 ∷ 6 ∷ []) $ hide ! $ move ! (1 ∷ []) $ unhide ! $ fsplit ! $ fsplit ! $ fpick ! (λ at. drop ! $ nothing ! $ fpack ! (RingIsPlaced w p z) (λ _. ftrue) at $ fjoin ! $
     let bw : ℕ = block_of w in let ow : ℕ = count_of w in let e : ℕ = 208 + ow in let isw : w ≡ block_ptr bw ow = at_block w at.0 in
     enter ! 𝓣.C 𝓣.Λ fn (vptr b o ∷ vptr b2 o2 ∷ []) Post $ alloc_all ! (λ l. pass_all ! refl ((tt, tt), ((tt, tt), tt)) $ let Ev = env fn.locals l in first ! $ blocks ! $ move ! (2 ∷ 3 ∷ []) $
     pointer_in ! tt w bw ow isw b (o + 0) (λ r.

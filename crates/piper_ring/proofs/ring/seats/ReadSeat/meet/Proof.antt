@@ -1,5 +1,5 @@
 -- `meet` is no step of the program. Assumes `Logic`.
-use Rattle.piper_ring.proofs.Kit.{◌≤◌, false, ◌≡◌, ℕ, ◌+◌, List, [], ◌∷◌, ◌++◌, length, sym, refl, named, Val, vptr, SProp, emp, Fml, ftrue, flft, fhide, yes, RefOf, shr_vals, shr_Tells, hidden_shr, unhide, lent_out, Reaches, ‵, raw, ◌⊛◌, given, ◌$◌, ◌∵◌, !, qed, by, move, keep, drop, split, split3, join, fsplit, fsplit3, fjoin, fjoin3, fpick, fpack, learn, use0, use1, use2, use3, rewrite, feq_i, no_more, and_then, returns, enter, alloc_all, pass_all, free_all, look_at, get, sets, env, agg, fact, fact_i, some, later, await, pick, tables, RattleType, owns, types_at, plain, Ptr, mut_vals, mut_Tells, nothing, opens, closes, Stays, stay_ref, stay_dropped, walk_of, Goes-ref, Goes-dropped, run, proved, leaves, byte, flag, raised, announced, began, Names, Placed, half, common, reader_knows, writer_knows, writer_owns, pair_val, pair_of, GhostData, ghost_val, ghost_made, ghost_coded}
+use Rattle.piper_ring.proofs.Kit.{◌≤◌, false, ◌≡◌, ℕ, ◌+◌, List, [], ◌∷◌, ◌++◌, length, sym, refl, named, Val, vptr, SProp, emp, Fml, ftrue, flft, fhide, yes, RefOf, shr_vals, shr_Tells, hidden_shr, unhide, lent_out, Reaches, ‵, raw, ◌⊛◌, given, ◌$◌, ◌∵◌, !, qed, by, move, keep, drop, split, split3, join, fsplit, fsplit3, fjoin, fjoin3, fpick, fpack, learn, use0, use1, use2, use3, rewrite, feq_i, no_more, and_then, returns, enter, alloc_all, pass_all, free_all, look_at, get, sets, env, agg, fact, fact_i, some, later, await, pick, tables, RattleType, owns, types_at, plain, Ptr, mut_vals, mut_Tells, nothing, opens, closes, Stays, stay_ref, stay_dropped, walk_of, Goes-ref, Goes-dropped, run, proved, leaves, byte, flag, raised, announced, began, Names, RingIsPlaced, half, common, reader_knows, writer_knows, writer_owns, pair_val, pair_of, GhostData, ghost_val, ghost_made, ghost_coded}
 use Rattle.piper_ring.specs.contracts.ring.marks.ClosedMark as Seen
 use Rattle.piper_ring.specs.contracts.ring.marks.WriteMark as Mark
 use Rattle.piper_ring.specs.Places as P
@@ -36,7 +36,7 @@ meet_spec 𝓤 𝓛 𝓜 𝓡 wired =
     opens ! tt WRow b' o' (λ vs'. move ! (1 ∷ []) $ fsplit ! $ move ! (6 ∷ 7 ∷ 8 ∷ []) $
     opens ! tt Row b o (λ vs. move ! (1 ∷ []) $ fsplit ! $ move ! (7 ∷ []) $
     rewrite ! 0 (λ (r : Ptr × Ptr × Names). ‵ (writer_owns r.0 r.1 r.2 k.sent k.limit k.shut)) {x = (w, p, z)} {y = (k.words, k.at, k.names)} (λ i. (asked.0.words i, asked.0.memory i, asked.0.names i)) refl $
-    fsplit ! $ fsplit ! $ fpick ! (λ at. drop ! $ nothing ! $ fpack ! (Placed w p z) (λ _. ftrue) at $ fjoin ! $ move ! (3 ∷ []) $ fsplit3 ! $ move ! (2 ∷ []) $ fsplit ! $ fpick ! (λ lh. drop ! $
+    fsplit ! $ fsplit ! $ fpick ! (λ at. drop ! $ nothing ! $ fpack ! (RingIsPlaced w p z) (λ _. ftrue) at $ fjoin ! $ move ! (3 ∷ []) $ fsplit3 ! $ move ! (2 ∷ []) $ fsplit ! $ fpick ! (λ lh. drop ! $
     move ! (1 ∷ []) $ use1 𝓛 (‵ C ⊛ ‵ C) (common_twice 𝓛 w p z) $ split ! $ move ! (16 ∷ 17 ∷ []) $ join ! $ move ! (6 ∷ 0 ∷ []) $ join ! $ move ! (3 ∷ 0 ∷ []) $ join ! $ move ! (1 ∷ 3 ∷ 0 ∷ []) $
     use3 𝓛 (later (some (λ (r : List ℕ × List ℕ). given (Apart 𝓛 w p z h.head h.seen k.sent k.limit k.shut h.leaving h.have (u.bytes, u.shut) v.seen r) (‵ (run B h.seen r.0) ⊛ ‵ (run B k.limit r.1) ⊛ ‵ RK' ⊛ ‵ WK' ⊛ ‵ (Hv k.sent)))))
     (joins 𝓛 w p z h.head h.seen k.sent k.limit k.shut h.leaving h.have (u.bytes, u.shut) v.seen lh asked.3) $ await ! tt $ pick ! (λ r. learn ! (λ apart. split3 ! $ move ! (2 ∷ []) $ split3 ! $

@@ -1,6 +1,6 @@
 -- `slot_words` copies evidence out of a share of what the reader knows, and hands the share on. Assumes
 -- `Logic`.
-use Rattle.piper_ring.proofs.Kit.{◌≡◌, ℕ, ◌+◌, [], ◌∷◌, refl, named, Val, vptr, SProp, emp, Share, Fml, ftrue, flft, fhide, ‵, raw, ◌⊛◌, ◌$◌, ◌∵◌, !, qed, by, move, keep, drop, split, join, fsplit, fjoin, fjoin3, fpick, fpack, use0, use1, rewrite, stop, fld, load, look, of_opd, no_more, and_then, returns, enter, alloc_all, pass_all, free_all, look_at, get, through, sets, env, agg, shr_bor-open, obor_close, fact, fact_i, tables, yes, owns, types_at, plain, named_lft, Ptr, block_ptr, block_of, count_of, at_block, RefOf, shr_vals, shr_Tells, hidden_shr, hide, unhide, nothing, lent_out, Stays, stay_dropped, walk_of, Goes-dropped, pointer_in, pointer_out, guard_good, proved, leaves, Names, Placed, common, Known, lent_by, evidence, Stored, as_stored, false, flag, given, learn, split3, fsplit3, use2, raised, by_reader, reader_knows, reader_lends, PointerData, lent_val, LentData, lent_made, GhostData, ghost_coded}
+use Rattle.piper_ring.proofs.Kit.{◌≡◌, ℕ, ◌+◌, [], ◌∷◌, refl, named, Val, vptr, SProp, emp, Share, Fml, ftrue, flft, fhide, ‵, raw, ◌⊛◌, ◌$◌, ◌∵◌, !, qed, by, move, keep, drop, split, join, fsplit, fjoin, fjoin3, fpick, fpack, use0, use1, rewrite, stop, fld, load, look, of_opd, no_more, and_then, returns, enter, alloc_all, pass_all, free_all, look_at, get, through, sets, env, agg, shr_bor-open, obor_close, fact, fact_i, tables, yes, owns, types_at, plain, named_lft, Ptr, block_ptr, block_of, count_of, at_block, RefOf, shr_vals, shr_Tells, hidden_shr, hide, unhide, nothing, lent_out, Stays, stay_dropped, walk_of, Goes-dropped, pointer_in, pointer_out, guard_good, proved, leaves, Names, RingIsPlaced, common, Known, lent_by, evidence, Stored, as_stored, false, flag, given, learn, split3, fsplit3, use2, raised, by_reader, reader_knows, reader_lends, PointerData, lent_val, LentData, lent_made, GhostData, ghost_coded}
 use base.Fml.{fshr_bor}
 use denote.SharingLaws.{one_shr_laws}
 use Rattle.piper_ring.proofs.Rights.{reader_halves}
@@ -24,7 +24,7 @@ slot_words_spec 𝓤 𝓛 𝓜 𝓡 wired =
     use1 𝓛 (‵ (hidden_shr GhostData κs.1.0 (record {}, tt) b2 o2) ⊛ ‵ (fhide (raised j.names.closed j.seen))) (lent_out 𝓛 ClosedMark.struct (ClosedMark.the_codes ghost_coded) ClosedMark.the_heap ClosedMark.the_lent κs.1.0 j b2 o2) $
     split ! $ drop ! $ unhide ! $ rewrite ! 0 (λ (m : Names). ‵ (raised m.closed j.seen)) asked refl $ keep ! (1 ∷ 3 ∷ 0 ∷ 4 ∷ []) $ fsplit ! $ drop ! $
     use1 𝓛 (‵ (hidden_shr PointerData κ (w, tt) b o) ⊛ ‵ (fhide (reader_lends w p z h.head h.seen h.leaving κ))) (lent_out 𝓛 Seat.struct Seat.the_codes Seat.the_heap Seat.the_lent κ h b o) $
-    split ! $ unhide ! $ fsplit ! $ fsplit ! $ keep ! (0 ∷ 3 ∷ 4 ∷ 5 ∷ 6 ∷ []) $ hide ! $ move ! (1 ∷ []) $ unhide ! $ fsplit ! $ fsplit ! $ fpick ! (λ at. drop ! $ nothing ! $ fpack ! (Placed w p z) (λ _. ftrue) at $ fjoin ! $
+    split ! $ unhide ! $ fsplit ! $ fsplit ! $ keep ! (0 ∷ 3 ∷ 4 ∷ 5 ∷ 6 ∷ []) $ hide ! $ move ! (1 ∷ []) $ unhide ! $ fsplit ! $ fsplit ! $ fpick ! (λ at. drop ! $ nothing ! $ fpack ! (RingIsPlaced w p z) (λ _. ftrue) at $ fjoin ! $
     let bw : ℕ = block_of w in let ow : ℕ = count_of w in let w' : Ptr = block_ptr bw ow in let isw : w ≡ w' = at_block w at.0 in
     enter ! 𝓣.C 𝓣.Λ fn (vptr b o ∷ vptr b2 o2 ∷ []) Post $ alloc_all ! (λ l. pass_all ! refl ((tt, tt), ((tt, tt), tt)) $ let Ev = env fn.locals l in move ! (2 ∷ 3 ∷ []) $ pointer_in ! tt w bw ow isw b (o + 0) (λ r.
     sets ! (of_opd ! (load ! (through ! refl (fld ! refl (stop !))) (look ! 0 refl))) refl (tt, tt) $ pointer_out ! tt w bw ow isw b (o + 0) $ sets ! (agg ! (no_more !)) refl (tt, tt) $

@@ -1,5 +1,5 @@
 -- `load_closed` is one load, beside a share of what the reader knows. Assumes `Logic`.
-use Rattle.piper_ring.proofs.Kit.{false, arith, lit<, ◌≡◌, ℕ, ◌+◌, ◌^◌, ◌≤◌, List, [], ◌∷◌, sym, refl, w64, named, Val, vint, vptr, SProp, emp, via, Share, Fml, ftrue, flft, fhide, ‵, raw, ◌⊛◌, given, mean, at_ret, ◌$◌, ◌∵◌, !, qed, by, move, keep, drop, split, split3, join, fsplit, fsplit3, fjoin, fjoin3, fpick, fpack, learn, use0, use1, use3, rewrite, feq_i, flt_i, stop, fld, load, look, lit, of_opd, bin, no_more, and_then, first, blocks, exec, Calls-last, returns, enter, alloc_all, pass_all, free_all, look_at, get, through, sets, lands_last, env, agg, shr_bor-open, obor_close, fact, fact_i, tables, yes, RattleType, owns, types_at, plain, Ptr, block_ptr, block_of, count_of, at_block, RefOf, shr_vals, shr_Tells, mut_vals, mut_Tells, hidden_shr, hide, unhide, nothing, opens, closes, lent_out, Stays, stay_dropped, stay_ref, walk_of, Goes-dropped, Goes-ref, tail, pointer_in, pointer_out, proved, leaves, seq_cst, fm, found, finds, loads, Names, raised, flag, Placed, common, writer_knows, writer_lends, PointerData, ghost_val, GhostData}
+use Rattle.piper_ring.proofs.Kit.{false, arith, lit<, ◌≡◌, ℕ, ◌+◌, ◌^◌, ◌≤◌, List, [], ◌∷◌, sym, refl, w64, named, Val, vint, vptr, SProp, emp, via, Share, Fml, ftrue, flft, fhide, ‵, raw, ◌⊛◌, given, mean, at_ret, ◌$◌, ◌∵◌, !, qed, by, move, keep, drop, split, split3, join, fsplit, fsplit3, fjoin, fjoin3, fpick, fpack, learn, use0, use1, use3, rewrite, feq_i, flt_i, stop, fld, load, look, lit, of_opd, bin, no_more, and_then, first, blocks, exec, Calls-last, returns, enter, alloc_all, pass_all, free_all, look_at, get, through, sets, lands_last, env, agg, shr_bor-open, obor_close, fact, fact_i, tables, yes, RattleType, owns, types_at, plain, Ptr, block_ptr, block_of, count_of, at_block, RefOf, shr_vals, shr_Tells, mut_vals, mut_Tells, hidden_shr, hide, unhide, nothing, opens, closes, lent_out, Stays, stay_dropped, stay_ref, walk_of, Goes-dropped, Goes-ref, tail, pointer_in, pointer_out, proved, leaves, seq_cst, fm, found, finds, loads, Names, raised, flag, RingIsPlaced, common, writer_knows, writer_lends, PointerData, ghost_val, GhostData}
 use Rattle.piper_ring.proofs.Rights.{writer_halves}
 use Rattle.piper_ring.proofs.Steps.{flag_small, AfterClosed, writer_looks}
 use Rattle.piper_ring.specs.Loads.{FoundClosed, as_closed}
@@ -21,7 +21,7 @@ load_closed_spec 𝓤 𝓛 𝓜 𝓡 wired =
     qed 𝓛 (((‵ (flft κ q) ⊛ ‵ (flft κs.1.0 qs.1.0) ⊛ ‵ ftrue) ⊛ ‵ (owns (types_at En.signature.params κs) a y.0.4)) ∷ given (k.names ≡ z) (‵ ftrue) ∷ []) ∵
     keep ! (1 ∷ 0 ∷ []) $ learn ! (λ asked. drop ! $ split ! $ split3 ! $ move ! (3 ∷ []) $ fsplit3 ! $ move ! (1 ∷ []) $ fsplit3 ! $ keep ! (3 ∷ 5 ∷ 1 ∷ 2 ∷ 6 ∷ []) $ fsplit ! $ drop ! $
     use1 𝓛 (‵ (hidden_shr PointerData κ (w, tt) b o) ⊛ ‵ (fhide (writer_lends w p z h.sent h.limit h.shut κ))) (lent_out 𝓛 Seat.struct Seat.the_codes Seat.the_heap Seat.the_lent κ h b o) $
-    split ! $ unhide ! $ fsplit ! $ fsplit ! $ keep ! (0 ∷ 3 ∷ 4 ∷ 5 ∷ 6 ∷ 7 ∷ []) $ hide ! $ move ! (1 ∷ []) $ unhide ! $ fsplit ! $ fsplit ! $ fpick ! (λ at. drop ! $ nothing ! $ fpack ! (Placed w p z) (λ _. ftrue) at $ fjoin ! $
+    split ! $ unhide ! $ fsplit ! $ fsplit ! $ keep ! (0 ∷ 3 ∷ 4 ∷ 5 ∷ 6 ∷ 7 ∷ []) $ hide ! $ move ! (1 ∷ []) $ unhide ! $ fsplit ! $ fsplit ! $ fpick ! (λ at. drop ! $ nothing ! $ fpack ! (RingIsPlaced w p z) (λ _. ftrue) at $ fjoin ! $
     let bw : ℕ = block_of w in let ow : ℕ = count_of w in let e : ℕ = 136 + ow in let isw : w ≡ block_ptr bw ow = at_block w at.0 in
     enter ! 𝓣.C 𝓣.Λ fn (vptr b o ∷ vptr b' o' ∷ []) Post $ alloc_all ! (λ l. pass_all ! refl ((tt, tt), ((tt, tt), tt)) $ let Ev = env fn.locals l in
     move ! (4 ∷ 5 ∷ 6 ∷ []) $ opens ! tt SRow b' o' (λ vs'. move ! (1 ∷ []) $ fsplit ! $ move ! (8 ∷ 9 ∷ 6 ∷ 7 ∷ []) $ first ! $ blocks ! $

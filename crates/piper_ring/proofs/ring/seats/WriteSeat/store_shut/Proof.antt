@@ -1,5 +1,5 @@
 -- `store_shut` is one store. Assumes `Logic`.
-use Rattle.piper_ring.proofs.Kit.{false, lit<, ◌≡◌, ℕ, ◌+◌, true, List, [], ◌∷◌, refl, ap, w64, named, Val, vint, vptr, vunit, SProp, emp, full_share, Fml, ftrue, flft, ‵, raw, ◌⊛◌, mean, at_ret, ◌$◌, ◌∵◌, !, qed, by, move, keep, drop, split, join, fsplit, fsplit3, fjoin, fjoin3, fpick, fpack, use0, use1, use2, rewrite, feq_i, stop, fld, load, lit, unit_lit, of_opd, bin, no_more, and_then, first, blocks, exec, Calls-last, returns, enter, alloc_all, pass_all, free_all, look_at, get, through, sets, lands_last, is, env, agg, sub, whole, look_in, fact, fact_i, tables, RattleType, owns, types_at, plain, Ptr, block_ptr, ptr_val, block_of, count_of, at_block, Is, shows, cell_at, mut_vals, mut_Tells, nothing, peeks, opens, closes, Stays, stay_ref, walk_of, Goes-ref, tail, asks, always, proved, leaves, seq_cst, fm, stored, has_stored, stores, Names, Placed, common, half, writer_knows, pointer_val, PointerData, pointer_told, pointer_made}
+use Rattle.piper_ring.proofs.Kit.{false, lit<, ◌≡◌, ℕ, ◌+◌, true, List, [], ◌∷◌, refl, ap, w64, named, Val, vint, vptr, vunit, SProp, emp, full_share, Fml, ftrue, flft, ‵, raw, ◌⊛◌, mean, at_ret, ◌$◌, ◌∵◌, !, qed, by, move, keep, drop, split, join, fsplit, fsplit3, fjoin, fjoin3, fpick, fpack, use0, use1, use2, rewrite, feq_i, stop, fld, load, lit, unit_lit, of_opd, bin, no_more, and_then, first, blocks, exec, Calls-last, returns, enter, alloc_all, pass_all, free_all, look_at, get, through, sets, lands_last, is, env, agg, sub, whole, look_in, fact, fact_i, tables, RattleType, owns, types_at, plain, Ptr, block_ptr, ptr_val, block_of, count_of, at_block, Is, shows, cell_at, mut_vals, mut_Tells, nothing, peeks, opens, closes, Stays, stay_ref, walk_of, Goes-ref, tail, asks, always, proved, leaves, seq_cst, fm, stored, has_stored, stores, Names, RingIsPlaced, common, half, writer_knows, pointer_val, PointerData, pointer_told, pointer_made}
 use Rattle.piper_ring.proofs.Rights.{common_twice}
 use Rattle.piper_ring.proofs.Steps.{flag_small, shuts}
 use Rattle.piper_ring.specs.contracts.ring.seats.WriteSeat.{the_row}
@@ -22,7 +22,7 @@ store_shut_spec 𝓤 𝓛 𝓜 𝓡 wired =
     split ! $ split ! $ move ! (2 ∷ []) $ fsplit ! $ fsplit3 ! $ keep ! (1 ∷ 2 ∷ 4 ∷ []) $
     enter ! 𝓣.C 𝓣.Λ fn (vptr b o ∷ []) Post $ alloc_all ! (λ l. pass_all ! refl ((tt, tt), tt) $ let Ev = env fn.locals l in
     opens ! tt Row b o (λ vs. move ! (1 ∷ []) $ fsplit ! $ peeks ! PointerData (Is PointerData) (shows 𝓛 PointerData) (w, tt) vs (λ is-so. let ev : vs ≡ us = pointer_told w vs is-so in
-    drop ! $ rewrite ! 1 (λ (ws : List Val). ‵ (cell_at full_share Row.mir ws b o)) ev refl $ fsplit ! $ fsplit ! $ fpick ! (λ at. drop ! $ nothing ! $ fpack ! (Placed w p z) (λ _. ftrue) at $ fjoin ! $
+    drop ! $ rewrite ! 1 (λ (ws : List Val). ‵ (cell_at full_share Row.mir ws b o)) ev refl $ fsplit ! $ fsplit ! $ fpick ! (λ at. drop ! $ nothing ! $ fpack ! (RingIsPlaced w p z) (λ _. ftrue) at $ fjoin ! $
     use1 𝓛 (‵ C ⊛ ‵ C) (common_twice 𝓛 w p z) $ split ! $ let isw : w ≡ block_ptr bw (count_of w) = at_block w at.0 in
     move ! (0 ∷ 2 ∷ []) $ use2 𝓛 (raw Step) (shuts 𝓛 w p z h.sent h.limit h.shut 0 (flag_small false)) $ first ! $ blocks ! $
     sets ! (is ! (of_opd ! (load ! (through ! refl (fld ! refl (stop !))) (look_in ! 2 (sub ! 0 refl (whole !))))) (ap ptr_val isw)) refl (tt, tt) $

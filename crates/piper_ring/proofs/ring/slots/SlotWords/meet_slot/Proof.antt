@@ -1,9 +1,9 @@
 -- `meet_slot` is no step of the program. Assumes `Logic`.
-use Rattle.piper_ring.proofs.Kit.{◌≡◌, ℕ, List, [], ◌∷◌, sym, refl, named, Val, vptr, vunit, SProp, emp, Share, Fml, ftrue, flft, ‵, raw, ◌⊛◌, given, ◌$◌, ◌∵◌, !, qed, by, move, keep, drop, split, split3, join, fsplit, fsplit3, fjoin, fjoin3, fpick, fpack, learn, use0, use2, rewrite, feq_i, unit_lit, of_opd, returns, enter, alloc_all, pass_all, free_all, look_at, sets, env, shr_bor-open, obor_close, fact, fact_i, tables, no, RattleType, owns, types_at, plain, named_lft, Ptr, mut_vals, mut_Tells, nothing, opens, closes, Stays, stay_dropped, stay_ref, walk_of, Goes-dropped, Goes-ref, guard_good, proved, leaves, later, await, Bool, Names, Placed, Stored, Waits, Wakes, IsRemembered, of_waits, of_wakes, waits_in, wakes_in, knows, lent_val, lent_told}
+use Rattle.piper_ring.proofs.Kit.{◌≡◌, ℕ, List, [], ◌∷◌, sym, refl, named, Val, vptr, vunit, SProp, emp, Share, Fml, ftrue, flft, ‵, raw, ◌⊛◌, given, ◌$◌, ◌∵◌, !, qed, by, move, keep, drop, split, split3, join, fsplit, fsplit3, fjoin, fjoin3, fpick, fpack, learn, use0, use2, rewrite, feq_i, unit_lit, of_opd, returns, enter, alloc_all, pass_all, free_all, look_at, sets, env, shr_bor-open, obor_close, fact, fact_i, tables, no, RattleType, owns, types_at, plain, named_lft, Ptr, mut_vals, mut_Tells, nothing, opens, closes, Stays, stay_dropped, stay_ref, walk_of, Goes-dropped, Goes-ref, guard_good, proved, leaves, later, await, Bool, Names, RingIsPlaced, Stored, Waits, Wakes, IsRemembered, of_waits, of_wakes, waits_in, wakes_in, knows, lent_val, lent_told}
 use Rattle.piper_ring.proofs.Rights.{known_halves}
 use Rattle.piper_ring.proofs.Slots.{meet}
 use Rattle.piper_ring.specs.contracts.ring.slots.WaiterState as One
-use Rattle.piper_ring.specs.contracts.ring.slots.Wakes as Two
+use Rattle.piper_ring.specs.contracts.ring.slots.WakerState as Two
 use Rattle.piper_ring.specs.contracts.ring.slots.SlotWords as SlotWords
 use Rattle.piper_ring.proofs.ring.slots.SlotWords.meet_slot as own
 
@@ -19,7 +19,7 @@ meet_slot_spec 𝓤 𝓛 𝓜 𝓡 wired =
     let V : Names → Fml = λ u. waits_in u r view.0 view.1.0 view.1.1 in let U : Names × Bool → Fml = λ u. wakes_in u.0 u.1 other.0 other.1.0 other.1.1 in
     let y : (walk_of 𝓛 En hs c).Ghost = ((κs, qs, bounds, a, (lent_val w ∷ [], (vptr b o ∷ [], (vptr b2 o2 ∷ [], tt)))), gh) in let Post : Val → SProp 𝓤 = (walk_of 𝓛 En hs c).post y in
     qed 𝓛 (((‵ (flft κ q) ⊛ ‵ (flft κs.1.0 qs.1.0) ⊛ ‵ (flft κs.1.1.0 qs.1.1.0) ⊛ ‵ ftrue) ⊛ ‵ (owns (types_at En.signature.params κs) a y.0.4)) ∷ given ((k.names ≡ z) × (m.names ≡ z) × (m.for_reader ≡ r)) (‵ ftrue) ∷ []) ∵
-    keep ! (1 ∷ 0 ∷ []) $ learn ! (λ asked. drop ! $ split ! $ split3 ! $ move ! (2 ∷ []) $ split ! $ move ! (4 ∷ []) $ fsplit3 ! $ fsplit ! $ drop ! $ fsplit3 ! $ fsplit ! $ fpick ! (λ at. drop ! $ nothing ! $ fpack ! (Placed w p z) (λ _. ftrue) at $ fjoin ! $ move ! (1 ∷ []) $ fpick ! (λ who.
+    keep ! (1 ∷ 0 ∷ []) $ learn ! (λ asked. drop ! $ split ! $ split3 ! $ move ! (2 ∷ []) $ split ! $ move ! (4 ∷ []) $ fsplit3 ! $ fsplit ! $ drop ! $ fsplit3 ! $ fsplit ! $ fpick ! (λ at. drop ! $ nothing ! $ fpack ! (RingIsPlaced w p z) (λ _. ftrue) at $ fjoin ! $ move ! (1 ∷ []) $ fpick ! (λ who.
     move ! (3 ∷ []) $ fsplit3 ! $ move ! (6 ∷ []) $ fsplit ! $ fsplit3 ! $ keep ! (5 ∷ 6 ∷ 13 ∷ 1 ∷ 2 ∷ 10 ∷ 7 ∷ 8 ∷ 12 ∷ []) $
     enter ! 𝓣.C 𝓣.Λ fn (lent_val w ∷ vptr b o ∷ vptr b2 o2 ∷ []) Post $ alloc_all ! (λ l. pass_all ! refl (guard_good [] [] w, ((tt, tt), ((tt, tt), tt))) $ let Ev = env fn.locals l in
     opens ! tt ORow b o (λ vs. move ! (5 ∷ 6 ∷ 7 ∷ []) $ opens ! tt TRow b2 o2 (λ vs2. move ! (1 ∷ []) $ fsplit ! $ move ! (7 ∷ []) $ fsplit ! $

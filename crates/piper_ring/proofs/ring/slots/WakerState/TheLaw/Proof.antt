@@ -1,7 +1,7 @@
 -- A `&` to it holds nothing. Assumes `Logic`.
 use Rattle.piper_ring.proofs.Kit.{nothing_shr_laws, of_Lends, Lends-nothing, ghost_coded, ghost_shared}
-use Rattle.piper_ring.specs.contracts.ring.slots.Wakes as C
-use Rattle.piper_ring.proofs.ring.slots.Wakes.TheLaw.Statement.{statement}
+use Rattle.piper_ring.specs.contracts.ring.slots.WakerState as C
+use Rattle.piper_ring.proofs.ring.slots.WakerState.TheLaw.Statement.{statement}
 
 pub shares : statement
 shares =

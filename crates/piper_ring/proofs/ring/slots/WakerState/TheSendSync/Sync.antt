@@ -1,6 +1,6 @@
 -- Threads may share it.
 use Rattle.piper_ring.proofs.Kit.{IsSync, sendable, Struct, shape}
-use Rattle.piper_ring.specs.contracts.ring.slots.Wakes.{the_row, the_type}
+use Rattle.piper_ring.specs.contracts.ring.slots.WakerState.{the_row, the_type}
 
 pub sync : IsSync the_row
 sync = let fields : IsSync (Struct (shape the_type)) = search sendable depth 20 in record { shared = λ d b o ν. (fields.shared (tt, tt) b o ν, tt) }

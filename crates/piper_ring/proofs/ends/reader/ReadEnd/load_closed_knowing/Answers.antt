@@ -1,0 +1,15 @@
+-- Each of the things that are known of the load, by itself.
+use Rattle.std.proofs.Common.{rules, arith}
+use Rattle.std.proofs.lemmas.Grind.{common_steps}
+use Rattle.piper_ring.proofs.ends.reader.ReadEnd.load_closed_knowing.Goals as goal
+
+pub returns : goal.returns
+returns c = record {
+  after = search rules;
+  saw = search rules;
+  observed = search rules;
+  found = search rules;
+  end = grind (arith, common_steps);
+  all = search rules;
+  rest = search rules;
+}
