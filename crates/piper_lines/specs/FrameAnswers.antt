@@ -27,12 +27,6 @@ OnFramesEnd (Ready (Ok End)) P = P
 OnFramesEnd (Ready (Err e)) P = ⊤
 OnFramesEnd Pending P = ⊤
 
--- the poll reports the end, or fails: it hands out no frame, and doesn't wait
-abbrev pub FramesEndAgain : {E : Type 0} → Poll (Result FrameAnswer E) → Type 0
-FramesEndAgain (Ready (Ok answer)) = answer ≡ End
-FramesEndAgain (Ready (Err e)) = ⊤
-FramesEndAgain Pending = ⊥
-
 -- unless a skipped frame was still to pass, the frame that is kept lacks bytes of its length or of its
 -- body
 abbrev pub LacksBytes : FrameHeader → ℕ → List ℕ → List ℕ → Type 0

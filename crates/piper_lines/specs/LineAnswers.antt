@@ -25,12 +25,6 @@ OnLinesEnd (Ready (Ok answer)) P = at_end answer ≡ true → P
 OnLinesEnd (Ready (Err e)) P = ⊤
 OnLinesEnd Pending P = ⊤
 
--- the poll reports the end, or fails: it hands out no line, and doesn't wait
-abbrev pub LinesEndAgain : {E : Type 0} → Poll (Result LineAnswer E) → Type 0
-LinesEndAgain (Ready (Ok answer)) = answer ≡ End
-LinesEndAgain (Ready (Err e)) = ⊤
-LinesEndAgain Pending = ⊥
-
 -- by the answer: the bytes of a line, begun before, that are gathered now
 abbrev pub Gathers : {E : Type 0} → Poll (Result LineAnswer E)
     → ℕ → ℕ → List ℕ → List ℕ → List ℕ → Bool → Type 0

@@ -4,6 +4,7 @@ ghost use Rattle.std.specs.Borrow.{sem};
 ghost use Rattle.futures.specs.Task.{Covers, Keeps};
 ghost use Rattle.futures.specs.Poll.{OnPending};
 ghost use Rattle.piper.specs.Polls.{IfReadyErr};
+ghost use Rattle.piper_lines.specs.AtEnd.{AnswersOrFails};
 ghost use Rattle.piper_lines.specs.Header.{header_size, encoded_length, usual_header};
 ghost use Rattle.piper_lines.specs.Stays.{Pends, ReaderStays, WentOn};
 
@@ -53,7 +54,7 @@ pub struct Frames<R> {
 impl<R: AsyncBufRead> Frames<R> {
     ghost use Rattle.piper_lines.specs.FrameReader.{reader_of, format_of, kept_of, header_of, body_of, skips_of, header_room_of, body_room_of, lends_reader, FramesAreSpent};
     ghost use Rattle.piper_lines.specs.Refusals.{IsReported, LacksFrameRoom};
-    ghost use Rattle.piper_lines.specs.FrameAnswers.{FramesEndAgain, HandsFrame, LacksBytes, OnFramesEnd, handed};
+    ghost use Rattle.piper_lines.specs.FrameAnswers.{HandsFrame, LacksBytes, OnFramesEnd, handed};
     ghost use Rattle.piper_lines.specs.Moves.{PassesMoves};
 
     /// The frames whose length is four bytes, the most significant first. Nothing is kept yet, and
@@ -151,7 +152,7 @@ impl<R: AsyncBufRead> Frames<R> {
             (R.known (reader_of self.new)) (R.saw (reader_of self.new)) }
         ensures ended { OnFramesEnd result (R.ended (reader_of self.new)) }
         ensures after { FramesAreSpent R.ended self.old →
-            FramesAreSpent R.ended self.new × FramesEndAgain result }
+            FramesAreSpent R.ended self.new × AnswersOrFails FrameAnswer.End result }
         ensures error { IfReadyErr result (λ e. IsReported e (R.fails (reader_of self.new) cx.new)
             (LacksFrameRoom (format_of self.old) limit (header_room_of self.old)
             (body_room_of self.old) (header_of self.new) (body_of self.new)

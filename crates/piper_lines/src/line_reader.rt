@@ -3,9 +3,10 @@ ghost use Rattle.std.specs.Prelude.{◌≡◌, ◌<◌, ◌≤◌, [], length, t
 ghost use Rattle.std.specs.Borrow.{sem};
 ghost use Rattle.futures.specs.Task.{Covers, Keeps};
 ghost use Rattle.futures.specs.Poll.{OnPending};
+ghost use Rattle.piper_lines.specs.AtEnd.{AnswersOrFails};
 ghost use Rattle.piper_lines.specs.Line.{Lacks, IsLine, line_feed};
 ghost use Rattle.piper_lines.specs.Moves.{Moves, Grows};
-ghost use Rattle.piper_lines.specs.LineAnswers.{LinesEndAgain, Gathers, Hands, OnLinesEnd};
+ghost use Rattle.piper_lines.specs.LineAnswers.{Gathers, Hands, OnLinesEnd};
 ghost use Rattle.piper_lines.specs.Refusals.{IsReported, LacksRoom};
 ghost use Rattle.piper_lines.specs.Stays.{ReaderStays, WaitsForBytes};
 ghost use Rattle.piper.specs.Polls.{IfReadyErr};
@@ -126,7 +127,7 @@ impl<R: AsyncBufRead> Lines<R> {
             (R.known (reader_of self.new)) (R.saw (reader_of self.new)) }
         ensures ended { OnLinesEnd result (LinesAreSpent R.ended self.new) }
         ensures after { LinesAreSpent R.ended self.old →
-            LinesAreSpent R.ended self.new × LinesEndAgain result }
+            LinesAreSpent R.ended self.new × AnswersOrFails LineAnswer.End result }
         ensures error { IfReadyErr result (λ e. IsReported e (R.fails (reader_of self.new) cx.new)
             (LacksRoom limit (room_of self.old) (kept_of self.new) (R.known (reader_of self.new)))) }
         ensures pending { OnPending result (Covers cx.new (R.needs (reader_of self.new))
@@ -161,7 +162,7 @@ fn gather<R: AsyncBufRead>(
         (R.known reader.new) (R.saw reader.new) }
     ensures ended { OnLinesEnd result (R.ended reader.new) }
     ensures after { 0 < limit → R.ended reader.old → line.old.items ≡ [] →
-        R.ended reader.new × (line.new.items ≡ []) × LinesEndAgain result }
+        R.ended reader.new × (line.new.items ≡ []) × AnswersOrFails LineAnswer.End result }
     ensures error { IfReadyErr result (λ e. IsReported e (R.fails reader.new cx.new)
         (LacksRoom limit (vec_capacity line.old) line.new.items (R.known reader.new))) }
     ensures stays { ReaderStays R.knows_end R.woken reader.old reader.new }
