@@ -97,7 +97,6 @@ SEALS = {
     "as_synced": ("pump_files/specs/Handle", ["pump_files/proofs/handle/Handle/sync"]),
     "as_resized": ("pump_files/specs/Handle", ["pump_files/proofs/handle/Handle/resize"]),
     "as_empty": ("pump_files/specs/Handle", ["pump_files/proofs/handle/Handle/metadata"]),
-    "as_all_open": ("pump_files/specs/AllOpen", ["pump_files/proofs/all_open/all_open"]),
     "as_made": ("pump_files/specs/Made", ["pump_files/proofs/made/of_file"]),
     "as_said": ("pump_files/specs/Saying", ["pump_files/proofs/saying/say"]),
     "as_lost": ("piper_duplex/specs/Failures", ["piper_duplex/proofs/engine/lost/lost"]),
@@ -110,7 +109,6 @@ SEALS = {
 # These look into sealed definitions, and say only that two pieces of such evidence are the same.
 GIVES_NONE = {
     ("piper_transfer/specs/Threads", "shows_prop"),
-    ("pump_files/specs/AllOpen", "are_all_open_prop"),
     ("pump_files/specs/Made", "was_made_prop"),
     ("piper_pump/specs/CommandLine", "are_words_prop"),
 }

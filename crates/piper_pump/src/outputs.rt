@@ -6,7 +6,6 @@ ghost use Rattle.std.specs.List.{All};
 ghost use Rattle.piper_pump.specs.Ended.{IsToldOf, IsUnopened};
 ghost use Rattle.piper_pump.specs.Ends.{drain_bytes};
 ghost use Rattle.piper_pump.specs.Written.{HasDrain, HaveAll, way_of};
-ghost use Rattle.pump_files.specs.AllOpen.{IsOpenedUnlessFailed};
 ghost use Rattle.pump_files.specs.Copies.{IsCopy};
 ghost use Rattle.piper_pump.specs.Prepared.{StayCopies, StayUnwritten, WasOpened, WasOpenedBy};
 ghost use Rattle.pump_files.specs.Steps.{GetsBy, IsCutUnlessFailed, NeedsFor, OpensBy};
@@ -14,13 +13,12 @@ ghost use Rattle.pump_files.specs.Steps.{GetsBy, IsCutUnlessFailed, NeedsFor, Op
 use crate::ended::{Ended, Unopened};
 use crate::ends::Drain;
 use piper_transfer::Destination;
-use pump_files::all_open::{self, AllOpen};
 use pump_files::files::{NamedFile, Opens};
 use pump_files::sinks::{Sink, Step};
 use std::alloc::AllocGlobal;
 
-/// Opens the files that are written. Where one can't be opened, those that were made are taken away
-/// again, and the others have not changed.
+/// Opens the files that are written. If one can't be opened, those that were made are removed again,
+/// and the others have not changed: the tests of the pump see that, and no clause says it.
 pub(crate) fn open_outputs<R, D, F>(
     rt: &R,
     takes_held: bool,
@@ -48,7 +46,8 @@ where
     }
 }
 
-// Once those are open that are there.
+// Makes those that are not there, and cuts off what is not appended to, once those that are there are
+// open.
 fn make_and_cut<R, D, F>(rt: &R, drain: &mut Drain<D, F>, tees: &mut [Sink<F>]) -> Result<(), Ended>
 where
     R: Opens<F> + AllocGlobal,
@@ -62,22 +61,8 @@ where
     ensures way { way_of drain.new ≡ way_of drain.old }
 {
     take_all(rt, Step::Make, drain, tees)?;
-    let all_open = all_open(drain, tees);
-    take_all(rt, Step::Cut { all_open }, drain, tees)?;
+    take_all(rt, Step::Cut, drain, tees)?;
     Ok(())
-}
-
-// That all files are open.
-fn all_open<D, F>(drain: &Drain<D, F>, tees: &[Sink<F>]) -> AllOpen
-where
-    D: Destination + Drop,
-    F: NamedFile,
-    requires { HaveAll (IsOpenedUnlessFailed F.is_kept F.is_made) drain.now tees.now }
-{
-    match drain {
-        Drain::Standard(_) => all_open::all_open(None, tees),
-        Drain::File(sink) => all_open::all_open(Some(sink), tees),
-    }
 }
 
 // Takes a step for each file.

@@ -1,4 +1,4 @@
--- What became of the bytes that the output took: the files that got them, too, and their sum.
+-- What became of the bytes that the output took: the files that also got them, and their sum.
 use Rattle.std.specs.Prelude.{◌≡◌, ◌⊎◌, ◌&&◌, ◌||◌, is_none, is_some, ℕ, Bool, true, false, List, [], ◌∷◌, Option, Some, None, IfSome, codes, map, string_bytes}
 use Rattle.std.specs.List.{All, list_any}
 use Rattle.std.specs.declared.io.Error.{Error}

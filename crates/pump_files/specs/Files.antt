@@ -1,10 +1,10 @@
 -- What is known of a file.
-use Rattle.std.specs.Prelude.{◌≡◌, ◌⊎◌, ℕ, Bool, true, List, Option, IfSome, IsErr, Result, MatchResult, take}
+use Rattle.std.specs.Prelude.{◌≡◌, ◌⊎◌, ℕ, Bool, false, true, List, Option, IfSome, IsErr, Result, MatchResult, take}
 use Rattle.std.specs.Fs.{new_options, with_append, with_create_new, with_read, with_write}
 use Rattle.std.specs.declared.fs.options.OpenOptions.{OpenOptions}
 use Rattle.std.specs.declared.io.Error.{Error}
 use Rattle.std.specs.Io.KnownBytes.{append_known}
-use Rattle.pump_files.specs.Handle.{HasLength, IsAnswerOf, IsOpenedBy, IsSynced}
+use Rattle.pump_files.specs.Handle.{HasLength, IsAnswerOf, IsOpenedBy, IsSynced, was_cut}
 use Rattle.pump_files.specs.declared.attributes.Attributes.{Attributes}
 use Rattle.pump_files.specs.declared.files.SystemFile.{SystemFile}
 use Rattle.pump_files.specs.declared.files.SystemFile.TheVariants as system
@@ -17,7 +17,7 @@ IsJust known bs = IfSome known (λ xs. xs ≡ bs)
 abbrev pub Writes : {E : Type 0} → Option (List ℕ) → Option (List ℕ) → Result ℕ E → List ℕ → Type 0
 Writes old new r buf = MatchResult r (λ n. new ≡ append_known old (take n buf)) (λ _. new ≡ old)
 
--- ways to open a file: to be read; to be written, as it is, and always behind what it holds or not;
+-- ways to open a file: to be read; to be written, as it is, and always after what it holds or not;
 -- the same, where there is none
 abbrev pub reads : OpenOptions
 reads = with_read new_options true
@@ -32,6 +32,12 @@ makes appends = with_create_new (keeps appends) true
 abbrev pub IsFileOf : OpenOptions → SystemFile → Type 0
 IsFileOf how system.Named = ⊥
 IsFileOf how (system.Open handle) = (name : List ℕ) × IsOpenedBy how name handle
+
+-- the same, and it was not cut off since
+abbrev pub IsUncutFileOf : OpenOptions → SystemFile → Type 0
+IsUncutFileOf how system.Named = ⊥
+IsUncutFileOf how (system.Open handle) =
+    ((name : List ℕ) × IsOpenedBy how name handle) × (was_cut handle ≡ false)
 
 -- the system cut off what it held, or said that it holds nothing, or made it
 abbrev pub IsCutFile : SystemFile → Type 0

@@ -1,6 +1,6 @@
--- What the system did to a file, and what it said of one. All but the first are sealed: no proof looks
+-- What the system did to a file, and what it said of one. All but the first two are sealed: no proof looks
 -- into them, and only those of the calls that are named use the lemmas.
-use Rattle.std.specs.Prelude.{◌≡◌, ◌≢◌, ◌⊎◌, ℕ, List, IfOk, OnOk, Result, Ok, Err, ⊤}
+use Rattle.std.specs.Prelude.{◌≡◌, ◌≢◌, ◌⊎◌, ℕ, Bool, List, IfOk, OnOk, Result, Ok, Err, ⊤}
 use Rattle.std.specs.declared.fs.File.{File}
 use Rattle.std.specs.declared.fs.options.OpenOptions.{OpenOptions}
 use Rattle.std.specs.declared.io.Error.{Error}
@@ -12,6 +12,10 @@ use Rattle.pump_files.specs.declared.handle.Handle.{Handle}
 -- it is no regular file, or one that holds no byte
 abbrev pub HoldsNothing : Attributes → Type 0
 HoldsNothing a = (a.kind ≢ kind.Regular) ⊎ (a.len ≡ 0)
+
+-- it was cut off since it was opened
+abbrev pub was_cut : Handle → Bool
+was_cut handle = handle.was_cut.value
 
 -- the system opened this file by its name, in this way (`Handle::open`)
 pub IsOpenedBy : OpenOptions → List ℕ → Handle → Type 0

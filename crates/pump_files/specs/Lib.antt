@@ -1,4 +1,3 @@
-pub mod AllOpen
 pub mod Attributes
 pub mod Copies
 pub mod Files
@@ -6,6 +5,7 @@ pub mod Found
 pub mod Handle
 pub mod Lines
 pub mod Made
+pub mod Opened
 pub mod Pace
 pub mod Saying
 pub mod Steps

@@ -1,8 +1,8 @@
 -- What is done for each file that is written, before it gets a byte.
 use Rattle.std.specs.Prelude.{◌≡◌, Bool, true, false, Result, ⊤}
 use Rattle.std.specs.declared.io.Error.{Error}
-use Rattle.pump_files.specs.AllOpen.{IsOpenedUnlessFailed}
 use Rattle.pump_files.specs.Found.{IsFound}
+use Rattle.pump_files.specs.Opened.{IsOpenedUnlessFailed}
 use Rattle.pump_files.specs.declared.attributes.Attributes.{Attributes}
 use Rattle.pump_files.specs.declared.found.Found.{Found}
 use Rattle.pump_files.specs.declared.sinks.Sink.{Sink}
@@ -15,13 +15,13 @@ IsCutUnlessFailed is_cut sink =
     sink.has_failed ≡ false → sink.way.appends ≡ false → is_cut sink.file
 
 -- what a step asks of a file: those that are there are open before one is made, and all are before
--- one is cut off. A file that was given up is left out
+-- one is cut off; none that is there was cut off before. A file that was given up is left out
 abbrev pub NeedsFor : {F : Type 0} → Step → (Bool → F → Type 0) → (Bool → F → Type 0)
     → Sink F → Type 0
 NeedsFor (step.Open takes_held) is_kept is_made sink = ⊤
 NeedsFor step.Make is_kept is_made sink =
     sink.has_failed ≡ false → sink.is_there ≡ true → is_kept sink.way.appends sink.file
-NeedsFor (step.Cut all_open) is_kept is_made sink = IsOpenedUnlessFailed is_kept is_made sink
+NeedsFor step.Cut is_kept is_made sink = IsOpenedUnlessFailed is_kept is_made sink
 
 -- what holds of it after the step
 abbrev pub GetsBy : {F : Type 0} → Step → (Bool → F → Type 0) → (Bool → F → Type 0)
@@ -29,8 +29,7 @@ abbrev pub GetsBy : {F : Type 0} → Step → (Bool → F → Type 0) → (Bool 
 GetsBy (step.Open takes_held) is_kept is_made is_cut sink =
     sink.has_failed ≡ false → sink.is_there ≡ true → is_kept sink.way.appends sink.file
 GetsBy step.Make is_kept is_made is_cut sink = IsOpenedUnlessFailed is_kept is_made sink
-GetsBy (step.Cut all_open) is_kept is_made is_cut sink =
-    IsCutUnlessFailed is_cut sink × IsOpenedUnlessFailed is_kept is_made sink
+GetsBy step.Cut is_kept is_made is_cut sink = IsCutUnlessFailed is_cut sink
 
 -- what the system answered of the open file: it is the one that was looked at by its name, and it
 -- holds nothing, unless files that hold bytes are taken

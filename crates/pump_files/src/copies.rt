@@ -17,7 +17,7 @@ use std::time::Clock;
 #[derive(Drop)]
 pub struct Copies<'a, R: Clock + Eprint, F: NamedFile> {
     rt: &'a R,
-    /// The files that get them, too.
+    /// The files that also get them.
     pub tees: Vec<Sink<F>>,
     /// The sum of what passed, if it is wanted.
     pub sum: Option<Sha256>,

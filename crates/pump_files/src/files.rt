@@ -3,10 +3,9 @@ ghost use Rattle.std.specs.Prelude.{◌≡◌, ◌<◌, ℕ, List, [], false, le
 ghost use Rattle.std.specs.Io.{ReadsAtMost, WritesAtMost};
 ghost use Rattle.std.specs.Io.KnownBytes.{append_known, ReadConsumes};
 ghost use Rattle.piper_protocol.specs.Reported.{HasFailed, IsOfStd};
-ghost use Rattle.pump_files.specs.Files.{IsAnswerOfFile, IsCutFile, IsFileOf, IsJust, IsSyncedFile, Writes, keeps, makes, reads};
+ghost use Rattle.pump_files.specs.Files.{IsAnswerOfFile, IsCutFile, IsFileOf, IsJust, IsSyncedFile, IsUncutFileOf, Writes, keeps, makes, reads};
 ghost use Rattle.pump_files.specs.Handle.{HoldsNothing, IsAnswerFor};
 
-use crate::all_open::AllOpen;
 use crate::attributes::Attributes;
 use crate::handle::{Handle, ask};
 use crate::made::StillNamed;
@@ -30,8 +29,8 @@ pub trait NamedFile: Drop {
     // it was opened to be read alone
     ghost is_read: { Self → Type 0 } = { λ _. ⊤ };
 
-    // it was there and was opened to be written, which left what it holds. The `Bool` says whether
-    // all that is written follows that
+    // it was there and was opened to be written, which left what it holds, and it was not cut off since.
+    // The `Bool` says whether all that is written follows that
     ghost is_kept: { Bool → Self → Type 0 } = { λ _ _. ⊤ };
 
     // it was not there, and was made, with the same `Bool`
@@ -75,11 +74,9 @@ pub trait NamedFile: Drop {
         ensures error { IfErr result (fails self.new) }
         ensures reported { IsOfStd result };
 
-    /// Cuts off what it held where it was opened, which waits until all files are open.
-    fn cut(&mut self, all_open: AllOpen) -> io::Result<()>
+    /// Cuts off what it held when it was opened.
+    fn cut(&mut self) -> io::Result<()>
         ensures cut { OnOk result (is_cut self.new) }
-        ensures opened { (is_kept false self.old → is_kept false self.new)
-            × ((appends : Bool) → is_made appends self.old → is_made appends self.new) }
         ensures name { name self.new ≡ name self.old }
         ensures bytes { written self.new ≡ written self.old }
         ensures error { IfErr result (fails self.new) }
@@ -168,7 +165,7 @@ pub enum SystemFile {
 impl NamedFile for SystemFile {
     ghost is_read = { IsFileOf reads };
 
-    ghost is_kept = { λ appends. IsFileOf (keeps appends) };
+    ghost is_kept = { λ appends. IsUncutFileOf (keeps appends) };
 
     ghost is_made = { λ appends. IsFileOf (makes appends) };
 
@@ -192,9 +189,9 @@ impl NamedFile for SystemFile {
         }
     }
 
-    fn cut(&mut self, all_open: AllOpen) -> io::Result<()> {
+    fn cut(&mut self) -> io::Result<()> {
         match self {
-            SystemFile::Open(file) => file.cut(all_open),
+            SystemFile::Open(file) => file.cut(),
             SystemFile::Named => reported(Err(not_open())),
         }
     }

@@ -1,21 +1,23 @@
 //! A file of the system that is open, and what the system says of a name. The calls of this file alone
 //! ask it for that: so each answer is one of the file, or of the name, that was asked about.
-ghost use Rattle.std.specs.Prelude.{OnOk, IfOk, IfErr};
+ghost use Rattle.std.specs.Prelude.{◌≡◌, OnOk, IfOk, IfErr, false, true};
 ghost use Rattle.std.specs.Io.{ReadsAtMost, WritesAtMost};
 ghost use Rattle.piper_protocol.specs.Reported.{HasFailed, IsOfStd};
-ghost use Rattle.pump_files.specs.Handle.{HasLength, HoldsNothing, IsAnswerFor, IsAnswerOf, IsOpenedBy, IsSynced};
+ghost use Rattle.pump_files.specs.Handle.{HasLength, HoldsNothing, IsAnswerFor, IsAnswerOf, IsOpenedBy, IsSynced, was_cut};
 
-use crate::all_open::AllOpen;
 use crate::attributes::{Attributes, attributes_of};
 use piper_protocol::reported::reported;
 use std::fs::{File, Files, OpenOptions};
 use std::io::{Read, Write};
+use std::snapshot::Snapshot;
 use std::{fs, io};
 
 /// A file of the system that is open.
 #[derive(Drop)]
 pub struct Handle {
     file: File,
+    // Whether it was cut off since it was opened.
+    was_cut: Snapshot<bool>,
 }
 
 impl Handle {
@@ -24,10 +26,14 @@ impl Handle {
     where
         R: Files<File = File>,
         ensures opened { IfOk result (IsOpenedBy how.now name.now) }
+        ensures uncut { IfOk result (λ handle. was_cut handle ≡ false) }
         ensures failed { IfErr result HasFailed }
     {
         let file = reported(how.open(files, name))?;
-        Ok(Handle { file })
+        Ok(Handle {
+            file,
+            was_cut: Snapshot::of(&false),
+        })
     }
 
     /// What the system reports of it.
@@ -40,11 +46,13 @@ impl Handle {
         reported(self.file.metadata().map(|found| attributes_of(&found)))
     }
 
-    /// Cuts off what it holds, once all files are open.
-    pub(crate) fn cut(&self, _all_open: AllOpen) -> io::Result<()>
-        ensures cut { OnOk result (HasLength 0 self.now) }
+    /// Cuts off what it holds.
+    pub(crate) fn cut(&mut self) -> io::Result<()>
+        ensures cut { OnOk result (HasLength 0 self.new) }
+        ensures noted { was_cut self.new ≡ true }
         ensures reported { IsOfStd result }
     {
+        self.was_cut = Snapshot::of(&true);
         self.resize(0)
     }
 

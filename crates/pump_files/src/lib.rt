@@ -2,7 +2,6 @@
 //! reports of each, the copies of what passes, and the rate that is kept.
 #![tactic(auto)]
 
-pub mod all_open;
 pub mod attributes;
 pub mod copies;
 pub mod files;

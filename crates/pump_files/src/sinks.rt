@@ -7,12 +7,11 @@ ghost use Rattle.piper_protocol.specs.Reported.{HasFailed, IsOfStd};
 ghost use Rattle.pump_files.specs.Copies.{IsCopy, IsFlushedOrFailed, SameSink};
 ghost use Rattle.pump_files.specs.Files.{Writes};
 ghost use Rattle.pump_files.specs.Found.{IsFound};
-ghost use Rattle.pump_files.specs.AllOpen.{IsOpened};
 ghost use Rattle.pump_files.specs.Handle.{IsAnswerFor};
 ghost use Rattle.pump_files.specs.Lines.{IsLossSaid};
+ghost use Rattle.pump_files.specs.Opened.{IsOpened};
 ghost use Rattle.pump_files.specs.Steps.{GetsBy, IsAsLookedAt, NeedsFor, OpensBy};
 
-use crate::all_open::AllOpen;
 use crate::attributes::{Attributes, Kind};
 use crate::files::{NamedFile, Opens};
 use crate::found::Found;
@@ -28,7 +27,7 @@ use std::{fmt, io};
 /// What is said of a file that holds bytes, if such files are not taken.
 pub const HOLDS_BYTES: &str = "it holds bytes, which --force overwrites and --append keeps";
 
-/// What is said of a folder. One is put in the place of a standard stream that is closed, too.
+/// What is said of a folder. One is also put in the place of a standard stream that is closed.
 pub const FOLDER: &str = "it is a folder, or a standard stream that is closed";
 
 /// How a file is written.
@@ -49,7 +48,7 @@ pub enum Step {
     /// It is made if it is not there.
     Make,
     /// What it holds is cut off once all are open, unless it is appended to.
-    Cut { all_open: AllOpen },
+    Cut,
 }
 
 /// That a copy can't be written, and gets no more.
@@ -135,7 +134,7 @@ impl<F: NamedFile> Sink<F> {
         match step {
             Step::Open { takes_held } => self.open(rt, takes_held),
             Step::Make => self.make(rt),
-            Step::Cut { all_open } => self.cut(all_open),
+            Step::Cut => self.cut(),
         }
     }
 
@@ -266,11 +265,9 @@ impl<F: NamedFile> Sink<F> {
     }
 
     // Cuts off what it holds, unless what is written follows that.
-    fn cut(&mut self, all_open: AllOpen) -> io::Result<()>
+    fn cut(&mut self) -> io::Result<()>
         ensures same { SameSink F.name self.old self.new }
         ensures bytes { F.written self.new.file ≡ F.written self.old.file }
-        ensures opened { IsOpened F.is_kept F.is_made self.old
-            → IsOpened F.is_kept F.is_made self.new }
         ensures cut { OnOk result (self.old.way.appends ≡ false → F.is_cut self.new.file) }
     {
         if self.way.appends {
@@ -278,7 +275,7 @@ impl<F: NamedFile> Sink<F> {
         }
         let attributes = self.file.attributes()?;
         if attributes.kind == Kind::Regular && 0 < attributes.len {
-            self.file.cut(all_open)?;
+            self.file.cut()?;
         }
         Ok(())
     }
@@ -344,7 +341,7 @@ where
         return error;
     }
     match rt.look(name) {
-        Ok(_) => io::Error::other("it is another output, too, or was made by another program"),
+        Ok(_) => io::Error::other("it is also another output, or was made by another program"),
         Err(_) => io::Error::other("it is a link to a file that is not there"),
     }
 }
