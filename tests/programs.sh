@@ -167,7 +167,7 @@ note 'it is told as sha256sum does, by its name' eval 'sha256sum -c told > /dev/
 try 'the sum of a file with an odd name' 20 0 '' '$pump --sha256 -o $'"'a\\\\b\\nc\\rd'"' < short'
 note 'it is told in one line, as sha256sum does' test "$(cat told)" = "\\$(sha256sum < short | cut -c1-64)  "'a\\b\nc\rd'
 try_silent 'the help' 10 0 '$pump --help'
-note 'the help tells what a signal costs' grep -q 'is lost where a signal ends it' out
+note 'the help tells what a signal costs' grep -q 'A signal that ends it loses what it holds' out
 
 # A small stack, and a rate of single bytes.
 try 'a small stack' 20 0 "$(sha256sum < short | cut -c1-64)" 'ulimit -s 16; $pump --sha256 < short > /dev/null'

@@ -89,7 +89,7 @@ try 'a second file' 10 2 "unexpected argument 'file'" 'echo old > h; $pump --for
 try 'a file with and without its option' 10 2 "the argument '.FILE.' cannot be used with '--input <FILE>'" '$pump --force -o h file -i file'
 note 'what the file held stays' test "$(cat h)" = old
 try 'a file without an option that is not there' 10 3 '^piper_pump: no/such/file: No such' '$pump --force -o h no/such/file'
-try 'an input without an option that is the output' 10 4 'it is the input, another output' '$pump --force h -o h'
+try 'an input without an option that is the output' 10 4 'it is also the input, another output' '$pump --force h -o h'
 note 'what the file held stays' test "$(cat h)" = old
 
 # What is reported.
@@ -286,15 +286,15 @@ try_silent 'reports into the pipe that the bytes go into' 10 0 '$pump -i src --s
 # Devices and FIFOs.
 mkfifo fifo1
 cat fifo1 > /dev/null &
-try 'two copies to one FIFO' 10 4 '^piper_pump: fifo1: it is the input, another output' '$pump -i src -o tee3 --tee fifo1 --tee fifo1'
+try 'two copies to one FIFO' 10 4 '^piper_pump: fifo1: it is also the input, another output' '$pump -i src -o tee3 --tee fifo1 --tee fifo1'
 kill $! 2> /dev/null
 truncate -s 1M image
 loop=$(losetup -f --show image 2> /dev/null)
 if [ -n "$loop" ]; then
     try 'a block device' 10 4 "^piper_pump: $loop: it holds bytes" "\$pump -i src -o $loop"
-    try 'a block device as the input and the output' 10 4 'it is the input, another output' "\$pump --force -i $loop -o $loop"
+    try 'a block device as the input and the output' 10 4 'it is also the input, another output' "\$pump --force -i $loop -o $loop"
     mknod node b "$((0x$(stat -c %t "$loop")))" "$((0x$(stat -c %T "$loop")))" 2> /dev/null &&
-        try 'a block device by two names' 10 4 'it is the input, another output' "\$pump --force -i src -o $loop --tee node"
+        try 'a block device by two names' 10 4 'it is also the input, another output' "\$pump --force -i src -o $loop --tee node"
     try_silent 'a block device that is overwritten' 10 0 "\$pump --force -i src -o $loop && cmp -n 100000 src $loop"
     losetup -d "$loop"
 else
@@ -324,7 +324,7 @@ note 'a sum that can not be told' test $? -eq 7
 timeout 10 bash -c '$pump -i src --sha256 > /dev/null 2>&-'
 note 'a sum that nobody hears' test $? -eq 7
 try 'memory for the words is refused' 10 6 'out of memory' 'for kib in 3000 3200 3400 3600 3800 4000; do (ulimit -v $kib; $pump --help > /dev/null 2> told1); [ $? -eq 2 ] && exit 2; done; (ulimit -v 8192; $pump --capacity 64M < src)'
-try 'one new file under two names' 10 4 '^piper_pump: ./q: it is another output, too' '$pump -i src -o q --tee ./q'
+try 'one new file under two names' 10 4 '^piper_pump: ./q: it is also another output' '$pump -i src -o q --tee ./q'
 note 'it is not made' test ! -e q
 ln -s nowhere dangling
 try 'a link to no file' 10 4 '^piper_pump: dangling: it is a link to a file that is not there' '$pump --force -i src -o dangling'

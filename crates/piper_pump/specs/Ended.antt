@@ -49,6 +49,15 @@ IsUnopened (ended.NoOutput file) = ⊤
 IsUnopened ended.Memory = HasFailed ended.Memory
 IsUnopened other = ⊥
 
+-- the same failure of the same file is reported again, or memory was refused
+abbrev pub IsAgain : Ended → Ended → Type 0
+IsAgain (ended.NoInput file) (ended.NoInput again) =
+    (string_bytes again.name ≡ string_bytes file.name) × (again.error ≡ file.error)
+IsAgain (ended.NoOutput file) (ended.NoOutput again) =
+    (string_bytes again.name ≡ string_bytes file.name) × (again.error ≡ file.error)
+IsAgain old ended.Memory = HasFailed ended.Memory
+IsAgain old new = ⊥
+
 -- a call of std failed with the error that is reported of a file, or memory was refused
 abbrev pub IsOfFailure : Ended → Type 0
 IsOfFailure (ended.NoInput file) = HasFailed file.error

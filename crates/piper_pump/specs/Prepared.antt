@@ -20,7 +20,7 @@ pub record StayCopies {F : Type 0}
   pub names : names_of new ≡ names_of old
   pub ways : map (λ sink. sink.way) new ≡ map (λ sink. sink.way) old
 
--- the output got no byte, either; and where a file can't be opened, the run ends by that
+-- neither the output nor a copy got a byte; if a file can't be opened, that ends the run
 pub record StayUnwritten {F : Type 0}
     (name written : F → Option (List ℕ))
     (fails : F → Error → Type 0)
@@ -31,7 +31,7 @@ pub record StayUnwritten {F : Type 0}
   pub stay : OnOk result (StayCopies name written fails old new)
   pub early : IfErr result IsUnopened
 
--- the step has opened the file, if it is the one that opens: what the system answered then
+-- if the step is the one that opens, it opened the file: what the system answered of it then
 abbrev pub WasOpenedBy : {F : Type 0} → Step → (F → Result Attributes Error → Type 0)
     → Sink F → Type 0
 WasOpenedBy {F} step answers old = (new : Sink F) × OpensBy step answers old new

@@ -2,7 +2,7 @@
 ghost use Rattle.std.specs.Prelude.{◌≡◌, IfErr, IfOk, string_bytes};
 ghost use Rattle.std.specs.Process.{exit_status};
 ghost use Rattle.piper_protocol.specs.Reported.{HasFailed};
-ghost use Rattle.piper_pump.specs.Ended.{EndsAs, HasStatus, IsOfOption, IsOfPrint, IsOfRange, IsShown, IsUnopened};
+ghost use Rattle.piper_pump.specs.Ended.{EndsAs, HasStatus, IsAgain, IsOfOption, IsOfPrint, IsOfRange, IsShown, IsUnopened};
 ghost use Rattle.piper_pump.specs.Why.{IsWhySaid, SaysWhy, is_printable, why_text};
 
 use piper_protocol::reported::reported;
@@ -36,7 +36,11 @@ impl Unopened {
     }
 
     fn try_clone(&self, alloc: Global) -> Result<Unopened, Ended>
-        ensures { IfErr result IsUnopened }
+        ensures named { IfOk result (λ file.
+            string_bytes file.name ≡ string_bytes self.now.name) }
+        ensures error { IfOk result (λ file. file.error ≡ self.now.error) }
+        ensures memory { IfErr result (λ e. e ≡ Ended.Memory) }
+        ensures refused { IfErr result HasFailed }
     {
         Unopened::new(alloc, self.name.as_str(), self.error)
     }
@@ -121,7 +125,8 @@ impl Ended {
 
     /// The same again, of an end for a file that can't be opened.
     pub(crate) fn try_clone(&self, alloc: Global) -> Ended
-        ensures { IsUnopened self.now → IsUnopened result }
+        ensures unopened { IsUnopened self.now → IsUnopened result }
+        ensures again { IsUnopened self.now → IsAgain self.now result }
     {
         match self {
             Ended::NoInput(file) => match file.try_clone(alloc) {

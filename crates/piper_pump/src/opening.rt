@@ -288,7 +288,7 @@ where
     }
 }
 
-// Looks at the files that get what passes, too.
+// Looks at the files that also get what passes.
 fn look_at_tees<R, F>(
     rt: &R,
     alloc: Global,

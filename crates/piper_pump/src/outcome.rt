@@ -1,6 +1,6 @@
 //! What the first thread waits for: the end of the run, or a failed output, after which the run can
 //! end late, since a read that is under way is not cut short.
-ghost use Rattle.std.specs.Prelude.{IfErr, IfSome};
+ghost use Rattle.std.specs.Prelude.{◌≡◌, IfErr, IfSome, None};
 ghost use Rattle.std.specs.Process.{exit_status};
 ghost use Rattle.piper_pump.specs.Ended.{IsOfFailure};
 ghost use Rattle.piper_pump.specs.Outcome.{EndsBy, IsOfRun, IsTold, OutputFailed, ReportsRun};
@@ -96,7 +96,8 @@ impl Failed {
 impl Told {
     // How the program ends by that, if it was reported.
     fn into_ended(self) -> Option<Ended>
-        ensures { IfSome result IsTold }
+        ensures told { IfSome result IsTold }
+        ensures nothing { result ≡ None → self ≡ Told.Nothing }
     {
         match self {
             Told::Over(over) => Some(over.into_ended()),

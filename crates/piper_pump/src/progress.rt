@@ -254,7 +254,7 @@ impl Progress {
     // How much of all that comes has passed, and how long the rest takes; that is left out at the
     // end, and where none comes. Where more came than was reported, it is not known how much does.
     fn done(&self, bytes: u64, is_last: bool) -> Option<Done>
-        ensures { IsSome result → IsSomeAnd self.now.watched.total (λ total. bytes ≤ total) }
+        ensures { IsSome result ↔ IsSomeAnd self.now.watched.total (λ total. bytes ≤ total) }
     {
         let total = self.watched.total.filter(|total| bytes <= *total)?;
         let average = self.average.unwrap_or(0);

@@ -14,7 +14,7 @@ use std::alloc::Global;
 use std::io;
 
 /// What is said of a file that is named twice.
-const SHARED: &str = "it is the input, another output or standard error, too";
+const SHARED: &str = "it is also the input, another output or standard error";
 
 /// What is said of a standard stream whose file the system does not tell.
 const UNTOLD: &str = "it can't be told from the other files without /proc";

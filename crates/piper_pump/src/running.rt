@@ -58,9 +58,8 @@ pub struct Plan {
 /// named. One that was closed, and would be used, ends it.
 ///
 /// Words that are refused end it before a byte is moved. Else it ends as the transfer does: with
-/// success only where all that the input gave was written and flushed, and each copy, too, and their
-/// sum was reported, if that is wanted.
-/// Progress, told or not, changes neither.
+/// success only if all that the input gave was written and flushed, also to each copy, and their sum
+/// was reported, if that is wanted. Progress, told or not, changes neither.
 pub fn run<R, F, S, D>(
     rt: &R,
     words: &[String],

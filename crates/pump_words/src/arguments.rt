@@ -18,10 +18,10 @@ const STATUSES: &str = "Exit status:
   3  the input failed, is closed or can't be opened; what came before was written
   4  the output failed, is closed or full; or a file can't be written or is refused
   6  memory was refused
-  7  all bytes were moved, but a file by --tee did not get them, or the sum could not be told
+  7  all bytes were moved, but a file of --tee did not get them, or the sum could not be told
   141  the program that reads the output has ended, which is not told
 
-What it holds is lost where a signal ends it: at most its capacity";
+A signal that ends it loses what it holds: at most its capacity";
 
 /// What is told of an input that is named twice.
 const TWO_INPUTS: &str = "the argument '[FILE]' cannot be used with '--input <FILE>'";
@@ -31,7 +31,7 @@ const TWO_INPUTS: &str = "the argument '[FILE]' cannot be used with '--input <FI
 pub struct Arguments<'a> {
     pub amounts: Amounts,
     pub shows_progress: bool,
-    /// Whether progress is told as a number, which asks for it, too.
+    /// Whether progress is told as a number, which also asks for it.
     pub tells_number: bool,
     pub is_quiet: bool,
     pub shows_sum: bool,
@@ -42,7 +42,7 @@ pub struct Arguments<'a> {
     /// Whether files are on their devices before the program ends.
     pub syncs: bool,
     pub texts: Texts<'a>,
-    /// The files that get what passes, too.
+    /// The files that also get what passes.
     pub tees: Vec<&'a str>,
 }
 
@@ -196,7 +196,7 @@ fn command<'a>(alloc: Global) -> Result<Command<'a>, Error>
         .arg(flag(
             alloc,
             "append",
-            "Writes behind the bytes that files hold, also with --force",
+            "Writes after the bytes that files hold, also with --force",
         ))?;
     Ok(with_progress(alloc, command)?)
 }
@@ -345,7 +345,7 @@ fn tee_option<'a>(alloc: Global) -> Arg<'a>
     Arg::new(alloc, "tee")
         .long("tee")
         .value_name("FILE")
-        .help("Writes what passes to this file, too; it may be given more than once")
+        .help("Also writes what passes to this file; it may be given more than once")
         .action(ArgAction::Append)
 }
 

@@ -9,7 +9,7 @@ use Rattle.piper_pump.specs.Written.{HaveAll}
 use Rattle.piper_pump.proofs.ends.Outlet.open.Goals as goal
 
 pub fail-requires : goal.fail-requires
-fail-requires g c = as_failed_so (λ e. ⊥) ⊥ _ (c.try_clone-told.ensures c.in-Err.ensures.stay.early)
+fail-requires g c = as_failed_so (λ e. ⊥) ⊥ _ (c.try_clone-told.ensures.unopened c.in-Err.ensures.stay.early)
 
 pub returns-in-Ok-clause-took : goal.returns-in-Ok-clause-took
 returns-in-Ok-clause-took g c = λ parts passed.
