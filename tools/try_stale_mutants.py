@@ -3,9 +3,11 @@
 
     tools/try_stale_mutants.py [MINUTES [JOBS]]
 
-With no number it takes three minutes, and tries one at a time. It tries those of crates that a check has proved
-here (out/ keeps the proofs), the cheapest first, each in a copy over those proofs, and ends in time: a try that
-is cut off counts as none. The last line is 'stale mutants: N tried, M left'. The status is 1 if one is not refused.
+With no number it takes three minutes, and runs one check at a time. It tries those of crates that a check has
+proved here (out/ keeps the proofs), the cheapest first, in a copy over those proofs, and ends in time: a check that
+is cut off counts as none. One check tries several mutants that lie in functions of their own. One of which such a
+check says nothing is tried alone. The last line is 'stale mutants: N tried, M left'. The status is 1 if one is not
+refused.
 """
 import re
 import shutil
@@ -18,6 +20,7 @@ from concurrent.futures import ThreadPoolExecutor
 from pathlib import Path
 
 sys.dont_write_bytecode = True  # nothing of ours beside the tools
+import edits
 import verdicts
 from verdicts import TOP
 
@@ -26,7 +29,8 @@ PLACE = re.compile(r"(?:note: )?\S+:\d+:\d+:")
 # What `rt must-fail` says of a proof file that names what the mutant takes away.
 NAMES = re.compile(r"(?:\./)?proofs/.*(?:has no field|is not in scope|has no `|was not admitted)")
 
-ONE_WRITES = threading.Lock()
+# How many mutants one check tries at most.
+AT_ONCE = 10
 
 
 def minutes():
@@ -59,62 +63,98 @@ def with_kept(folder, crate):
             shutil.copytree(kept, there, symlinks=True)
 
 
-def edited(edit, crate):
-    """The files that a mutant changes, as they were and as it makes them."""
-    before, after, path, old = {}, {}, None, None
-    for line in edit.read_text().splitlines():
-        word, _colon, rest = line.partition(":")
-        rest = rest.removeprefix(" ")
-        if word == "file":
-            path = crate / rest
-            before.setdefault(path, path.read_text())
-            after.setdefault(path, before[path])
-        elif word == "old":
-            old = rest
-        elif word == "new":
-            after[path] = after[path].replace(old, rest, 1)
-    return before, after
-
-
-def tried(edit, crate, seconds):
-    """What the prover says of a mutant, or None where the time is over."""
-    before, after = edited(edit, crate)
+def checked(mutants, crate, seconds):
+    """What a check of the crate prints with these mutants in it, and whether it passes; None if the time is over."""
+    before, after = edits.edited(mutants, crate)
     try:
         for path, text in after.items():
             path.write_text(text)
-        ran = subprocess.run(["rt", "check"], cwd=crate, stdin=subprocess.DEVNULL, stdout=subprocess.PIPE,
+        ran = subprocess.run(["rt", "check", "--jobs", "1"], cwd=crate, stdin=subprocess.DEVNULL, stdout=subprocess.PIPE,
                              stderr=subprocess.STDOUT, text=True, errors="replace", timeout=seconds)
     except subprocess.TimeoutExpired:
         return None
     finally:
         for path, text in before.items():
             path.write_text(text)
-    lines = ran.stdout.splitlines()
-    if ran.returncode == 0:
+    return ran.stdout.splitlines(), ran.returncode == 0
+
+
+def refusals(lines):
+    """The messages that say of a proof that it fails, if the prover came so far."""
+    if not any(line.startswith("logic=not-proved") for line in lines):
+        return []
+    return [it for it in lines if PLACE.match(it) and (": error" in it or it.startswith("note: "))]
+
+
+def verdict_alone(lines, passes):
+    """What a check says of the only mutant in it."""
+    if passes:
         return verdicts.PROVED
     if not any(line.startswith("logic=not-proved") for line in lines):
         return verdicts.UNREAD
-    told = [it for it in lines if PLACE.match(it) and (": error" in it or it.startswith("note: "))]
+    told = refusals(lines)
     others = [it for it in told if not NAMES.match(it)]
     if told and not others:
         return verdicts.BY_NAMES
     return verdicts.refusal(others[0]) if others else verdicts.REFUSED
 
 
-def try_in_turn(order, left, end, count):
-    """Tries what is next in `order`, over and over, in a copy of its own. It counts the verdicts by kind."""
-    with tempfile.TemporaryDirectory(prefix="stale-") as room:
-        copied(Path(room))
-        while order and time.monotonic() < end:
-            crate, name = key = order.pop(0)
-            with_kept(Path(room), crate)
-            what = tried(left[key], Path(room) / "crates" / crate, max(end - time.monotonic(), 0))
-            if what is None:
-                return
-            with ONE_WRITES:
-                verdicts.keep({key: what}, Path(room))
+def verdicts_apart(lines, group):
+    """What a check says of mutants in functions of their own. Those of which it says nothing are left out."""
+    found = {}
+    for key, functions in group.items():
+        told = [it for it in refusals(lines) if any(of.has(it) for of in functions) and not NAMES.match(it)]
+        if told:
+            found[key] = verdicts.refusal(told[0])
+    return found
+
+
+class Round:
+    """The mutants that are still to be tried, which several threads take from."""
+
+    def __init__(self, crates, left, end):
+        self.crates, self.left, self.end = crates, left, end
+        self.alone, self.tried = [], []
+        self.lock = threading.Lock()
+
+    def group(self):
+        """The next ones: those of one crate that lie in functions of their own, or one alone."""
+        with self.lock:
+            if self.alone:
+                key, edit = self.alone.pop()
+                return key[0], {key: edit}, None
+            for crate in self.crates:
+                here = {key: edit for key, edit in sorted(self.left.items()) if key[0] == crate}
+                if here:
+                    group = edits.apart(here, TOP / "crates" / crate, AT_ONCE)
+                    return crate, {key: self.left.pop(key) for key in group}, group if len(group) > 1 else None
+            return None
+
+    def keep(self, found, room):
+        with self.lock:
+            verdicts.keep(found, room)
+            for (crate, name), what in found.items():
                 print(f"{crate}/{name}: {what}", flush=True)
-                count.append(what.startswith(verdicts.REFUSED))
+                self.tried.append(what.startswith(verdicts.REFUSED))
+
+    def run(self):
+        """Tries group after group, in a copy of its own."""
+        with tempfile.TemporaryDirectory(prefix="stale-") as folder:
+            room = Path(folder)
+            copied(room)
+            while time.monotonic() < self.end and (taken := self.group()):
+                crate, mutants, group = taken
+                with_kept(room, crate)
+                said = checked(mutants.values(), room / "crates" / crate, max(self.end - time.monotonic(), 0))
+                if said is None:
+                    return
+                if group is None:
+                    self.keep({key: verdict_alone(*said) for key in mutants}, room)
+                    continue
+                found = verdicts_apart(said[0], group)
+                self.keep(found, room)
+                with self.lock:
+                    self.alone += [(key, edit) for key, edit in mutants.items() if key not in found]
 
 
 def main(words):
@@ -124,14 +164,14 @@ def main(words):
     end = time.monotonic() + 60 * float(words[0] if words else 3)
     jobs = int(words[1]) if len(words) > 1 else 1
     cost, left = minutes(), verdicts.stale()
-    order = sorted((key for key in left if is_proved(key[0])), key=lambda key: (cost.get(key[0], 9), key))
-    are_refused = []
+    crates = sorted({crate for crate, _name in left if is_proved(crate)}, key=lambda crate: (cost.get(crate, 9), crate))
+    mutants = Round(crates, {key: edit for key, edit in left.items() if key[0] in crates}, end)
     with ThreadPoolExecutor(jobs) as pool:
-        runs = [pool.submit(try_in_turn, order, left, end, are_refused) for _ in range(jobs)]
+        runs = [pool.submit(mutants.run) for _ in range(jobs)]
     for run in runs:
         run.result()
-    print(f"stale mutants: {len(are_refused)} tried, {len(left) - len(are_refused)} left")
-    return 0 if all(are_refused) else 1
+    print(f"stale mutants: {len(mutants.tried)} tried, {len(left) - len(mutants.tried)} left")
+    return 0 if all(mutants.tried) else 1
 
 
 if __name__ == "__main__":
