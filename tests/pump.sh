@@ -32,6 +32,9 @@ try 'a full output on one thread' 20 4 'writing the output failed' '$alone prlim
 try 'a failing input on one thread' 20 3 'reading the input failed' '$alone prlimit --nproc=1 $pump < /'
 try_silent 'a closed output on one thread' 20 141 '$alone prlimit --nproc=1 $pump < file | head -c 10 > /dev/null; exit ${PIPESTATUS[0]}'
 try 'progress on one thread' 20 0 'MiB' '$alone prlimit --nproc=1 $pump --progress < file > /dev/null'
+try 'lines of progress on one thread' 20 0 '; 100%' '$alone prlimit --nproc=1 $pump --progress --rate 3m < file > /dev/null'
+count=$(wc -l < told)
+note "in a second and a half $count lines on one thread" test "$count" -ge 3 -a "$count" -le 9
 try 'too little memory' 20 6 'out of memory' 'prlimit --as=8192000 $pump --capacity 64M < file'
 
 # Ends that fail.

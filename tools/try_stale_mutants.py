@@ -55,10 +55,16 @@ def copied(folder):
 
 
 def with_kept(folder, crate):
-    """Gives the copy what checks have kept of a crate and of those below it."""
+    """Gives the copy what checks have kept of a crate and of all those below it."""
     listed = dict(re.findall(r"^(\w+)[^:\n]*:(.*)$", (TOP / "crates.txt").read_text(), re.M))
-    for it in [crate, *listed[crate].split()]:
+    wanted, seen = [crate], set()
+    while wanted:
+        it = wanted.pop()
         kept, there = TOP / "crates" / it / "out", folder / "crates" / it / "out"
+        if it in seen or it not in listed:
+            continue
+        seen.add(it)
+        wanted += listed[it].split()
         if kept.is_dir() and not there.exists():
             shutil.copytree(kept, there, symlinks=True)
 
