@@ -2,7 +2,7 @@
 use Rattle.std.specs.Prelude.{◌≡◌, Bool, true, false, Result, ⊤}
 use Rattle.std.specs.declared.io.Error.{Error}
 use Rattle.pump_files.specs.Found.{IsFound}
-use Rattle.pump_files.specs.Opened.{IsOpenedUnlessFailed}
+use Rattle.pump_files.specs.Opened.{IsOpened, IsOpenedUnlessFailed}
 use Rattle.pump_files.specs.declared.attributes.Attributes.{Attributes}
 use Rattle.pump_files.specs.declared.found.Found.{Found}
 use Rattle.pump_files.specs.declared.sinks.Sink.{Sink}
@@ -23,13 +23,15 @@ NeedsFor step.Make is_kept is_made sink =
     sink.has_failed ≡ false → sink.is_there ≡ true → is_kept sink.way.appends sink.file
 NeedsFor step.Cut is_kept is_made sink = IsOpenedUnlessFailed is_kept is_made sink
 
--- what holds of it after the step
+-- what holds of it after the step: one that is appended to was not cut off
 abbrev pub GetsBy : {F : Type 0} → Step → (Bool → F → Type 0) → (Bool → F → Type 0)
     → (F → Type 0) → Sink F → Type 0
 GetsBy (step.Open takes_held) is_kept is_made is_cut sink =
     sink.has_failed ≡ false → sink.is_there ≡ true → is_kept sink.way.appends sink.file
 GetsBy step.Make is_kept is_made is_cut sink = IsOpenedUnlessFailed is_kept is_made sink
-GetsBy step.Cut is_kept is_made is_cut sink = IsCutUnlessFailed is_cut sink
+GetsBy step.Cut is_kept is_made is_cut sink =
+    IsCutUnlessFailed is_cut sink
+    × (sink.has_failed ≡ false → sink.way.appends ≡ true → IsOpened is_kept is_made sink)
 
 -- what the system answered of the open file: it is the one that was looked at by its name, and it
 -- holds nothing, unless files that hold bytes are taken

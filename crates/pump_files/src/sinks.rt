@@ -269,6 +269,7 @@ impl<F: NamedFile> Sink<F> {
         ensures same { SameSink F.name self.old self.new }
         ensures bytes { F.written self.new.file ≡ F.written self.old.file }
         ensures cut { OnOk result (self.old.way.appends ≡ false → F.is_cut self.new.file) }
+        ensures appended { self.old.way.appends ≡ true → self.new ≡ self.old }
     {
         if self.way.appends {
             return Ok(());
