@@ -22,7 +22,8 @@ class Function(NamedTuple):
         if not found:
             return False
         if found[1].startswith("proofs/"):
-            return Path(found[1]).parent.name == self.name
+            module = self.file.removeprefix("src/").removesuffix(".rt")
+            return found[1].startswith(f"proofs/{module}/") and Path(found[1]).parent.name == self.name
         return found[1] == self.file and self.first <= int(found[2]) <= self.last
 
 
@@ -82,14 +83,15 @@ def functions_of(edit, crate):
 
 
 def apart(edits, crate, most):
-    """The first of these mutants, by their keys, and those after it that lie in functions of other names: at
-    most so many, each with its functions. One that lies in no body is alone, with None."""
+    """The first of these mutants, by their keys, and those after it that lie in other functions: at most so many,
+    each with its functions. Two functions of one file and one name count as the same, since the folders of their
+    proof files differ by their types alone. A mutant that lies in no body is alone, with None."""
     group, names = {}, set()
     for key, edit in edits.items():
         functions = functions_of(edit, crate)
         if not group and functions is None:
             return {key: None}
-        if functions is not None and len(group) < most and names.isdisjoint(it.name for it in functions):
+        if functions is not None and len(group) < most and names.isdisjoint((it.file, it.name) for it in functions):
             group[key] = functions
-            names.update(it.name for it in functions)
+            names.update((it.file, it.name) for it in functions)
     return group

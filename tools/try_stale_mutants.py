@@ -5,9 +5,9 @@
 
 With no number it takes three minutes, and runs one check at a time. It tries those of crates that a check has
 proved here (out/ keeps the proofs), the cheapest first, in a copy over those proofs, and ends in time: a check that
-is cut off counts as none. One check tries several mutants that lie in functions of their own. One of which such a
-check says nothing is tried alone. The last line is 'stale mutants: N tried, M left'. The status is 1 if one is not
-refused.
+is cut off counts as none. One check tries several mutants that lie in functions of their own. Those of which such a
+check says nothing are tried again in smaller groups. The last line is 'stale mutants: N tried, M left'. The status
+is 1 if one is not refused.
 """
 import re
 import shutil
@@ -120,47 +120,53 @@ class Round:
 
     def __init__(self, crates, left, end):
         self.crates, self.left, self.end = crates, left, end
-        self.alone, self.tried = [], []
+        self.again, self.tried = [], []
         self.lock = threading.Lock()
 
     def group(self):
-        """The next ones: those of one crate that lie in functions of their own, or one alone."""
+        """The next ones, each with the functions that it lies in: those of one crate that lie in others, or one alone."""
         with self.lock:
-            if self.alone:
-                key, edit = self.alone.pop()
-                return key[0], {key: edit}, None
+            if self.again:
+                return self.again.pop()
             for crate in self.crates:
                 here = {key: edit for key, edit in sorted(self.left.items()) if key[0] == crate}
                 if here:
                     group = edits.apart(here, TOP / "crates" / crate, AT_ONCE)
-                    return crate, {key: self.left.pop(key) for key in group}, group if len(group) > 1 else None
+                    for key in group:
+                        del self.left[key]
+                    return group
             return None
 
-    def keep(self, found, room):
+    def take_in(self, group, found, room):
+        """Keeps what a check found. Those of which it says nothing are tried again, without the others: if it says
+        nothing of any, then in two halves, since one that is not proved for want of a rule of the prover hides all."""
         with self.lock:
             verdicts.keep(found, room)
             for (crate, name), what in found.items():
                 print(f"{crate}/{name}: {what}", flush=True)
                 self.tried.append(what.startswith(verdicts.REFUSED))
+            rest = [it for it in group.items() if it[0] not in found]
+            half = len(rest) if found else len(rest) // 2
+            self.again += [dict(part) for part in (rest[:half], rest[half:]) if part]
 
     def run(self):
         """Tries group after group, in a copy of its own."""
+        known = verdicts.edits()
         with tempfile.TemporaryDirectory(prefix="stale-") as folder:
             room = Path(folder)
             copied(room)
-            while time.monotonic() < self.end and (taken := self.group()):
-                crate, mutants, group = taken
+            while time.monotonic() < self.end and (group := self.group()):
+                crate = next(iter(group))[0]
                 with_kept(room, crate)
-                said = checked(mutants.values(), room / "crates" / crate, max(self.end - time.monotonic(), 0))
+                mutants = [known[key] for key in group]
+                said = checked(mutants, room / "crates" / crate, max(self.end - time.monotonic(), 0))
                 if said is None:
                     return
-                if group is None:
-                    self.keep({key: verdict_alone(*said) for key in mutants}, room)
-                    continue
-                found = verdicts_apart(said[0], group)
-                self.keep(found, room)
-                with self.lock:
-                    self.alone += [(key, edit) for key, edit in mutants.items() if key not in found]
+                if len(group) == 1:
+                    found = {key: verdict_alone(*said) for key in group}
+                else:
+                    found = verdicts_apart(said[0], group)
+                self.take_in(group, found, room)
 
 
 def main(words):
