@@ -91,7 +91,7 @@ try_silent 'appended to, with --force, too' 10 0 'echo old > log; $pump --append
 try_silent 'nothing is appended' 10 0 'echo old > log; $pump --append -o log < /dev/null && test "$(cat log)" = old'
 try_silent 'two pumps that append to one file' 10 0 'echo old > log; $pump --append -o log < short & $pump --append -o log < short; wait && test "$(stat -c %s log)" -eq 40004 && head -c 4 log | cmp - <(echo old)'
 try_silent 'two pumps that append to one new file' 10 0 'rm log; { echo first; sleep 1; echo third; } | $pump --append -o log & sleep 0.5; echo second | $pump --append -o log && wait && cat log | cmp - <(echo first; echo second; echo third)'
-try 'an input that is appended to' 10 4 '^piper_pump: log: it is the input' 'echo old > log; $pump --append -i log -o log'
+try 'an input that is appended to' 10 4 '^piper_pump: log: it is also the input' 'echo old > log; $pump --append -i log -o log'
 try 'a copy that can not be made, and a file that is appended to' 10 4 '^piper_pump: /proc/new: ' '$pump --append -o log --tee /proc/new < short'
 note 'what a file holds stays' test "$(cat log)" = old
 rm -f log
