@@ -1,10 +1,10 @@
 -- What is known of a file.
-use Rattle.std.specs.Prelude.{◌≡◌, ◌⊎◌, ℕ, Bool, false, true, List, Option, IfSome, IsErr, Result, MatchResult, take}
+use Rattle.std.specs.Prelude.{◌≡◌, ◌⊎◌, ℕ, Bool, false, true, List, Option, IfSome, IsErr, Result, MatchResult, ⊤, take}
 use Rattle.std.specs.Fs.{new_options, with_append, with_create_new, with_read, with_write}
 use Rattle.std.specs.declared.fs.options.OpenOptions.{OpenOptions}
 use Rattle.std.specs.declared.io.Error.{Error}
 use Rattle.std.specs.Io.KnownBytes.{append_known}
-use Rattle.pump_files.specs.Handle.{HasLength, IsAnswerOf, IsOpenedBy, IsSynced, was_cut}
+use Rattle.pump_files.specs.Handle.{HasLength, IsAnswerOf, IsOpenedBy, IsSynced, was_changed}
 use Rattle.pump_files.specs.declared.attributes.Attributes.{Attributes}
 use Rattle.pump_files.specs.declared.files.SystemFile.{SystemFile}
 use Rattle.pump_files.specs.declared.files.SystemFile.TheVariants as system
@@ -28,16 +28,21 @@ keeps appends = with_append (with_write new_options true) appends
 abbrev pub makes : Bool → OpenOptions
 makes appends = with_create_new (keeps appends) true
 
+-- it is named, and was not opened
+abbrev pub IsNamedFile : SystemFile → Type 0
+IsNamedFile system.Named = ⊤
+IsNamedFile (system.Open handle) = ⊥
+
 -- the system opened it in this way
 abbrev pub IsFileOf : OpenOptions → SystemFile → Type 0
 IsFileOf how system.Named = ⊥
 IsFileOf how (system.Open handle) = (name : List ℕ) × IsOpenedBy how name handle
 
--- the same, and it was not cut off since
-abbrev pub IsUncutFileOf : OpenOptions → SystemFile → Type 0
-IsUncutFileOf how system.Named = ⊥
-IsUncutFileOf how (system.Open handle) =
-    ((name : List ℕ) × IsOpenedBy how name handle) × (was_cut handle ≡ false)
+-- the same, and it was neither written nor cut off since
+abbrev pub IsUnchangedFileOf : OpenOptions → SystemFile → Type 0
+IsUnchangedFileOf how system.Named = ⊥
+IsUnchangedFileOf how (system.Open handle) =
+    ((name : List ℕ) × IsOpenedBy how name handle) × (was_changed handle ≡ false)
 
 -- the system cut off what it held, or said that it holds nothing, or made it
 abbrev pub IsCutFile : SystemFile → Type 0

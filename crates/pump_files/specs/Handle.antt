@@ -13,9 +13,9 @@ use Rattle.pump_files.specs.declared.handle.Handle.{Handle}
 abbrev pub HoldsNothing : Attributes → Type 0
 HoldsNothing a = (a.kind ≢ kind.Regular) ⊎ (a.len ≡ 0)
 
--- it was cut off since it was opened
-abbrev pub was_cut : Handle → Bool
-was_cut handle = handle.was_cut.value
+-- it was written or cut off since it was opened
+abbrev pub was_changed : Handle → Bool
+was_changed handle = handle.was_changed.value
 
 -- the system opened this file by its name, in this way (`Handle::open`)
 pub IsOpenedBy : OpenOptions → List ℕ → Handle → Type 0

@@ -15,7 +15,7 @@ IsCutUnlessFailed is_cut sink =
     sink.has_failed ≡ false → sink.way.appends ≡ false → is_cut sink.file
 
 -- what a step asks of a file: those that are there are open before one is made, and all are before
--- one is cut off; none that is there was cut off before. A file that was given up is left out
+-- one is cut off; none was written or cut off before. A file that was given up is left out
 abbrev pub NeedsFor : {F : Type 0} → Step → (Bool → F → Type 0) → (Bool → F → Type 0)
     → Sink F → Type 0
 NeedsFor (step.Open takes_held) is_kept is_made sink = ⊤
@@ -23,7 +23,7 @@ NeedsFor step.Make is_kept is_made sink =
     sink.has_failed ≡ false → sink.is_there ≡ true → is_kept sink.way.appends sink.file
 NeedsFor step.Cut is_kept is_made sink = IsOpenedUnlessFailed is_kept is_made sink
 
--- what holds of it after the step: one that is appended to was not cut off
+-- what holds of it after the step: one that is appended to was neither written nor cut off
 abbrev pub GetsBy : {F : Type 0} → Step → (Bool → F → Type 0) → (Bool → F → Type 0)
     → (F → Type 0) → Sink F → Type 0
 GetsBy (step.Open takes_held) is_kept is_made is_cut sink =

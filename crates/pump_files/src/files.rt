@@ -1,9 +1,9 @@
 //! Files that are opened by their names: those that are written later than they are named.
-ghost use Rattle.std.specs.Prelude.{◌≡◌, ◌<◌, ℕ, List, [], false, length, Option, None, Ok, OnOk, IfOk, IfErr, ⊤};
+ghost use Rattle.std.specs.Prelude.{◌≡◌, ◌<◌, ◌⊎◌, ℕ, List, [], false, length, Option, None, Ok, OnOk, IfOk, IfErr, ⊤};
 ghost use Rattle.std.specs.Io.{ReadsAtMost, WritesAtMost};
 ghost use Rattle.std.specs.Io.KnownBytes.{append_known, ReadConsumes};
 ghost use Rattle.piper_protocol.specs.Reported.{HasFailed, IsOfStd};
-ghost use Rattle.pump_files.specs.Files.{IsAnswerOfFile, IsCutFile, IsFileOf, IsJust, IsSyncedFile, IsUncutFileOf, Writes, keeps, makes, reads};
+ghost use Rattle.pump_files.specs.Files.{IsAnswerOfFile, IsCutFile, IsFileOf, IsJust, IsNamedFile, IsSyncedFile, IsUnchangedFileOf, Writes, keeps, makes, reads};
 ghost use Rattle.pump_files.specs.Handle.{HoldsNothing, IsAnswerFor};
 
 use crate::attributes::Attributes;
@@ -26,14 +26,18 @@ pub trait NamedFile: Drop {
     // the name that it is opened by, where that is known
     ghost name: { Self → Option (List ℕ) } = { λ _. None };
 
+    // it was not opened
+    ghost is_unopened: { Self → Type 0 } = { λ _. ⊤ };
+
     // it was opened to be read alone
     ghost is_read: { Self → Type 0 } = { λ _. ⊤ };
 
-    // it was there and was opened to be written, which left what it holds, and it was not cut off since.
-    // The `Bool` says whether all that is written follows that
+    // it was there and was opened to be written, which left what it holds, and it was neither written
+    // nor cut off since. The `Bool` says whether all that is written follows what it holds
     ghost is_kept: { Bool → Self → Type 0 } = { λ _ _. ⊤ };
 
-    // it was not there, and was made, with the same `Bool`
+    // it was not there, and was made, and it was neither written nor cut off since, with the same
+    // `Bool`
     ghost is_made: { Bool → Self → Type 0 } = { λ _ _. ⊤ };
 
     // the system was asked of it, and answered so
@@ -74,8 +78,9 @@ pub trait NamedFile: Drop {
         ensures error { IfErr result (fails self.new) }
         ensures reported { IsOfStd result };
 
-    /// Cuts off what it held when it was opened.
+    /// Cuts off what it held when it was opened, before anything is written to it.
     fn cut(&mut self) -> io::Result<()>
+        requires unchanged { is_kept false self.old ⊎ is_made false self.old }
         ensures cut { OnOk result (is_cut self.new) }
         ensures name { name self.new ≡ name self.old }
         ensures bytes { written self.new ≡ written self.old }
@@ -135,16 +140,18 @@ pub trait Opens<F: NamedFile> {
         ensures name { IsJust (F.name result) name.now }
         ensures bytes { IsJust (F.written result) [] };
 
-    /// Opens it, if there is one. What it holds stays. If `appends` is `true`, all that is written
-    /// follows that.
+    /// Opens it, if there is one and it is not open yet. What it holds stays. If `appends` is `true`,
+    /// all that is written follows that.
     fn open_to_write(&self, name: &str, appends: bool, file: &mut F) -> io::Result<()>
+        ensures unopened { OnOk result (F.is_unopened file.old) }
         ensures name { F.name file.new ≡ F.name file.old }
         ensures bytes { F.written file.new ≡ F.written file.old }
         ensures opened { OnOk result (F.is_kept appends file.new) }
         ensures failed { IfErr result HasFailed };
 
-    /// Makes it, if there is none, and opens it in the same way.
+    /// Makes it, if there is none and it is not open yet, and opens it in the same way.
     fn make(&self, name: &str, appends: bool, file: &mut F) -> io::Result<()>
+        ensures unopened { OnOk result (F.is_unopened file.old) }
         ensures name { F.name file.new ≡ F.name file.old }
         ensures bytes { F.written file.new ≡ F.written file.old }
         ensures opened { OnOk result (F.is_made appends file.new × F.is_cut file.new) }
@@ -163,11 +170,13 @@ pub enum SystemFile {
 }
 
 impl NamedFile for SystemFile {
+    ghost is_unopened = { IsNamedFile };
+
     ghost is_read = { IsFileOf reads };
 
-    ghost is_kept = { λ appends. IsUncutFileOf (keeps appends) };
+    ghost is_kept = { λ appends. IsUnchangedFileOf (keeps appends) };
 
-    ghost is_made = { λ appends. IsFileOf (makes appends) };
+    ghost is_made = { λ appends. IsUnchangedFileOf (makes appends) };
 
     ghost answers = { IsAnswerOfFile };
 
@@ -229,6 +238,23 @@ fn not_open() -> io::Error {
     io::Error::other("it is not open")
 }
 
+// Opens a file that is named and not open: what was written to an open one would be left behind.
+fn open_once<R>(files: &R, how: &OpenOptions, name: &str, file: &mut SystemFile) -> io::Result<()>
+where
+    R: Files<File = File>,
+    ensures unopened { OnOk result (IsNamedFile file.old) }
+    ensures opened { OnOk result (IsUnchangedFileOf how.now file.new) }
+    ensures failed { IfErr result HasFailed }
+{
+    match file {
+        SystemFile::Open(_) => reported(Err(io::Error::other("it is open already"))),
+        SystemFile::Named => {
+            *file = SystemFile::Open(Handle::open(files, how, name)?);
+            Ok(())
+        }
+    }
+}
+
 impl<R: Files<File = File>> Opens<SystemFile> for R {
     fn open(&self, name: &str) -> io::Result<SystemFile> {
         Ok(SystemFile::Open(Handle::open(self, OpenOptions::new().read(true), name)?))
@@ -245,16 +271,13 @@ impl<R: Files<File = File>> Opens<SystemFile> for R {
     fn open_to_write(&self, name: &str, appends: bool, file: &mut SystemFile) -> io::Result<()> {
         let mut how = OpenOptions::new();
         how.write(true).append(appends);
-        *file = SystemFile::Open(Handle::open(self, &how, name)?);
-        Ok(())
+        open_once(self, &how, name, file)
     }
 
     fn make(&self, name: &str, appends: bool, file: &mut SystemFile) -> io::Result<()> {
         let mut how = OpenOptions::new();
         how.write(true).append(appends).create_new(true);
-        let opened = Handle::open(self, &how, name)?;
-        *file = SystemFile::Open(opened);
-        Ok(())
+        open_once(self, &how, name, file)
     }
 
     fn remove(&self, own: StillNamed<'_>) -> io::Result<()> {

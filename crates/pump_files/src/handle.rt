@@ -3,7 +3,7 @@
 ghost use Rattle.std.specs.Prelude.{◌≡◌, OnOk, IfOk, IfErr, false, true};
 ghost use Rattle.std.specs.Io.{ReadsAtMost, WritesAtMost};
 ghost use Rattle.piper_protocol.specs.Reported.{HasFailed, IsOfStd};
-ghost use Rattle.pump_files.specs.Handle.{HasLength, HoldsNothing, IsAnswerFor, IsAnswerOf, IsOpenedBy, IsSynced, was_cut};
+ghost use Rattle.pump_files.specs.Handle.{HasLength, HoldsNothing, IsAnswerFor, IsAnswerOf, IsOpenedBy, IsSynced, was_changed};
 
 use crate::attributes::{Attributes, attributes_of};
 use piper_protocol::reported::reported;
@@ -16,8 +16,8 @@ use std::{fs, io};
 #[derive(Drop)]
 pub struct Handle {
     file: File,
-    // Whether it was cut off since it was opened.
-    was_cut: Snapshot<bool>,
+    // Whether it was written or cut off since it was opened.
+    was_changed: Snapshot<bool>,
 }
 
 impl Handle {
@@ -26,13 +26,13 @@ impl Handle {
     where
         R: Files<File = File>,
         ensures opened { IfOk result (IsOpenedBy how.now name.now) }
-        ensures uncut { IfOk result (λ handle. was_cut handle ≡ false) }
+        ensures unchanged { IfOk result (λ handle. was_changed handle ≡ false) }
         ensures failed { IfErr result HasFailed }
     {
         let file = reported(how.open(files, name))?;
         Ok(Handle {
             file,
-            was_cut: Snapshot::of(&false),
+            was_changed: Snapshot::of(&false),
         })
     }
 
@@ -46,13 +46,14 @@ impl Handle {
         reported(self.file.metadata().map(|found| attributes_of(&found)))
     }
 
-    /// Cuts off what it holds.
+    /// Cuts off what it held when it was opened, before anything is written to it.
     pub(crate) fn cut(&mut self) -> io::Result<()>
+        requires unchanged { was_changed self.old ≡ false }
         ensures cut { OnOk result (HasLength 0 self.new) }
-        ensures noted { was_cut self.new ≡ true }
+        ensures noted { was_changed self.new ≡ true }
         ensures reported { IsOfStd result }
     {
-        self.was_cut = Snapshot::of(&true);
+        self.was_changed = Snapshot::of(&true);
         self.resize(0)
     }
 
@@ -74,15 +75,19 @@ impl Handle {
     /// Writes bytes from the front of `buf`, and returns how many.
     pub(crate) fn write(&mut self, buf: &[u8]) -> io::Result<usize>
         ensures bound { WritesAtMost result buf.now }
+        ensures noted { was_changed self.new ≡ true }
         ensures reported { IsOfStd result }
     {
+        self.was_changed = Snapshot::of(&true);
         reported(Write::write(&mut self.file, buf))
     }
 
     /// Writes all of `buf`.
     pub(crate) fn write_all(&mut self, buf: &[u8]) -> io::Result<()>
-        ensures { IsOfStd result }
+        ensures noted { was_changed self.new ≡ true }
+        ensures reported { IsOfStd result }
     {
+        self.was_changed = Snapshot::of(&true);
         reported(Write::write_all(&mut self.file, buf))
     }
 

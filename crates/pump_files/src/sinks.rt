@@ -266,6 +266,7 @@ impl<F: NamedFile> Sink<F> {
 
     // Cuts off what it holds, unless what is written follows that.
     fn cut(&mut self) -> io::Result<()>
+        requires opened { IsOpened F.is_kept F.is_made self.old }
         ensures same { SameSink F.name self.old self.new }
         ensures bytes { F.written self.new.file ≡ F.written self.old.file }
         ensures cut { OnOk result (self.old.way.appends ≡ false → F.is_cut self.new.file) }
