@@ -27,7 +27,7 @@ MOST = 8
 def next_ones(stale, seconds):
     """The crate that is proved soonest, and the first of its mutants; None if no crate is proved in time."""
     cost = minutes()
-    crates = {crate for crate, _name in stale if 90 * cost.get(crate, seconds) <= seconds}
+    crates = {crate for crate, _name in stale if crate in cost and 60 * cost[crate] <= seconds * 2 / 3}
     if not crates:
         return None, []
     crate = min(crates, key=lambda it: (cost[it], it))

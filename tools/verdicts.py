@@ -68,9 +68,9 @@ def refusal(told):
 
 
 def verdict(line):
-    """The mutant and the verdict of a line of `rt must-fail`."""
+    """The mutant and the verdict of a line of `rt must-fail`; none if its check was killed."""
     found = re.match(r"rt: must-fail (\w+)/(\w+)\.edit: (.*)", line)
-    if not found:
+    if not found or found[3].startswith("NOT TRIED"):
         return None, None
     said = found[3]
     if "only because a proof file names" in said:
