@@ -158,23 +158,27 @@ writer_taken next false = read_done next
 writer_taken next true = goes_on (at.WakeWriter next)
 
 -- where the reader comes to from a point, by what its step found, whatever the capacity; a query's
--- last load, which compares with the capacity, is in read_after
+-- last load, which compares with the capacity, is in read_after. What has no row leads elsewhere
+abbrev pub read_row : Next ReadPoint → ReadPoint → Found → Next ReadPoint
+read_row elsewhere (at.QueryHead query) found = goes_on (at.QueryTail query)
+read_row elsewhere at.QueryClosed (flag is_closed) = ends at.Idle (Flag is_closed)
+read_row elsewhere (at.LookTail l) (index_loaded none) = goes_on (reader_looked none l)
+read_row elsewhere (at.LookRegister l) (granted is_granted) = reader_registered is_granted l
+read_row elsewhere (at.LookClosed l) (flag is_closed) = goes_on (at.LookTailAgain l is_closed)
+read_row elsewhere (at.LookTailAgain l was_closed) (index_loaded none) = reader_looked_again none l was_closed
+read_row elsewhere (at.LookTake l) found = reader_is_true l
+read_row elsewhere at.Yield (granted is_granted) = ends at.Idle (yield_answer is_granted)
+read_row elsewhere (at.CallDestination form sum) (moved n) = reader_moved (n == 0) n form sum
+read_row elsewhere (at.CallDestination form sum) failed = ends at.Idle failed_answer
+read_row elsewhere (at.StoreHead n next) found = goes_on (at.TakeWriter next)
+read_row elsewhere (at.TakeWriter next) (waker is_found) = writer_taken next is_found
+read_row elsewhere (at.WakeWriter next) found = read_done next
+read_row elsewhere at.StoreClosed found = goes_on (at.TakeWriter after_read.Drop)
+read_row elsewhere point found = elsewhere
+
+-- the model stays where it is
 abbrev pub read_step : ReadPoint → Found → Next ReadPoint
-read_step (at.QueryHead query) found = goes_on (at.QueryTail query)
-read_step at.QueryClosed (flag is_closed) = ends at.Idle (Flag is_closed)
-read_step (at.LookTail l) (index_loaded none) = goes_on (reader_looked none l)
-read_step (at.LookRegister l) (granted is_granted) = reader_registered is_granted l
-read_step (at.LookClosed l) (flag is_closed) = goes_on (at.LookTailAgain l is_closed)
-read_step (at.LookTailAgain l was_closed) (index_loaded none) = reader_looked_again none l was_closed
-read_step (at.LookTake l) found = reader_is_true l
-read_step at.Yield (granted is_granted) = ends at.Idle (yield_answer is_granted)
-read_step (at.CallDestination form sum) (moved n) = reader_moved (n == 0) n form sum
-read_step (at.CallDestination form sum) failed = ends at.Idle failed_answer
-read_step (at.StoreHead n next) found = goes_on (at.TakeWriter next)
-read_step (at.TakeWriter next) (waker is_found) = writer_taken next is_found
-read_step (at.WakeWriter next) found = read_done next
-read_step at.StoreClosed found = goes_on (at.TakeWriter after_read.Drop)
-read_step point found = goes_on point
+read_step point found = read_row (goes_on point) point found
 
 -- where the reader of a pipe of this capacity comes to from a point, by what its step found
 abbrev pub read_after : ℕ → ReadPoint → Found → Next ReadPoint
@@ -273,33 +277,37 @@ own_taken true = goes_on on.WakeWriter
 
 -- where the writer comes to from a point, by what its step found, whatever the capacity and the
 -- known room; a query's last load, which compares with the capacity, and the load of closed that a
--- look begins with, which goes on by the known room, are in write_after
-abbrev pub write_step : WritePoint → Found → Next WritePoint
-write_step (on.QueryHead query) (unread count) = goes_on (on.QueryTail query count)
-write_step on.QueryClosed (flag is_closed) = ends on.Idle (Flag is_closed)
-write_step (on.LookHead l) (index_loaded none) = goes_on (writer_looked none l)
-write_step (on.LookRegister l) (granted is_granted) = writer_registered is_granted l
-write_step (on.LookHeadAgain l) (index_loaded none) = goes_on (writer_looked_again none l)
-write_step (on.LookClosedAgain l) (flag is_closed) =
+-- look begins with, which goes on by the known room, are in write_after. What has no row leads
+-- elsewhere
+abbrev pub write_row : Next WritePoint → WritePoint → Found → Next WritePoint
+write_row elsewhere (on.QueryHead query) (unread count) = goes_on (on.QueryTail query count)
+write_row elsewhere on.QueryClosed (flag is_closed) = ends on.Idle (Flag is_closed)
+write_row elsewhere (on.LookHead l) (index_loaded none) = goes_on (writer_looked none l)
+write_row elsewhere (on.LookRegister l) (granted is_granted) = writer_registered is_granted l
+write_row elsewhere (on.LookHeadAgain l) (index_loaded none) = goes_on (writer_looked_again none l)
+write_row elsewhere (on.LookClosedAgain l) (flag is_closed) =
     ends on.Idle (look_answer l (end_or_pending is_closed))
-write_step (on.LookTake l) found = writer_is_true l
-write_step on.Yield (granted is_granted) = ends on.Idle (yield_answer is_granted)
-write_step (on.CallSource form sum) (moved n) = writer_moved (n == 0) n form sum
-write_step (on.CallSource form sum) failed = ends on.Idle failed_answer
-write_step (on.RoundClosed n form sum) (flag is_closed) = writer_rounds is_closed n form sum
-write_step (on.StoreTail n next) found = goes_on (on.TakeReader next)
-write_step (on.TakeReader next) (waker is_found) = reader_taken next is_found
-write_step (on.WakeReader next) found = write_done next
-write_step (on.StoreClosed next) found = goes_on (on.TakeReader next)
-write_step on.TakeWriter (waker is_found) = own_taken is_found
-write_step on.WakeWriter found = ends on.Idle Done
-write_step point found = goes_on point
+write_row elsewhere (on.LookTake l) found = writer_is_true l
+write_row elsewhere on.Yield (granted is_granted) = ends on.Idle (yield_answer is_granted)
+write_row elsewhere (on.CallSource form sum) (moved n) = writer_moved (n == 0) n form sum
+write_row elsewhere (on.CallSource form sum) failed = ends on.Idle failed_answer
+write_row elsewhere (on.RoundClosed n form sum) (flag is_closed) = writer_rounds is_closed n form sum
+write_row elsewhere (on.StoreTail n next) found = goes_on (on.TakeReader next)
+write_row elsewhere (on.TakeReader next) (waker is_found) = reader_taken next is_found
+write_row elsewhere (on.WakeReader next) found = write_done next
+write_row elsewhere (on.StoreClosed next) found = goes_on (on.TakeReader next)
+write_row elsewhere on.TakeWriter (waker is_found) = own_taken is_found
+write_row elsewhere on.WakeWriter found = ends on.Idle Done
+write_row elsewhere point found = elsewhere
+
+abbrev pub write_step : WritePoint → Found → Next WritePoint
+write_step point found = write_row (goes_on point) point found
 
 -- where a look goes on after the load of closed that it begins with: `none` is whether no room is
--- known
-abbrev pub look_begun : Bool → WritePoint → Bool → Next WritePoint
-look_begun none (on.LookClosed l) is_closed = writer_is_open is_closed none l
-look_begun none point is_closed = goes_on point
+-- known. Any other point leads elsewhere
+abbrev pub look_begun : Next WritePoint → Bool → WritePoint → Bool → Next WritePoint
+look_begun elsewhere none (on.LookClosed l) is_closed = writer_is_open is_closed none l
+look_begun elsewhere none point is_closed = elsewhere
 
 -- where the writer of a pipe of this capacity and known
 -- room comes to from a point, by what its step found

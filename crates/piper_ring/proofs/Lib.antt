@@ -20,3 +20,4 @@ pub mod Taking
 pub mod ReaderFacts
 pub mod WriterFacts
 pub mod Loaded
+pub mod Worked

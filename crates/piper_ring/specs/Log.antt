@@ -1,6 +1,6 @@
 -- What a log says: where its side's last call is, by the call table.
 use Rattle.std.specs.Prelude.{◌≡◌, ℕ, ◌⊎◌, Bool, List, [], ◌∷◌, Result, Ok, Err, true, false, ⊤}
-use Rattle.piper_protocol.specs.Table.{Next, ends, goes_on, look_begun, read_action, read_step, write_action, write_step}
+use Rattle.piper_protocol.specs.Table.{Next, ends, goes_on, look_begun, read_action, read_row, write_action, write_row}
 use Rattle.piper_protocol.specs.declared.answer.Answer.{Answer}
 use Rattle.piper_protocol.specs.declared.answer.Answer.TheVariants.{Done}
 use Rattle.piper_protocol.specs.declared.table.Action.{Action}
@@ -26,9 +26,11 @@ use Rattle.piper_ring.specs.declared.log.Log.{Log as log}
 abbrev of_side : {P : Type 0} → (P → Point) → Next P → Next Point
 of_side side next = record { point = side next.point; answer = next.answer }
 
+-- a line that the table doesn't have next leads to where no call is open, with no answer: from there
+-- only the beginning of another call leads on
 abbrev pub step : Point → Found → Next Point
-step (Reader point) found = of_side Reader (read_step point found)
-step (Writer point) found = of_side Writer (write_step point found)
+step (Reader point) found = of_side Reader (read_row (goes_on at.Idle) point found)
+step (Writer point) found = of_side Writer (write_row (goes_on on.Idle) point found)
 
 abbrev pub action : Point → Action
 action (Reader point) = read_action point
@@ -36,21 +38,22 @@ action (Writer point) = write_action point
 
 -- the load of closed that a look of the writer begins with
 abbrev pub looks : Bool → Bool → Point → Next Point
-looks none is_closed (Reader point) = goes_on (Reader point)
-looks none is_closed (Writer point) = of_side Writer (look_begun none point is_closed)
-
--- a copy's draw settles its form
-abbrev pub drawn : Bool → Point → Point
-drawn is_drawn (Reader (at.LookTake (Copy (Polling undrawn)))) =
-    Reader (at.LookTake (Copy (Polling is_drawn)))
-drawn is_drawn (Writer (on.LookTake (Copy (Polling undrawn)))) =
-    Writer (on.LookTake (Copy (Polling is_drawn)))
-drawn is_drawn point = point
+looks none is_closed (Reader point) = goes_on (Reader at.Idle)
+looks none is_closed (Writer point) =
+    of_side Writer (look_begun (goes_on on.Idle) none point is_closed)
 
 -- where a side is between its calls
 abbrev pub idle : Point → Point
 idle (Reader point) = Reader at.Idle
 idle (Writer point) = Writer on.Idle
+
+-- a copy's draw settles its form
+abbrev pub drawn : Bool → Point → Point
+drawn is_drawn (Reader (at.LookTake (Copy (Polling false)))) =
+    Reader (at.LookTake (Copy (Polling is_drawn)))
+drawn is_drawn (Writer (on.LookTake (Copy (Polling false)))) =
+    Writer (on.LookTake (Copy (Polling is_drawn)))
+drawn is_drawn point = idle point
 
 -- what a log says
 
