@@ -1,10 +1,14 @@
 -- What became of the wakers that a side took out of a slot.
-use Rattle.std.specs.Prelude.{⊤, ◌≡◌, ℕ, ◌⊎◌, true, false, List, [], ◌∷◌, Option, Some, None, IfSome}
+use Rattle.std.specs.Prelude.{⊤, ◌≡◌, ℕ, ◌⊎◌, true, false, List, [], ◌∷◌, Option, Some, None, IfSome, is_some}
 use Rattle.futures.specs.Task.{Wakes}
 use Rattle.futures.specs.declared.task.context.Context.{Context}
 use Rattle.futures.specs.declared.task.waker.Waker.{Waker}
+use Rattle.piper_protocol.specs.Table.{goes_on}
+use Rattle.piper_protocol.specs.declared.table.Found.TheVariants.{Nothing, Waker as found_waker}
+use Rattle.piper_protocol.specs.declared.table.Point.{Point}
 use Rattle.piper_ring.specs.Cells.{GetsLeft}
 use Rattle.piper_ring.specs.Loads.{IsAway, IsUnregistered, WasPut, WasTaken, WasTakenBack}
+use Rattle.piper_ring.specs.Log.{HasLeft, Log, Opened, then}
 use Rattle.piper_ring.specs.Shared.{Names}
 use Rattle.piper_ring.specs.SlotsView.{Registers, SlotsView}
 use Rattle.piper.specs.Contexts.{AsksAgain, IsCalm}
@@ -68,12 +72,14 @@ IsGranted a b cx =
     (Registers a b × IsCalm a.owns cx × RegistersTask b cx)
     ⊎ (AsksAgain cx × (a.owns ≡ false) × (b.owns ≡ false) × IsAway a.names)
 
--- a side left the ring with these names: whoever was registered in the other's slot was called, and
--- what lay in the places, if the other had left before, was dropped
-pub record HasDropped (names : Names) : Type 0 where
+-- a side left the ring with these names. Its last call began at this point: it closed, and checked the
+-- other's slot after that. Whoever was registered there was called, and what lay in the places, if the
+-- other had left before, was dropped
+pub record HasDropped (names : Names) (start : Point) (before : Log) : Type 0 where
   pub taken : Option Waker
-  pub tickets : ℕ × ℕ
-  pub took : WasTaken names tickets.0 tickets.1 taken
+  pub after : Log
+  pub leaves : HasLeft names taken after
+  pub ran : Opened start (then (then (goes_on start) Nothing) (found_waker (is_some taken))) before after
   pub called : IfSome taken WasCalled
   pub left : LeftWakers Waker
   pub gets : GetsLeft names left

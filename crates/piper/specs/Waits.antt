@@ -2,6 +2,10 @@
 use Rattle.std.specs.Prelude.{◌≡◌, ◌+◌, ◌⊎◌, true, false, [], length}
 use Rattle.futures.specs.Task.{Covers}
 use Rattle.futures.specs.declared.task.context.Context.{Context}
+use Rattle.piper_protocol.specs.declared.table.AfterWrite.TheVariants.{Drop}
+use Rattle.piper_protocol.specs.declared.table.Point.TheVariants as of
+use Rattle.piper_protocol.specs.declared.table.ReadPoint.TheVariants as reads
+use Rattle.piper_protocol.specs.declared.table.WritePoint.TheVariants as writes
 use Rattle.piper_ring.specs.Loads.{IsAway}
 use Rattle.piper_ring.specs.SlotsView.{IsReaderPending, IsWriterPending}
 use Rattle.piper.specs.Called.{CallsTaken, HasDropped, RegistersTask}
@@ -95,17 +99,26 @@ WriterIsRemembered a b reader =
     (reader.side.slots.taken ≡ a.side.slots.tickets)
     ⊎ ((b.side.end.room ≡ 0) × (b.side.end.shut ≡ false))
 
+-- the reader left: its last call was its drop
+abbrev pub ReaderHasDropped : Reader → Type 0
+ReaderHasDropped reader =
+    HasDropped reader.side.end.ring.names (of.Reader reads.StoreClosed) reader.side.log
+
+abbrev pub WriterHasDropped : Writer → Type 0
+WriterHasDropped writer =
+    HasDropped writer.side.end.ring.names (of.Writer (writes.StoreClosed Drop)) writer.side.log
+
 -- after the close by which it left, the reader checked the writer's slot, and called whom it took; and
 -- it dropped what lay in the places, if the writer had left before
 pub record ReaderWokeLast (reader : Reader) (left : FinishedReader) : Type 0 where
   pub count : left.slots.stored.count ≡ length reader.side.end.taken
   pub over : left.slots.stored.closed ≡ true
   pub called : CallsTaken reader.side.slots left.slots
-  pub dropped : HasDropped reader.side.end.ring.names
+  pub dropped : ReaderHasDropped reader
 
 -- the same of a writer that left, and of the reader's slot
 pub record WriterWokeLast (writer : Writer) (left : FinishedWriter) : Type 0 where
   pub bytes : left.slots.stored.bytes ≡ writer.side.end.sent
   pub shut : left.slots.stored.closed ≡ true
   pub called : CallsTaken writer.side.slots left.slots
-  pub dropped : HasDropped writer.side.end.ring.names
+  pub dropped : WriterHasDropped writer

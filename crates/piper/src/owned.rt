@@ -1,10 +1,9 @@
 //! Handles that are dropped automatically, for a thread or a task that takes one with it.
 ghost use Rattle.std.specs.Prelude.{◌≡◌, ◌*◌, ◌^◌, ◌<◌, IfErr, IfOk};
 ghost use Rattle.std.specs.Borrow.{sem};
-ghost use Rattle.piper.specs.Called.{HasDropped};
 ghost use Rattle.piper.specs.Contexts.{WantsWaker};
 ghost use Rattle.piper.specs.Looks.{IsEnded};
-ghost use Rattle.piper.specs.Waits.{ReaderIsWaiting, WriterIsWaiting};
+ghost use Rattle.piper.specs.Waits.{ReaderHasDropped, ReaderIsWaiting, WriterHasDropped, WriterIsWaiting};
 ghost use Rattle.piper.specs.Handles.{AreFresh, ArePair, DrawFrom};
 ghost use Rattle.piper_protocol.specs.Reported.{HasFailed};
 
@@ -20,8 +19,7 @@ use std::ops::{Deref, DerefMut};
 /// The seed of pipes for which no seed is chosen.
 pub const DEFAULT_SEED: u64 = 0;
 
-/// A reader that is dropped automatically: that wakes the writer, and closes the pipe (tested, not
-/// proved).
+/// A reader that is dropped automatically: that closes the pipe, and wakes the writer.
 ///
 /// Each call of [`Reader`] except `drop` can be made on it, with the same contract: in clauses it
 /// is its reader.
@@ -37,8 +35,7 @@ impl Model for OwnedReader {
     ghost view = { λ owned. owned.reader };
 }
 
-/// A writer that is dropped automatically: that wakes the reader, and closes the pipe (tested, not
-/// proved).
+/// A writer that is dropped automatically: that closes the pipe, and wakes the reader.
 ///
 /// Each call of [`Writer`] except `drop` can be made on it, with the same contract: in clauses it
 /// is its writer.
@@ -187,12 +184,10 @@ impl DerefMut for OwnedWriter {
 }
 
 impl Drop for OwnedReader {
-    ghost use Rattle.piper.specs.OfReader.{ring};
-
-    /// As `Reader::drop`, whose evidence is dropped: its clause says who was woken, and not that the
-    /// pipe is closed.
+    /// As `Reader::drop`, whose evidence is dropped: its clause says that the reader closed the pipe,
+    /// and called the waker that it found after that.
     fn drop(self)
-        ensures { HasDropped (ring self).names }
+        ensures { ReaderHasDropped self }
     {
         let OwnedReader { reader } = self;
         reader.drop();
@@ -200,12 +195,10 @@ impl Drop for OwnedReader {
 }
 
 impl Drop for OwnedWriter {
-    ghost use Rattle.piper.specs.OfWriter.{ring};
-
-    /// As `Writer::drop`, whose evidence is dropped: its clause says who was woken, and not that the
-    /// pipe is closed.
+    /// As `Writer::drop`, whose evidence is dropped: its clause says that the writer closed the pipe,
+    /// and called the waker that it found after that.
     fn drop(self)
-        ensures { HasDropped (ring self).names }
+        ensures { WriterHasDropped self }
     {
         let OwnedWriter { writer } = self;
         writer.drop();

@@ -1,5 +1,5 @@
 -- What a log says: where its side's last call is, by the call table.
-use Rattle.std.specs.Prelude.{◌≡◌, ℕ, ◌⊎◌, Bool, List, [], ◌∷◌, Result, Ok, Err, true, false, ⊤}
+use Rattle.std.specs.Prelude.{◌≡◌, ℕ, ◌⊎◌, Bool, List, [], ◌∷◌, Option, Result, Ok, Err, true, false, ⊤}
 use Rattle.piper_protocol.specs.Table.{Next, ends, goes_on, look_begun, read_action, read_row, write_action, write_row}
 use Rattle.piper_protocol.specs.declared.answer.Answer.{Answer}
 use Rattle.piper_protocol.specs.declared.answer.Answer.TheVariants.{Done}
@@ -157,6 +157,17 @@ WasClosedLoaded is_closed = (names : Names) × FoundClosed names is_closed
 -- the other side's slot was checked
 abbrev pub WasSlotLoaded : Bool → Type 0
 WasSlotLoaded is_found = (names : Names) × FoundWaiter names (flag is_found)
+
+-- a side of this ring left: after its close it checked the other's slot, and found this waker there or
+-- none; its log ends there. It is sealed: no proof looks into it, and only those of `finish` use the
+-- lemma below
+pub HasLeft : {T : Type 0} → Names → Option T → Log → Type 0
+HasLeft names taken log = ⊤
+
+pub as_finished : {T : Type 0} (names : Names) (taken : Option T) (log : Log)
+    → HasLeft names taken log
+unfolding HasLeft
+as_finished names taken log = tt
 
 -- the step is no access of a ring: a call of the source or the destination of a copy, of a waker, or
 -- for one that is to be registered

@@ -1,6 +1,6 @@
 //! The reader's side: how it waits in its slot, and wakes whoever waits in the writer's.
 ghost use Rattle.std.specs.Prelude.{◌≡◌, ◌<◌, ◌≤◌, ◌++◌, [], length, take, drop, None, true, false, is_some, IsTrue, IsFalse};
-ghost use Rattle.piper_ring.specs.Log.{Comes, made, next, now, then};
+ghost use Rattle.piper_ring.specs.Log.{Comes, HasLeft, made, next, now, then};
 
 use crate::ends::finished::{Finished, FinishedReader};
 use crate::ends::reader::ReadEnd;
@@ -123,6 +123,7 @@ impl<T> Side<ReadEnd, T> {
         ensures looked { (result.side.slots.stored.count ≡ length self.end.taken)
             × (result.side.slots.stored.closed ≡ true) × WaitsAsBefore self.slots result.side.slots }
         ensures ticket { TakesTicket self.slots result.side.slots result.taken }
+        ensures leaves { HasLeft self.end.ring.names result.taken result.side.log }
         ensures left { GetsLeft self.end.ring.names result.left }
     {
         let Side {

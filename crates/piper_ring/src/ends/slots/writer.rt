@@ -1,7 +1,7 @@
 //! The writer's side: how it waits in its slot, and wakes whoever waits in the reader's.
 ghost use Rattle.std.specs.Prelude.{◌≡◌, ◌+◌, ◌-◌, ◌<◌, ◌≤◌, ◌++◌, ◌==◌, [], length, take, drop, max, None, true, false, is_some, IsTrue, IsFalse};
 ghost use Rattle.std.specs.Borrow.{sem};
-ghost use Rattle.piper_ring.specs.Log.{Comes, closed_loaded, made, next, now, then};
+ghost use Rattle.piper_ring.specs.Log.{Comes, HasLeft, closed_loaded, made, next, now, then};
 
 use crate::ends::finished::{Finished, FinishedWriter};
 use crate::ends::slots::side::Side;
@@ -191,6 +191,7 @@ impl<T> Side<WriteEnd, T> {
         ensures looked { (result.side.slots.stored.bytes ≡ self.end.sent)
             × (result.side.slots.stored.closed ≡ true) × WaitsAsBefore self.slots result.side.slots }
         ensures ticket { TakesTicket self.slots result.side.slots result.taken }
+        ensures leaves { HasLeft self.end.ring.names result.taken result.side.log }
         ensures left { GetsLeft self.end.ring.names result.left }
     {
         let Side {

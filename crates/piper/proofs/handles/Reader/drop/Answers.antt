@@ -1,6 +1,7 @@
 -- Whoever came out of a place was called, or dropped.
 use Rattle.std.proofs.Common.{rules, ◌≡◌, ap, IfSome}
-use Rattle.piper.specs.Called.{HasDropped, WasCalled}
+use Rattle.piper.specs.Called.{WasCalled}
+use Rattle.piper.specs.Waits.{ReaderHasDropped}
 use Rattle.piper.proofs.Calling.{calls_one}
 use Rattle.piper.proofs.handles.Reader.drop.Goals as goal
 use Rattle.piper.proofs.handles.Reader.drop.Goals.{in-Some, in_default}
@@ -19,11 +20,12 @@ same_slots c =
       | in_default w ↦ ap (λ side. side.1.0) w.side-is
     ]
 
-dropped : (c : goal.After-result-1) → HasDropped c.args.self.side.end.ring.names
+dropped : (c : goal.After-result-1) → ReaderHasDropped c.args.self
 dropped c = record {
   taken = c.finish-side.result.taken;
-  tickets = (c.args.self.side.slots.taken, c.finish-side.result.side.slots.taken);
-  took = rw (c.begin.ensures.slots, c.args.self.side.of_one_ring) at c.finish-side.ensures.ticket.waker;
+  after = c.finish-side.result.side.log;
+  leaves = rw c.begin.ensures.end at c.finish-side.ensures.leaves;
+  ran = record { first = search rules; before = search rules; now = search rules };
   called = is_called c;
   left = c.finish-side.result.left;
   gets = rw c.begin.ensures.end at c.finish-side.ensures.left;
