@@ -16,3 +16,4 @@ mod Pending
 mod RoomOrNone
 mod StaysRegistered
 mod AtOnce
+mod AsTraits

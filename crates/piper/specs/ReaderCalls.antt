@@ -6,13 +6,15 @@ use Rattle.futures.specs.declared.task.context.Context.{Context}
 use Rattle.futures.specs.declared.task.Poll.{Poll}
 use Rattle.futures.specs.declared.task.Poll.TheVariants.{Ready}
 use denote.Ref.{Bor}
+use Rattle.piper_protocol.specs.declared.table.Form.TheVariants.{Polling}
+use Rattle.piper_protocol.specs.declared.table.Purpose.TheVariants as purpose
 use Rattle.piper_ring.specs.Loads.{FoundClosed}
 use Rattle.piper_ring.specs.ReadView.{Agree, KeepsAll, KnowsEnd, ReadEndMayHave}
 use Rattle.piper_ring.specs.SlotsView.{IsReaderPending, IsWriterPending, OnlyWaits, WaitsAsBefore}
 use Rattle.piper.specs.Called.{CallsTaken}
 use Rattle.piper.specs.Contexts.{AsksAgain}
 use Rattle.piper.specs.Copies.{ReaderCopied}
-use Rattle.piper.specs.CopyAnswers.{CountsFailure, OnMemory}
+use Rattle.piper.specs.CopyAnswers.{CountsFailure, OnMemory, of_std}
 use Rattle.piper.specs.Drains.{Drains, EndIsTrue, EndIsUnseen, found_len}
 use Rattle.piper.specs.Draws.{Draws, Undrawn}
 use Rattle.piper.specs.Handles.{NotifiesReader, NotifiesWriter, SameReader, SameWriter, read_source}
@@ -20,6 +22,7 @@ use Rattle.piper.specs.Like.{Passes, appends_to}
 use Rattle.piper_ring.specs.Looks.{IsEnded, ReaderIsUpToDate, ReaderLooked}
 use Rattle.piper.specs.Looks.{OnRefused, ReaderFound}
 use Rattle.piper.specs.Polls.{After, Count, IfReadyErr, IfReadyOk, TakesNone}
+use Rattle.piper.specs.Runs.{DrainRan, ReaderRan, piece_answer, reader_looks}
 use Rattle.piper.specs.Waits.{ReaderIsRefused, ReaderIsRemembered, ReaderPends, WriterIsRemembered, ReaderLeavesNone, ReaderRegistered}
 use Rattle.piper.specs.declared.error.CopyError.{CopyError}
 use Rattle.piper.specs.declared.error.PipeError.{PipeError}
@@ -69,13 +72,16 @@ pub record ReaderPolled {E : Type 0} (r : Poll (Result Bool E))
   pub context : Keeps old left
   pub rest : SameReader OnlyWaits a b
 
--- a poll that lends looked as `poll` does, and if it is pending it waits as that does
+-- a poll that lends is one as `poll`, and no other call
 pub record PollsPiece (r : Poll (Result (Bor (List ℕ)) PipeError)) (a b : Reader) (cx : Context)
     : Type 0 where
   pub looked : ReaderLooked a.side.end b.side.end
+  pub leaves : IfReadyOk r (λ lent. 0 < length lent.now → ReaderLeavesNone b)
   pub pending : OnPending r (ReaderPends a b cx)
+  pub memory : OnRefused r (ReaderIsRefused b cx)
   pub all : KeepsAll a.side.end b.side.end
   pub rest : SameReader OnlyWaits a b
+  pub ran : ReaderRan (reader_looks a purpose.Poll) (piece_answer r) a b
 
 -- n bytes were drained into a slice: they are at its front, and the rest of it stays. They are the
 -- first that were known, or that were found if none was known; and as many as fit
@@ -178,8 +184,8 @@ pub record ReaderTried (n : ℕ) (a b : Reader) (old new : List ℕ) : Type 0 wh
   pub copied : ReaderCopied a.side.end b.side.end
   pub same : SameReader WaitsAsBefore a b
 
--- all that a read says of a handle, its answer, the slice and the context: it drains. A `&mut` to the
--- handle and its owner say the same
+-- all that a read says of a handle, its answer, the slice and the context: it is one drain. A `&mut`
+-- to the handle and its owner say the same
 pub record ReadsAsDrain (a b : Reader) (r : Count) (old new : List ℕ)
     (cx : Context) : Type 0 where
   pub drained : DrainsSlice r a b old new
@@ -189,6 +195,7 @@ pub record ReadsAsDrain (a b : Reader) (r : Count) (old new : List ℕ)
   pub refused : IfReadyErr r (λ _. ReaderIsRefused b cx × (b.side.end.known ≡ []))
   pub woken : WakesWriter a b
   pub rest : SameReaderButMoved a b
+  pub ran : DrainRan (Polling false) (of_std r) a b
 
 -- the reader learned that these bytes are all that was ever published: what it took and knows of is
 -- their front

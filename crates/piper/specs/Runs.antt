@@ -1,6 +1,7 @@
 -- Which calls the handles made: what they return, in the words of the call table, and where their
 -- looks lead.
-use Rattle.std.specs.Prelude.{ℕ, Bool, Result, Ok, Err}
+use Rattle.std.specs.Prelude.{ℕ, ◌==◌, Bool, not, List, length, Result, Ok, Err}
+use denote.Ref.{Bor}
 use Rattle.futures.specs.declared.task.Poll.{Poll}
 use Rattle.futures.specs.declared.task.Poll.TheVariants.{Ready, Pending}
 use Rattle.piper_protocol.specs.Table.{Next, count_answer, ends, failed_answer, look_answer}
@@ -11,7 +12,8 @@ use Rattle.piper_protocol.specs.declared.answer.Answer.TheVariants as answers
 use Rattle.piper_protocol.specs.declared.table.Form.{Form}
 use Rattle.piper_protocol.specs.declared.table.Point.{Point}
 use Rattle.piper_protocol.specs.declared.table.Point.TheVariants as of
-use Rattle.piper_protocol.specs.declared.table.AfterWrite.TheVariants.{Drop}
+use Rattle.piper_protocol.specs.declared.table.AfterRead.TheVariants as after_read
+use Rattle.piper_protocol.specs.declared.table.AfterWrite.TheVariants as after_write
 use Rattle.piper_protocol.specs.declared.table.ReadPoint.TheVariants as reads
 use Rattle.piper_protocol.specs.declared.table.WritePoint.TheVariants as writes
 use Rattle.piper_protocol.specs.declared.table.Purpose.{Purpose}
@@ -31,6 +33,12 @@ abbrev pub poll_answer : {E : Type 0} → Poll (Result Bool E) → Answer
 poll_answer (Ready (Ok some)) = answers.Poll (polled.Ready some)
 poll_answer (Ready (Err e)) = answers.Poll polled.Memory
 poll_answer Pending = answers.Poll polled.Pending
+
+-- what a poll returns that lends a piece: it is empty at the end alone
+abbrev pub piece_answer : {E : Type 0} → Poll (Result (Bor (List ℕ)) E) → Answer
+piece_answer (Ready (Ok lent)) = answers.Poll (polled.Ready (not (length lent.now == 0)))
+piece_answer (Ready (Err e)) = answers.Poll polled.Memory
+piece_answer Pending = answers.Poll polled.Pending
 
 -- what a copy returns
 abbrev pub copy_answer : {E : Type 0} → Form → Poll (Result ℕ (CopyError E)) → Answer
@@ -67,6 +75,14 @@ DrainRan form r a b = ReaderRan (reader_looks a (Copy form)) (copy_answer form r
 abbrev pub FillRan : {E : Type 0} → Form → Poll (Result ℕ (CopyError E)) → Writer → Writer → Type 0
 FillRan form r a b = WriterRan (writer_looks (Copy form)) (copy_answer form r) a b
 
+-- the call gave the places of n bytes back
+abbrev pub ConsumeRan : ℕ → Reader → Reader → Type 0
+ConsumeRan n a b = ReaderRan (of.Reader (reads.StoreHead n after_read.Answer)) Done a b
+
+-- the call closed the pipe
+abbrev pub CloseRan : Writer → Writer → Type 0
+CloseRan a b = WriterRan (of.Writer (writes.StoreClosed after_write.WakeWriter)) Done a b
+
 -- the call was the drop, by which the side left
 abbrev pub ReaderRanLast : Reader → FinishedReader → Type 0
 ReaderRanLast a left =
@@ -74,5 +90,5 @@ ReaderRanLast a left =
 
 abbrev pub WriterRanLast : Writer → FinishedWriter → Type 0
 WriterRanLast a left =
-    Opened (of.Writer (writes.StoreClosed Drop)) (ends (of.Writer writes.Dropped) Done)
+    Opened (of.Writer (writes.StoreClosed after_write.Drop)) (ends (of.Writer writes.Dropped) Done)
     a.side.log left.log

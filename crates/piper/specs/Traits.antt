@@ -4,12 +4,12 @@ use Rattle.std.specs.Prelude.{◌≡◌, ℕ, Result, Ok, Err}
 use Rattle.futures.specs.declared.task.context.Context.{Context}
 use Rattle.futures.specs.declared.task.Poll.{Poll}
 use Rattle.futures.specs.declared.task.Poll.TheVariants.{Ready, Pending}
-use Rattle.piper_protocol.specs.declared.memory.OutOfMemory.{OutOfMemory}
 use Rattle.piper_ring.specs.SlotsView.{WaitsAsBefore}
 use Rattle.piper.specs.Called.{CallsTaken}
 use Rattle.piper.specs.Handles.{NotifiesReader, NotifiesWriter, SameReader}
 use Rattle.piper.specs.ReaderCalls.{AtEnd}
 use Rattle.piper.specs.Polls.{Done}
+use Rattle.piper.specs.Runs.{CloseRan, ConsumeRan}
 use Rattle.piper.specs.Waits.{WriterLeavesNone}
 use Rattle.piper.specs.WriterCalls.{SameWriterButShut}
 use Rattle.piper.specs.declared.error.PipeError.{PipeError}
@@ -18,7 +18,7 @@ use Rattle.piper.specs.declared.handles.Reader.{Reader}
 use Rattle.piper.specs.declared.handles.Writer.{Writer}
 
 -- what a poll of a handle returns, as the traits do: want of memory is one of their errors
-abbrev pub as_pipe : {A : Type 0} → Poll (Result A OutOfMemory) → Poll (Result A PipeError)
+abbrev pub as_pipe : {A E : Type 0} → Poll (Result A E) → Poll (Result A PipeError)
 as_pipe (Ready (Ok x)) = Ready (Ok x)
 as_pipe (Ready (Err e)) = Ready (Err Memory)
 as_pipe Pending = Pending
@@ -32,6 +32,7 @@ pub record Consumes (a b : Reader) (n : ℕ) : Type 0 where
   pub stays : AtEnd a → AtEnd b
   pub end : b.side.end
       ≡ record a.side.end { taken = b.side.end.taken; known = b.side.end.known }
+  pub ran : ConsumeRan n a b
 
 -- a flush is ready at once, doesn't fail, and asks nothing of the context: what was written is
 -- published
@@ -50,3 +51,4 @@ pub record Closes {E : Type 0} (a b : Writer) (r : Poll (Result (Unit {0}) E)) (
   pub leaves : WriterLeavesNone b
   pub context : left ≡ old
   pub rest : SameWriterButShut a b
+  pub ran : CloseRan a b

@@ -6,6 +6,7 @@ use Rattle.futures.specs.Poll.{OnPending}
 use Rattle.futures.specs.declared.task.context.Context.{Context}
 use Rattle.futures.specs.declared.task.Poll.{Poll}
 use Rattle.futures.specs.declared.task.Poll.TheVariants.{Ready}
+use Rattle.piper_protocol.specs.declared.table.Form.TheVariants.{Polling}
 use Rattle.piper_ring.specs.Loads.{FoundClosed}
 use Rattle.piper_ring.specs.SlotsView.{IsWriterPending, OnlyWaits, WaitsAsBefore}
 use Rattle.piper_ring.specs.WriteView.{Lendable, WriteEndMayHave}
@@ -20,6 +21,7 @@ use Rattle.piper.specs.Like.{Passes, consumes_of}
 use Rattle.piper_ring.specs.Looks.{WriterIsUpToDate, WriterLooked}
 use Rattle.piper.specs.Looks.{OnRefused, WriterFound}
 use Rattle.piper.specs.Polls.{Count, IfReadyErr, IfReadyOk}
+use Rattle.piper.specs.Runs.{FillRan}
 use Rattle.piper.specs.Waits.{WriterIsRefused, WriterLeavesNone, WriterPends, WriterRegistered}
 use Rattle.piper.specs.declared.error.CopyError.{CopyError}
 use Rattle.piper_ring.specs.declared.ends.finished.FinishedReader.{FinishedReader}
@@ -176,8 +178,8 @@ pub record WriterTried (n : ℕ) (a b : Writer) (bytes : List ℕ) : Type 0 wher
   pub copied : WriterCopied a.side.end b.side.end
   pub same : SameWriter WaitsAsBefore a b
 
--- all that a write says of a handle, its answer, the slice and the context: it fills. A `&mut` to the
--- handle and its owner say the same
+-- all that a write says of a handle, its answer, the slice and the context: it is one fill. A `&mut`
+-- to the handle and its owner say the same
 pub record WritesAsFill (a b : Writer) (r : Count) (bytes : List ℕ)
     (cx : Context) : Type 0 where
   pub filled : FillsSlice r a b bytes
@@ -187,6 +189,7 @@ pub record WritesAsFill (a b : Writer) (r : Count) (bytes : List ℕ)
   pub refused : IfReadyErr r (λ _. WriterIsRefused b cx × (b.side.end.room ≡ 0))
   pub woken : WakesReader a b
   pub rest : SameWriterButMoved a b
+  pub ran : FillRan (Polling false) (of_std r) a b
 
 -- the writer, which has closed the pipe for good: it lends nothing any more
 pub record SameWriterButShut (a b : Writer) : Type 0 where

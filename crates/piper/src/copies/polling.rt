@@ -9,15 +9,19 @@ use crate::error::{PipeError, PipeResult};
 use crate::handles::{Reader, Writer};
 use crate::io::{AsyncBufRead, AsyncRead, AsyncWrite};
 use futures::task::{Context, Poll};
+use piper_protocol::table::Purpose;
 use piper_ring::OutOfMemory;
 
 impl Reader {
     ghost use Rattle.piper.specs.ReaderCalls.{ReaderPolled};
+    ghost use Rattle.piper.specs.Runs.{ReaderRan, poll_answer, reader_looks};
 
     // `poll`, as a call of its own: a reader of lines is shorter by it.
     #[inline(never)]
     fn poll_by_call(&mut self, cx: &mut Context<'_>) -> Poll<Result<bool, OutOfMemory>>
-        ensures { ReaderPolled result self.old self.new cx.old cx.new }
+        ensures ran { ReaderRan (reader_looks self.old Purpose.Poll) (poll_answer result)
+            self.old self.new }
+        ensures polled { ReaderPolled result self.old self.new cx.old cx.new }
     {
         self.poll(cx)
     }
