@@ -36,6 +36,7 @@ SEALS = {
         "piper_protocol/specs/Reported",
         [
             "piper_protocol/proofs/memory/OutOfMemoryFromAllocError/from",
+            "piper/proofs/error/PipeErrorFromAllocError/from",
             "piper_ring/proofs/ring/memory/Memory/claim",
         ],
     ),

@@ -39,11 +39,12 @@ impl From<OutOfMemory> for PipeError {
     }
 }
 
-/// So that `?`, and a stream that is gathered, take a refused `Vec` to a `PipeError`.
+/// So that `?`, and a stream that is gathered, take a refused `Vec` to a `PipeError`, with the
+/// evidence that it was refused.
 impl From<AllocError> for PipeError {
-    ghost use Rattle.piper.specs.declared.error.PipeError.TheVariants.{Memory};
+    ghost use Rattle.piper.specs.Failed.{WasRefused};
 
-    ghost from_gives = { λ _ error. error ≡ Memory };
+    ghost from_gives = { λ _ error. WasRefused error };
 
     fn from(_error: AllocError) -> PipeError {
         PipeError::Memory

@@ -113,8 +113,8 @@ pub fn poll_read_to_end<R: AsyncBufRead>(
         if piece.is_empty() {
             return Poll::Ready(Ok(()));
         }
-        if bytes.extend_from_slice(piece).is_err() {
-            return Poll::Ready(Err(PipeError::Memory));
+        if let Err(refused) = bytes.extend_from_slice(piece) {
+            return Poll::Ready(Err(refused.into()));
         }
         let count = piece.len();
         reader.consume(count);

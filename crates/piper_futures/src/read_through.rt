@@ -120,8 +120,8 @@ pub fn poll_read_until<R: AsyncBufRead>(
             return Poll::Ready(Ok(false));
         }
         let (count, is_found) = through(byte, piece);
-        if bytes.extend_from_slice(&piece[..count]).is_err() {
-            return Poll::Ready(Err(PipeError::Memory));
+        if let Err(refused) = bytes.extend_from_slice(&piece[..count]) {
+            return Poll::Ready(Err(refused.into()));
         }
         reader.consume(count);
         if is_found {

@@ -1,7 +1,7 @@
 -- When a reader of lines or of frames wants memory.
-use Rattle.std.specs.Prelude.{◌≡◌, ℕ, ◌+◌, ◌<◌, ◌≤◌, ◌⊎◌, List, length}
+use Rattle.std.specs.Prelude.{ℕ, ◌+◌, ◌<◌, ◌≤◌, ◌⊎◌, List, length}
+use Rattle.piper.specs.Failed.{WasRefused}
 use Rattle.piper.specs.declared.error.PipeError.{PipeError}
-use Rattle.piper.specs.declared.error.PipeError.TheVariants.{Memory}
 use Rattle.piper_lines.specs.Header.{header_size, encoded_length}
 use Rattle.piper_lines.specs.declared.header.FrameHeader.{FrameHeader}
 
@@ -19,6 +19,6 @@ LacksFrameRoom format limit header_room body_room header body known =
     ⊎ ((encoded_length format header ≤ limit)
     × LacksRoom (encoded_length format header) body_room body known)
 
--- an error is the reader's own, or memory was asked for and refused
+-- an error is the reader's own, or memory was asked for and refused, for this reason
 abbrev pub IsReported : PipeError → (PipeError → Type 0) → Type 0 → Type 0
-IsReported e Own Lacks = Own e ⊎ ((e ≡ Memory) × Lacks)
+IsReported e Own Lacks = Own e ⊎ (WasRefused e × Lacks)

@@ -55,8 +55,8 @@ pub fn fill_up<R: AsyncBufRead>(
             return Poll::Ready(Ok(false));
         }
         let count = lent.len().min(size - gathered.len());
-        if gathered.extend_from_slice(&lent[..count]).is_err() {
-            return Poll::Ready(Err(PipeError::Memory));
+        if let Err(refused) = gathered.extend_from_slice(&lent[..count]) {
+            return Poll::Ready(Err(refused.into()));
         }
         reader.consume(count);
     }

@@ -189,8 +189,8 @@ fn gather<R: AsyncBufRead>(
         }
         let front = &lent[..lent.len().min(room)];
         let (count, is_found) = through_end(front, end);
-        if line.extend_from_slice(&front[..count]).is_err() {
-            return Poll::Ready(Err(PipeError::Memory));
+        if let Err(refused) = line.extend_from_slice(&front[..count]) {
+            return Poll::Ready(Err(refused.into()));
         }
         reader.consume(count);
         if is_found {

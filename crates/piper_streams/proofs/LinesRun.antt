@@ -74,7 +74,7 @@ module _ {R : Type 0} (taken known : R → List ℕ) (saw : R → Bool) (fails :
       ∙ ap (λ (o : Option Item). joined_items (Ok line ∷ items) ++ last_bytes o) (sym over.1) in
       (r1, k1, subst (λ ws. Moves (taken r0) (taken r1) k0 ws k1) bytes moves, inr (lacks, some, over), λ _. (none, at_end))
 
--- the error of this poll is the reader's own, or want of memory
+-- the error of this poll is the reader's own, or memory was refused
 pub of_reader : {R : Type 0} (fails : R → Context → PipeError → Type 0) (r : R) (cx : Context) (e : PipeError) (Lacks : Type 0) → IsReported e (fails r cx) Lacks → IsOfReader fails e
 of_reader fails r cx e Lacks (inl own) = inl (r, cx, own)
 of_reader fails r cx e Lacks (inr lacks) = inr lacks.0

@@ -1,9 +1,9 @@
 -- What a sink of frames was sent.
-use Rattle.std.specs.Prelude.{◌≡◌, ◌⊎◌, ◌+◌, ◌<◌, ℕ, Bool, false, List, [], Vec}
+use Rattle.std.specs.Prelude.{◌⊎◌, ◌+◌, ◌<◌, ℕ, Bool, false, List, [], Vec}
 use Rattle.std.specs.declared.io.ErrorKind.TheVariants.{InvalidInput}
 use Rattle.std.specs.declared.alloc.Global.{Global}
+use Rattle.piper.specs.Failed.{WasRefused}
 use Rattle.piper.specs.declared.error.PipeError.{PipeError}
-use Rattle.piper.specs.declared.error.PipeError.TheVariants.{Memory}
 use Rattle.piper_lines.specs.Header.{header_size, CanEncode}
 use Rattle.piper_lines.specs.declared.header.FrameHeader.{FrameHeader}
 use Rattle.piper_lines.specs.Sends.{Sends}
@@ -34,4 +34,4 @@ FramesSent sent saw frames bodies =
 abbrev pub IsRefused : FrameHeader → ℕ → ℕ → PipeError → Type 0
 IsRefused format n room e =
     (IsOfKind InvalidInput e × ¬ CanEncode format n)
-    ⊎ ((e ≡ Memory) × (room < n + header_size format))
+    ⊎ (WasRefused e × (room < n + header_size format))

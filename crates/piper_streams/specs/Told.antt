@@ -4,6 +4,7 @@ use Rattle.std.specs.IoError.{error_kind}
 use Rattle.std.specs.declared.io.ErrorKind.{ErrorKind}
 use Rattle.std.specs.declared.io.ErrorKind.TheVariants.{BrokenPipe, InvalidData, UnexpectedEof}
 use Rattle.futures.specs.declared.task.context.Context.{Context}
+use Rattle.piper.specs.Failed.{WasRefused}
 use Rattle.piper.specs.declared.error.PipeError.{PipeError}
 use Rattle.piper.specs.declared.error.PipeError.TheVariants.{Memory, Io}
 use Rattle.piper_lines.specs.AtEnd.{AtEnd}
@@ -15,9 +16,9 @@ abbrev pub IsOfKind : ErrorKind → PipeError → Type 0
 IsOfKind kind Memory = ⊥
 IsOfKind kind (Io e) = error_kind e ≡ kind
 
--- the error was the reader's own in some poll, or is want of memory
+-- the error was the reader's own in some poll, or memory was refused
 abbrev pub IsOfReader : {R : Type 0} → (R → Context → PipeError → Type 0) → PipeError → Type 0
-IsOfReader {R} fails e = ((r : R) × (cx : Context) × fails r cx e) ⊎ (e ≡ Memory)
+IsOfReader {R} fails e = ((r : R) × (cx : Context) × fails r cx e) ⊎ WasRefused e
 
 -- the kept header of a frame reports more bytes than the limit, and the error says so; or
 -- the reader ended inside a frame, and the error says that

@@ -57,8 +57,8 @@ pub fn poll_frames<R: AsyncBufRead>(
         × ReaderStays R.knows_end R.woken (reader_of frames.old) (reader_of frames.new) }
 {
     for _ in 0..MOST_PIECES {
-        if out.reserve(1).is_err() {
-            return Poll::Ready(Err(PipeError::Memory));
+        if let Err(refused) = out.reserve(1) {
+            return Poll::Ready(Err(refused.into()));
         }
         let mut frame = Vec::new(*out.allocator());
         match frames.poll_frame(cx, &mut frame, limit) {

@@ -58,8 +58,8 @@ pub fn poll_lines<R: AsyncBufRead>(
         × ReaderStays R.knows_end R.woken (reader_of lines.old) (reader_of lines.new) }
 {
     for _ in 0..MOST_PIECES {
-        if out.reserve(1).is_err() {
-            return Poll::Ready(Err(PipeError::Memory));
+        if let Err(refused) = out.reserve(1) {
+            return Poll::Ready(Err(refused.into()));
         }
         let mut line = Vec::new(*out.allocator());
         let answer = match lines.poll_line(cx, &mut line, limit) {

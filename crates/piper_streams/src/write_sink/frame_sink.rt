@@ -112,9 +112,7 @@ impl<W: AsyncWrite + Drop> Sink<Vec<u8>> for FrameSink<W> {
         }
         let header = self.format.encode(item.len());
         let mut frame = item;
-        if frame.extend_from_slice(header.as_slice()).is_err() {
-            return Err(PipeError::Memory);
-        }
+        frame.extend_from_slice(header.as_slice())?;
         frame.rotate_right(header.as_slice().len());
         self.sink.written = 0;
         self.sink.piece = frame;

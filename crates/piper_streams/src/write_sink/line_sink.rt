@@ -59,6 +59,7 @@ impl<W: AsyncWrite + Drop> LineSink<W> {
 }
 
 impl<W: AsyncWrite + Drop> Sink<Vec<u8>> for LineSink<W> {
+    ghost use Rattle.piper.specs.Failed.{WasRefused};
     ghost use Rattle.piper_streams.specs.SentLines.{LinesSent, ending_of, line_of, lines_below};
 
     type Error = PipeError;
@@ -94,7 +95,7 @@ impl<W: AsyncWrite + Drop> Sink<Vec<u8>> for LineSink<W> {
     /// it was.
     fn start_send(&mut self, item: Vec<u8>) -> Result<(), PipeError>
         requires { left_of (lines_below self.old) ≡ [] }
-        ensures error { IfErr result (λ e. (e ≡ PipeError.Memory)
+        ensures error { IfErr result (λ e. WasRefused e
             × (vec_capacity item ≤ vec_len item)) }
         ensures history { OnOk result ((xs : _) → LinesSent W.sent W.saw self.old xs
             → LinesSent W.sent W.saw self.new (xs ++ item ∷ [])) }
@@ -105,9 +106,7 @@ impl<W: AsyncWrite + Drop> Sink<Vec<u8>> for LineSink<W> {
             × (ending_of self.new ≡ ending_of self.old) }
     {
         let mut line = item;
-        if line.push(self.end).is_err() {
-            return Err(PipeError::Memory);
-        }
+        line.extend_from_slice(&[self.end])?;
         self.sink.written = 0;
         self.sink.piece = line;
         Ok(())
