@@ -19,6 +19,8 @@ mod owners;
 #[cfg(test)]
 mod pair;
 #[cfg(test)]
+mod racing;
+#[cfg(test)]
 mod upstream;
 #[cfg(test)]
 mod waking;
