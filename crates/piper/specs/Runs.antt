@@ -52,8 +52,8 @@ abbrev pub wait_next : {E : Type 0} → Result Look E → Purpose → Point → 
 wait_next (Ok found) purpose there = look_next found purpose there
 wait_next (Err e) purpose there = ends (idle there) (look_answer purpose polled.Memory)
 
--- since a the reader made one call: it began at this point, and its accesses are a run of the call
--- table to this answer
+-- since a the reader made one call: it began at this point, and the lines of its log are a run of the
+-- call table to this answer
 abbrev pub ReaderRan : Point → Answer → Reader → Reader → Type 0
 ReaderRan start answer a b = Ran start answer a.side.log b.side.log
 

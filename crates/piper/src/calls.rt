@@ -67,8 +67,8 @@ impl Reader {
     /// Returns: `true` if a byte is known, which `peek_buf` lends; `false` at the end: the pipe is
     /// closed, and every byte that was ever published has been taken. The end is final.
     /// Pending: no byte is known, and the pipe was not seen closed.
-    /// Errors: `OutOfMemory`, only if no byte is known and no waker can be made. It may come at the
-    /// end too, since the waker is made before closed is loaded.
+    /// Errors: `OutOfMemory`, only if no byte is known and no waker could be made, in this call or an
+    /// earlier one with this context. It may come at the end, since closed is loaded after that.
     pub fn poll(&mut self, cx: &mut Context<'_>) -> Poll<Result<bool, OutOfMemory>>
         ensures ran { ReaderRan (reader_looks self.old Purpose.Poll) (poll_answer result)
             self.old self.new }
@@ -214,7 +214,7 @@ impl Writer {
     /// even if there is room. `false` is final.
     /// Pending: there is no room, and the pipe was not seen closed.
     /// Errors: `OutOfMemory`, only if there is no room, the pipe was not seen closed, and no waker
-    /// can be made.
+    /// could be made, in this call or an earlier one with this context.
     pub fn poll(&mut self, cx: &mut Context<'_>) -> Poll<Result<bool, OutOfMemory>>
         ensures ran { WriterRan (writer_looks Purpose.Poll) (poll_answer result)
             self.old self.new }

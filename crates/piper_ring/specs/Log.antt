@@ -128,8 +128,8 @@ pub record Comes (there : Next Point) (a b : Log) : Type 0 where
   pub before : before_of b.lines ≡ before_of a.lines
   pub now : now b ≡ there
 
--- since a, one call was made: it began at this point, and its accesses, in their order and with what
--- they found, are a run of the table to this answer
+-- since a, one call was made: it began at this point, and its lines, in their order, are a run of the
+-- table to this answer
 abbrev pub Ran : Point → Answer → Log → Log → Type 0
 Ran start answer a b = Opened start (ends (idle start) answer) a b
 
