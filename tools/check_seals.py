@@ -71,6 +71,12 @@ SEALS = {
     "as_read": ("piper/specs/StdEnds", ["piper/proofs/like/std_ends/std_read"]),
     "as_written": ("piper/specs/StdEnds", ["piper/proofs/like/std_ends/std_write"]),
     "as_flushed": ("piper/specs/StdEnds", ["piper/proofs/like/std_ends/std_flush"]),
+    "as_stepped": (
+        "piper_ring/specs/Log",
+        ["piper/proofs/handles/waiting/call", "piper/proofs/handles/draws/ask_again"]
+        + [f"piper_c/proofs/halves/{call}" for call in ("wake_waiting", "wake_own")]
+        + [f"piper_c/proofs/halves/{half}/leave" for half in ("ReadHalf", "WriteHalf")],
+    ),
     "as_begins_at": ("piper_c/specs/Address", ["piper_c/proofs/lending/address"]),
     "as_left": (
         "piper_c/specs/Leaving",

@@ -169,12 +169,22 @@ pub as_finished : {T : Type 0} (names : Names) (taken : Option T) (log : Log)
 unfolding HasLeft
 as_finished names taken log = tt
 
+-- this step was made, which is no access of a ring. It is sealed: no proof looks into it, and only
+-- those of the functions that make the step use the lemma below
+pub WasMade : Action → Type 0
+WasMade action = ⊤
+
+pub as_stepped : (action : Action) → WasMade action
+unfolding WasMade
+as_stepped action = tt
+
 -- the step is no access of a ring: a call of the source or the destination of a copy, of a waker, or
--- for one that is to be registered
+-- for one that is to be registered. A waker was called before that is noted, and another poll asked
+-- for
 abbrev pub IsOutside : Action → Type 0
 IsOutside does.Register = ⊤
-IsOutside does.Wake = ⊤
-IsOutside does.Yield = ⊤
+IsOutside does.Wake = WasMade does.Wake
+IsOutside does.Yield = WasMade does.Yield
 IsOutside does.CallDestination = ⊤
 IsOutside does.CallSource = ⊤
 IsOutside action = ⊥

@@ -43,7 +43,7 @@ impl Drop for Log {
 }
 
 impl Log {
-    ghost use Rattle.piper_ring.specs.Log.{WasClosedLoaded, WasIndexLoaded, WasSlotLoaded, began, closed_loaded, drew, made, next, with_line};
+    ghost use Rattle.piper_ring.specs.Log.{WasClosedLoaded, WasIndexLoaded, WasMade, WasSlotLoaded, began, closed_loaded, drew, made, next, with_line};
 
     pub(crate) fn new() -> Log
         ensures { result.lines ≡ [] }
@@ -106,7 +106,8 @@ impl Log {
     /// The waker that was taken was called, by a side that has left.
     #[inline(always)]
     pub fn woke(&mut self)
-        requires { next self.old ≡ Action.Wake }
+        requires turn { next self.old ≡ Action.Wake }
+        requires called { WasMade Action.Wake }
         ensures { self.new ≡ made Found.Nothing self.old }
     {
         self.note(Found::Nothing);

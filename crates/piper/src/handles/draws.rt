@@ -1,7 +1,7 @@
 //! The draw of a polling copy, which makes it yield once in a hundred calls.
 ghost use Rattle.std.specs.Prelude.{◌≡◌, ◌↔◌, Bool, IsTrue, IsFalse, true, false};
 ghost use Rattle.futures.specs.Task.{Keeps};
-ghost use Rattle.piper_ring.specs.Log.{drew, made, next, own};
+ghost use Rattle.piper_ring.specs.Log.{WasMade, drew, made, next, own};
 ghost use Rattle.piper_ring.specs.SlotsView.{OnlyWaits};
 ghost use Rattle.piper.specs.Contexts.{AsksAgain};
 ghost use Rattle.piper.specs.Draws.{DrawsYield, drawn_from};
@@ -41,10 +41,20 @@ pub(crate) fn draw_yield<E: SlotEnd>(
     side.drew(is_drawn);
     take_own(side);
     if is_drawn {
-        let _pending: Poll<()> = cx.yield_now();
+        ask_again(cx);
         side.note(Action::Yield, Found::Granted(true));
     }
     is_drawn
+}
+
+// Asks for another poll, in place of the rounds of a copy.
+#[inline(always)]
+fn ask_again(cx: &mut Context<'_>)
+    ensures again { AsksAgain cx.new }
+    ensures made { WasMade Action.Yield }
+    ensures kept { Keeps cx.old cx.new }
+{
+    let _pending: Poll<()> = cx.yield_now();
 }
 
 // Takes one word, and reports whether it is 0 modulo 100.

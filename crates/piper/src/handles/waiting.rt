@@ -1,7 +1,7 @@
 //! What both handles do at the slots: in their own a task waits, in the other's they wake one.
 ghost use Rattle.std.specs.Prelude.{◌≡◌, ◌⊎◌, IsTrue, IsFalse, IfNone, IfSome, true, false};
 ghost use Rattle.futures.specs.Task.{Covers, Keeps, Wakes};
-ghost use Rattle.piper_ring.specs.Log.{Comes, WakesNext, made, next, now, other, own, then};
+ghost use Rattle.piper_ring.specs.Log.{Comes, WakesNext, WasMade, made, next, now, other, own, then};
 ghost use Rattle.piper_ring.specs.SlotsView.{OnlyWaits, WaitsAsBefore};
 ghost use Rattle.piper.specs.Called.{CallsOwn, CallsTaken, IsGranted, LetsOwnGo, WasCalled, WasLetGo};
 ghost use Rattle.piper.specs.Contexts.{JustRegistered};
@@ -110,7 +110,8 @@ pub(crate) fn wake_own<E: SlotEnd>(side: &mut Side<E, Waker>)
 
 /// Calls a waker that came out of its place.
 pub(crate) fn call(waker: Waker)
-    ensures { WasCalled waker }
+    ensures called { WasCalled waker }
+    ensures made { WasMade Action.Wake }
 {
     waker.wake();
 }

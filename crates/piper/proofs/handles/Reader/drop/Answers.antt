@@ -9,7 +9,7 @@ use Rattle.piper.proofs.handles.Reader.drop.Goals.{in-Some, in_default}
 is_called : (c : goal.After-result-1) → IfSome c.finish-side.result.taken WasCalled
 is_called c =
     elim c.match-taken.branch [
-      | in-Some w ↦ rw w.in-Some.is w.call.ensures
+      | in-Some w ↦ rw w.in-Some.is w.call.ensures.called
       | in_default w ↦ rw w.in_default.is tt
     ]
 
