@@ -120,7 +120,7 @@ pub(crate) mod std {
     #[cfg(not(feature = "std"))]
     pub(crate) mod io {
         #[derive(Debug)]
-        pub(crate) enum Error {
+        pub enum Error {
             OutOfMemory,
         }
         pub(crate) use Error as ErrorKind;

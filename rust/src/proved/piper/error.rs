@@ -9,11 +9,11 @@ use crate::shim::std::io;
 /// What a call may fail with that reads or writes by std, or by a trait of `piper::io`.
 #[derive(Debug, /* Drop, Error */)]
 pub enum PipeError {
-    /* /// No waker could be made, or no room for bytes that are gathered.
-    #[error("out of memory")] */
+    /// No waker could be made, or no room for bytes that are gathered.
+    /* #[error("out of memory")] */
     Memory,
-    /* /// The source or the destination failed, with this error.
-    #[error("io failed: {0}")] */
+    /// The source or the destination failed, with this error.
+    /* #[error("io failed: {0}")] */
     Io(io::Error),
 }
 
