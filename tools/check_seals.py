@@ -69,11 +69,6 @@ SEALS = {
     "as_read": ("piper/specs/StdEnds", ["piper/proofs/like/std_ends/std_read"]),
     "as_written": ("piper/specs/StdEnds", ["piper/proofs/like/std_ends/std_write"]),
     "as_flushed": ("piper/specs/StdEnds", ["piper/proofs/like/std_ends/std_flush"]),
-    "as_begins_at": ("piper_c/specs/Address", ["piper_c/proofs/lending/address"]),
-    "as_left": (
-        "piper_c/specs/Leaving",
-        [f"piper_c/proofs/halves/{half}/leave" for half in ("ReadHalf", "WriteHalf")],
-    ),
     "as_waker_refused": ("piper_transfer/specs/Transfer", ["piper_transfer/proofs/error/no_waker"]),
     "as_cannot_wait": ("piper_transfer/specs/Transfer", ["piper_transfer/proofs/turns/of_queue"]),
     "as_asked": ("piper_transfer/specs/Transfer", ["piper_transfer/proofs/over/OutputOverHears/is_over"]),
@@ -113,8 +108,8 @@ GIVES_NONE = {
     ("piper_pump/specs/CommandLine", "are_words_prop"),
 }
 
-# The crates that hold memory which two threads share, or which belongs to C.
-UNSAFE = {"piper_c", "piper_cells", "piper_ring"}
+# The crates that hold memory which two threads share.
+UNSAFE = {"piper_cells", "piper_ring"}
 
 DECLARES = re.compile(r"^((?:(?:abbrev|unfoldable|opaque|pub)\s+)*)([^\s:(){}]+)\s*:(?=\s)", re.M)
 HOLDS_OF_ALL = re.compile(r"^([^\s(]+)((?: [a-z]\w*)*) = ⊤$", re.M)
