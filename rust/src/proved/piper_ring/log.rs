@@ -32,8 +32,10 @@ pub struct Log {
     ghost also_shares = { λ _ _ _. ftrue };
 } */
 
+// SAFETY: it has no bytes.
 unsafe impl Send for Log {}
 
+// SAFETY: as above.
 unsafe impl Sync for Log {}
 
 /* impl Drop for Log {
