@@ -12,12 +12,12 @@ sources=${CARGO_SOURCES:-/usr/share/cargo/registry}
 work=$(mktemp -d)
 trap 'rm -rf "$work"' EXIT
 
-answers() { # NAME FOLDER CALLS
-    mkdir "$work/$1"
+answers() { # NAME FOLDER CALLS [PIPE]
+    mkdir -p "$work/$1"
     printf '%s\n' '[package]' 'name = "answers"' 'version = "0.1.0"' 'edition = "2021"' '[dependencies]' \
         "piper = { path = \"$(cd "$2" && pwd)\" }" '[[bin]]' 'name = "answers"' "path = \"$here/examples/answers.rs\"" > "$work/$1/Cargo.toml"
     (cd "$work/$1" && cargo --config "source.crates-io.replace-with='here'" --config "source.here.directory='$sources'" \
-        run --quiet --release --offline --target-dir "$work/$1/target" -- "$3") > "$work/$1.answers"
+        run --quiet --release --offline --target-dir "$work/$1/target" -- "${@:3}") > "$work/$1.answers"
 }
 
 answers here "$here" "${2:-10000000}"
@@ -25,6 +25,10 @@ answers there "$1" "${2:-10000000}"
 if cmp -s "$work/here.answers" "$work/there.answers"; then
     echo "$(wc -l < "$work/here.answers") pipes answer alike"
 else
-    echo "pipe $(diff "$work/here.answers" "$work/there.answers" | sed -n '2s/< \([0-9]*\) .*/\1/p') answers otherwise"
+    pipe=$(diff "$work/here.answers" "$work/there.answers" | sed -n '2s/< \([0-9]*\) .*/\1/p' || true)
+    answers here "$here" 0 "$pipe"
+    answers there "$1" 0 "$pipe"
+    diff -U 6 "$work/here.answers" "$work/there.answers" | head -n 30 || true
+    echo "pipe $pipe answers otherwise"
     exit 1
 fi
