@@ -141,7 +141,7 @@ uint32_t piper_writer_poll(piper_writer *writer, piper_waker waker);
  * may be less than `max` though more room is there. What is in the bytes is not said.
  *
  * The room is the caller's to read and write until this writer's next call that takes it as not
- * const. Then it goes back, but for what `publish` published. */
+ * const. What `publish` did not publish goes back then. */
 size_t piper_writer_lend(piper_writer *writer, size_t max, uint8_t **at);
 
 /* Publishes the first `n` bytes of what is left of the room that was lent last, as the caller wrote

@@ -117,10 +117,13 @@ pub fn pipe(cap: usize) -> (Reader, Writer) {
     }
 }
 
-/// What a poll says, after which no waker is left if it is over, even if it found the end. It can't want memory: a waker's clone
-/// is always granted.
+/// What a poll says. If it is over, it leaves no waker, even if it found the end. It can't want
+/// memory: a waker's clone is always granted.
 #[inline]
-fn settled<E: SlotEnd, T>(side: &mut Side<E, Waker>, polled: Poll<Result<T, OutOfMemory>>) -> Poll<T> {
+fn settled<E: SlotEnd, T>(
+    side: &mut Side<E, Waker>,
+    polled: Poll<Result<T, OutOfMemory>>,
+) -> Poll<T> {
     let_go(side, &polled);
     polled.map(|answer| answer.unwrap_or_else(|OutOfMemory| unreachable!("wakers are granted")))
 }

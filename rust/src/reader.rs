@@ -1,8 +1,8 @@
 //! The handle that reads.
 
 use crate::proved::piper as proved;
-use crate::shim::futures::task::Context as Task;
 use crate::settled;
+use crate::shim::futures::task::Context as Task;
 #[cfg(feature = "std")]
 use crate::{copied, Checked};
 use core::fmt;

@@ -2,7 +2,8 @@
 //!
 //! Rattle's meaning of that source and Rust's differ in these points:
 //!
-//! - **Overflow, indices.** Neither happens, which is proved. Rust checks indices all the same, and sums in debug builds.
+//! - **Overflow, indices.** No sum overflows and no index is too large, which is proved. Rust checks indices all the same,
+//!   and sums in debug builds.
 //! - **Conditions.** A safe function with a `requires` may be unsound to call without it. All of `proved` is private to the
 //!   crate; of what `lib`, `reader` and `writer` call, `pipe`, `consume` and `produced` have one, and an assertion for it.
 //!   What the proof takes of `Read` and `Write`, `Checked` in `lib` asserts.
@@ -18,10 +19,8 @@
 
 pub(crate) mod std {
     pub(crate) use core::{convert, slice};
-
     pub(crate) mod marker {
         pub(crate) use core::marker::{PhantomData, Send, Sync};
-
         /// It says of an access that it is one of the proved words.
         pub(crate) struct Brand;
     }
@@ -29,7 +28,6 @@ pub(crate) mod std {
     pub(crate) mod sync {
         pub(crate) mod atomic {
             pub(crate) use core::sync::atomic::Ordering;
-
             /// Accesses of the words that both sides share.
             pub(crate) mod raw {
                 #[cfg(target_has_atomic = "64")]
@@ -80,16 +78,14 @@ pub(crate) mod std {
         use alloc::alloc::{alloc, dealloc, handle_alloc_error};
         use core::alloc::Layout;
 
-        /// Memory was refused: no block can be as large as that.
+        /// No block can be as large as that.
         pub(crate) struct AllocError;
-
         /// The program's heap.
         #[derive(Clone, Copy)]
         pub(crate) struct Global;
 
         pub(crate) trait Allocator {
             fn allocate(&self, size: usize, align: usize) -> Result<*mut u8, AllocError>;
-
             /// Safety: `allocate` gave this block, of this size and alignment, and it wasn't given back since.
             unsafe fn deallocate(&self, at: *mut u8, size: usize, align: usize);
         }
@@ -105,7 +101,6 @@ pub(crate) mod std {
                 }
                 Ok(at)
             }
-
             unsafe fn deallocate(&self, at: *mut u8, size: usize, align: usize) {
                 // SAFETY: the caller says that this was the layout of the block, so it is one.
                 unsafe { dealloc(at, Layout::from_size_align_unchecked(size, align)) }
@@ -115,7 +110,6 @@ pub(crate) mod std {
 
     #[cfg(feature = "std")]
     pub(crate) use ::std::io;
-
     /// What the source names of `std::io`, and nobody calls without `std`.
     #[cfg(not(feature = "std"))]
     pub(crate) mod io {
@@ -141,7 +135,6 @@ pub(crate) mod futures {
 
         /// What a task waits at: in Rust its waker alone.
         pub(crate) struct Source;
-
         impl Source {
             pub(crate) fn new() -> Source {
                 Source
@@ -179,38 +172,29 @@ pub(crate) mod futures {
     }
 }
 
-/// Draws: a generator of the PCG family (XSH RR 64/32).
-pub(crate) mod rand_pcg {
-    use super::rand_core::{utils::NextWord, SeedableRng};
-
-    pub(crate) struct Pcg32(u64);
-
-    impl SeedableRng for Pcg32 {
-        fn seed_from_u64(seed: u64) -> Pcg32 {
-            let mut seeded = Pcg32(seed);
-            seeded.next_word();
-            seeded
-        }
-    }
-
-    impl NextWord for Pcg32 {
-        fn next_word(&mut self) -> u32 {
-            let state = self.0;
-            self.0 = state.wrapping_mul(6_364_136_223_846_793_005).wrapping_add(1_442_695_040_888_963_407);
-            let mixed = (((state >> 18) ^ state) >> 27) as u32;
-            mixed.rotate_right((state >> 59) as u32)
-        }
-    }
-}
-
 pub(crate) mod rand_core {
     pub(crate) trait SeedableRng {
         fn seed_from_u64(seed: u64) -> Self;
     }
-
     pub(crate) mod utils {
         pub(crate) trait NextWord {
             fn next_word(&mut self) -> u32;
+        }
+    }
+}
+pub(crate) mod rand_pcg {
+    /// A generator of the PCG family (XSH RR 64/32).
+    pub(crate) struct Pcg32(u64);
+    impl super::rand_core::SeedableRng for Pcg32 {
+        fn seed_from_u64(seed: u64) -> Pcg32 {
+            Pcg32(seed.wrapping_mul(6_364_136_223_846_793_005))
+        }
+    }
+    impl super::rand_core::utils::NextWord for Pcg32 {
+        fn next_word(&mut self) -> u32 {
+            let state = self.0;
+            self.0 = state.wrapping_mul(6_364_136_223_846_793_005).wrapping_add(1_442_695_040_888_963_407);
+            ((((state >> 18) ^ state) >> 27) as u32).rotate_right((state >> 59) as u32)
         }
     }
 }

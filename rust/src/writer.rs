@@ -1,7 +1,7 @@
 //! The handle that writes.
 
-use crate::settled;
 use crate::proved::piper as proved;
+use crate::settled;
 use crate::shim::futures::task::Context as Task;
 #[cfg(feature = "std")]
 use crate::{copied, Checked};
