@@ -7,7 +7,7 @@
  * - A pointer is not null, and the memory at it is the caller's for as long as the call runs. That
  *   of a pointer and a length (`to`, `from`) is at least that long. It may lie in a pipe, even in
  *   the same one: the bytes that `peek` gave are the reader's to read, and room that is lent is the
- *   writer's to write, until another call that changes that side is made.
+ *   writer's to write.
  * - A handle that a call takes was filled by `piper_open`. It may be moved, and then its old place is
  *   not used again. A handle that was dropped can only be dropped: any other call ends the program.
  * - A handle is used by one thread at a time, but calls that take it as const may be made by several.
@@ -105,7 +105,7 @@ uint32_t piper_reader_poll(piper_reader *reader, piper_waker waker);
 
 /* The known bytes that lie in one piece, the next one first: puts their address into `*at` and
  * returns how many they are, at least one after a poll that was ready. It looks for no more. The
- * bytes stay there, unchanged, until this reader's next call that takes it as not const. */
+ * bytes stay there, unchanged, until this reader's next `consume`, `read` or `drop`. */
 size_t piper_reader_peek(const piper_reader *reader, const uint8_t **at);
 
 /* Takes the first `n` bytes of what `peek` gives, and wakes the writer. If `n` is more than that, it
@@ -140,8 +140,8 @@ uint32_t piper_writer_poll(piper_writer *writer, piper_waker waker);
  * returns how many bytes it is. It is at least one after a poll that was ready, if `max` isn't 0; it
  * may be less than `max` though more room is there. What is in the bytes is not said.
  *
- * The room is the caller's to read and write until this writer's next call that takes it as not
- * const. What `publish` did not publish goes back then. */
+ * The room is the caller's to read and write until it is published, or until this writer's next
+ * `lend`, `write` or `drop`, by which what is left of it goes back. */
 size_t piper_writer_lend(piper_writer *writer, size_t max, uint8_t **at);
 
 /* Publishes the first `n` bytes of what is left of the room that was lent last, as the caller wrote
