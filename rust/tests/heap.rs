@@ -5,7 +5,6 @@
 
 use std::alloc::{GlobalAlloc, Layout, System};
 use std::cell::Cell;
-use std::collections::HashMap;
 use std::process::Command;
 use std::sync::atomic::{AtomicBool, Ordering};
 use std::sync::Mutex;
@@ -72,7 +71,6 @@ fn each_block_goes_back_as_it_came() {
         let _pipe = pipe(2_000_000);
         return;
     }
-    let mut sizes = HashMap::new();
     for capacity in [1, 7, 8, 1_000, 70_000, 1 << 20] {
         COUNTS.set(true);
         let (mut reader, mut writer) = pipe(capacity);
@@ -86,13 +84,8 @@ fn each_block_goes_back_as_it_came() {
         COUNTS.set(false);
         assert_eq!(*OUT.lock().unwrap(), []);
         assert_eq!(*MISTAKES.lock().unwrap(), [""; 0]);
-        assert!(blocks.iter().any(|size| *size >= capacity));
-        sizes.insert(capacity, blocks);
+        assert!(matches!(blocks[..], [size] if (capacity..capacity + 300).contains(&size)));
     }
-    // The stand-in has the bytes of a pipe more than once.
-    let times = if piper::IS_PROVED { 1 } else { 2 };
-    assert!(sizes[&70_000].iter().sum::<usize>() < times * 70_000 + 1_000);
-    assert_eq!(sizes[&1].len(), sizes[&(1 << 20)].len());
 }
 
 #[test]
