@@ -23,6 +23,7 @@ fn a_pipe_of_no_or_too_many_bytes_is_refused() {
     panics(|| pipe(0));
     panics(|| pipe(usize::MAX));
     panics(|| pipe(usize::MAX / 2 + 1));
+    panics(|| pipe(usize::MAX / 2));
 }
 
 #[test]
