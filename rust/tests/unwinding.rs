@@ -5,9 +5,9 @@ mod common;
 
 use common::{bytes_from, number, Numbers, PERIOD};
 use piper::{pipe, Reader, Writer};
+use std::any::Any;
 use std::cell::{Cell, RefCell};
 use std::io::{self, Read, Write};
-use std::mem::forget;
 use std::panic::{catch_unwind, set_hook, AssertUnwindSafe};
 use std::ptr;
 use std::task::{Context, Poll, RawWaker, RawWakerVTable, Waker};
@@ -23,7 +23,8 @@ thread_local! {
     static ALIVE: Cell<usize> = const { Cell::new(0) };
     /// Whether a call of a waker, a source or a destination is made in one of those: that one does just what it is asked.
     static IS_INSIDE: Cell<bool> = const { Cell::new(false) };
-    static WAS_FORGOTTEN: Cell<bool> = const { Cell::new(false) };
+    /// Handles that are forgotten, until the pipe's end.
+    static FORGOTTEN: RefCell<Vec<Box<dyn Any>>> = const { RefCell::new(Vec::new()) };
     static DRAWS: RefCell<Numbers> = RefCell::new(Numbers::new(1));
     static STREAM: Vec<u8> = bytes_from(0, 2 * PERIOD).iter().map(|it| it | 1).collect();
 }
@@ -61,10 +62,7 @@ fn reader_acts_inside() {
     TAKEN.set(TAKEN.get() + count);
     match draw(60) {
         0 => drop(reader),
-        1 => {
-            WAS_FORGOTTEN.set(true);
-            forget(reader);
-        }
+        1 => FORGOTTEN.with_borrow_mut(|all| all.push(Box::new(reader))),
         _ => READER.set(Some(reader)),
     }
 }
@@ -75,10 +73,7 @@ fn writer_acts_inside() {
     PUBLISHED.set(PUBLISHED.get() + count);
     match draw(60) {
         0 => drop(writer),
-        1 => {
-            WAS_FORGOTTEN.set(true);
-            forget(writer);
-        }
+        1 => FORGOTTEN.with_borrow_mut(|all| all.push(Box::new(writer))),
         _ => WRITER.set(Some(writer)),
     }
 }
@@ -236,12 +231,9 @@ fn play(capacity: usize, calls: usize) {
     IS_INSIDE.set(true);
     reader_acts_inside();
     writer_acts_inside();
-    drop((READER.take(), WRITER.take()));
+    drop((READER.take(), WRITER.take(), FORGOTTEN.take()));
     IS_INSIDE.set(false);
-    if !WAS_FORGOTTEN.replace(false) {
-        assert_eq!(ALIVE.get(), 0, "a waker is left");
-    }
-    ALIVE.set(0);
+    assert_eq!(ALIVE.replace(0), 0, "a waker is left");
 }
 
 #[test]
