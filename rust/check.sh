@@ -234,6 +234,9 @@ if cargo clippy --version > /dev/null 2>&1; then
 else
     echo 'clippy: left out, this toolchain has none'
 fi
+if cargo fmt --version > /dev/null 2>&1; then
+    holds 'cargo fmt' cargo fmt --check
+fi
 holds 'cargo package' packed piper
 holds 'cargo package under its own name' packed_under_its_own_name
 holds 'a name of its own' has_a_name_of_its_own

@@ -78,6 +78,7 @@
 extern crate alloc;
 
 // What only the proofs use is left in the source: arguments, labels, functions.
+#[rustfmt::skip]
 #[allow(dead_code, unused, missing_docs, clippy::all, clippy::undocumented_unsafe_blocks)]
 mod proved;
 mod reader;
@@ -120,10 +121,7 @@ pub fn pipe(cap: usize) -> (Reader, Writer) {
 /// What a poll says. If it is over, it leaves no waker, even if it found the end. It can't want
 /// memory: a waker's clone is always granted.
 #[inline]
-fn settled<E: SlotEnd, T>(
-    side: &mut Side<E, Waker>,
-    polled: Poll<Result<T, OutOfMemory>>,
-) -> Poll<T> {
+fn settled<E: SlotEnd, T>(side: &mut Side<E, Waker>, polled: Poll<Result<T, OutOfMemory>>) -> Poll<T> {
     let_go(side, &polled);
     polled.map(|answer| answer.unwrap_or_else(|OutOfMemory| unreachable!("wakers are granted")))
 }

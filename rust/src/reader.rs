@@ -213,11 +213,7 @@ impl Reader {
     /// ```
     #[cfg(feature = "std")]
     #[inline]
-    pub fn poll_drain(
-        &mut self,
-        cx: &mut Context<'_>,
-        dest: impl Write,
-    ) -> Poll<io::Result<usize>> {
+    pub fn poll_drain(&mut self, cx: &mut Context<'_>, dest: impl Write) -> Poll<io::Result<usize>> {
         let polled = self.side.poll_drain(&mut Task::new(cx), &mut Checked(dest));
         copied(&mut self.side.side, polled)
     }
@@ -245,11 +241,7 @@ impl fmt::Debug for Reader {
 
 #[cfg(feature = "std")]
 impl AsyncRead for Reader {
-    fn poll_read(
-        self: Pin<&mut Self>,
-        cx: &mut Context<'_>,
-        buf: &mut [u8],
-    ) -> Poll<io::Result<usize>> {
+    fn poll_read(self: Pin<&mut Self>, cx: &mut Context<'_>, buf: &mut [u8]) -> Poll<io::Result<usize>> {
         self.get_mut().poll_drain_bytes(cx, buf).map(Ok)
     }
 }

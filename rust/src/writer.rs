@@ -255,11 +255,7 @@ impl fmt::Debug for Writer {
 
 #[cfg(feature = "std")]
 impl AsyncWrite for Writer {
-    fn poll_write(
-        self: Pin<&mut Self>,
-        cx: &mut Context<'_>,
-        buf: &[u8],
-    ) -> Poll<io::Result<usize>> {
+    fn poll_write(self: Pin<&mut Self>, cx: &mut Context<'_>, buf: &[u8]) -> Poll<io::Result<usize>> {
         self.get_mut().poll_fill_bytes(cx, buf).map(Ok)
     }
 

@@ -43,14 +43,8 @@ unsafe impl GlobalAlloc for Counting {
             let mut out = OUT.lock().unwrap();
             match out.iter().position(|it| it.0 == at as usize) {
                 Some(found) if out[found].1 == layout => drop(out.swap_remove(found)),
-                Some(_) => MISTAKES
-                    .lock()
-                    .unwrap()
-                    .push("given back with another layout"),
-                None => MISTAKES
-                    .lock()
-                    .unwrap()
-                    .push("given back, and never asked for"),
+                Some(_) => MISTAKES.lock().unwrap().push("given back with another layout"),
+                None => MISTAKES.lock().unwrap().push("given back, and never asked for"),
             }
             COUNTS.set(true);
         }
@@ -91,18 +85,11 @@ fn each_block_goes_back_as_it_came() {
 #[test]
 fn a_refusal_ends_the_program_as_any_allocation_does() {
     let this = std::env::current_exe().unwrap();
-    let run = Command::new(this)
-        .env(REFUSED, "1")
-        .args(["--exact", "each_block_goes_back_as_it_came"])
-        .output()
-        .unwrap();
+    let run =
+        Command::new(this).env(REFUSED, "1").args(["--exact", "each_block_goes_back_as_it_came"]).output().unwrap();
     let said = String::from_utf8_lossy(&run.stderr);
     assert!(!run.status.success());
-    let mut words = said
-        .split_once("memory allocation of ")
-        .unwrap()
-        .1
-        .split(' ');
+    let mut words = said.split_once("memory allocation of ").unwrap().1.split(' ');
     let refused: usize = words.next().unwrap().parse().unwrap();
     assert!((2_000_000..2_001_000).contains(&refused), "{said}");
 }

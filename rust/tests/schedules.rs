@@ -98,9 +98,8 @@ impl Board {
             }
         }
         self.changed.notify_all();
-        let has_turn = |state: &State| {
-            state.turn == me && state.is[me] == Is::Running && !state.is.contains(&Is::Starting)
-        };
+        let has_turn =
+            |state: &State| state.turn == me && state.is[me] == Is::Running && !state.is.contains(&Is::Starting);
         while to != Is::Done && !state.is_stuck && !has_turn(&state) {
             state = self.changed.wait(state).unwrap();
         }
