@@ -69,13 +69,14 @@ prepare() {
     mkdir -p "$root/crates" "$root/home"
     ln -sfn "$sources"/* "$root/usr/lib/rustlib/src/rust/library/vendor"/* "$root/crates"
     printf '%s\n' '[source.crates-io]' 'replace-with = "here"' '[source.here]' "directory = \"$root/crates\"" > "$root/home/config.toml"
-    # The package, without what the other tests want.
-    rm -rf "$root/package"
-    mkdir "$root/package"
-    cp -r "$here"/{src,tests,README.md} "$root/package"
-    rm "$root"/package/tests/{programs,examples}.rs
-    sed '/^\[dev-dependencies\]/,$d' "$here/Cargo.toml" > "$root/package/Cargo.toml"
-    printf '[dev-dependencies]\nfutures-lite = ">=1.12, <3"\n' >> "$root/package/Cargo.toml"
+    # The package, without what the other tests want, and the library for C.
+    rm -rf "$root/rust" "$root/c"
+    mkdir "$root/rust" "$root/c"
+    cp -r "$here"/{src,tests,README.md} "$root/rust"
+    rm "$root"/rust/tests/{programs,examples}.rs
+    sed '/^\[dev-dependencies\]/,$d' "$here/Cargo.toml" > "$root/rust/Cargo.toml"
+    printf '[dev-dependencies]\nfutures-lite = ">=1.12, <3"\n' >> "$root/rust/Cargo.toml"
+    cp -r "$here"/../c/{src,Cargo.toml} "$root/c"
     export RUSTC=$root/rustc RUSTC_BOOTSTRAP=1 CARGO_HOME=$root/home
     export PIPER_TEST_CALLS=${PIPER_TEST_CALLS:-50000} PIPER_TEST_SHARE=${PIPER_TEST_SHARE:-20}
 }
@@ -116,12 +117,13 @@ STUB
 try() { # TARGET [LINKER [RUNNER..]]
     local target=$1 name
     name=${target//-/_}
-    cd "$root/package" || return
+    cd "$root/rust" || return
     if [ $# -eq 1 ]; then
-        local std=std,panic_abort features=()
-        [[ $target != *-none-* ]] || std=core,alloc features=(--no-default-features)
-        cargo check --quiet --offline "-Zbuild-std=$std" "${features[@]}" --target "$target" --target-dir "$root/target" || return 1
-        echo 'builds'
+        local check=(cargo check --quiet --offline --target "$target" --target-dir "$root/target")
+        case $target in
+            *-none-*) "${check[@]}" -Zbuild-std=core,alloc --no-default-features && echo 'builds without std' ;;
+            *) "${check[@]}" -Zbuild-std=std,panic_abort && cd "$root/c" && "${check[@]}" -Zbuild-std=std,panic_abort && echo 'builds, with C' ;;
+        esac
         return
     fi
     local tool
