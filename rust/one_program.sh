@@ -108,42 +108,18 @@ MAIN
     (cd above && offline run && offline run --release)
 }
 
-# A static library over the package. One of a program may have an allocator: this one counts which blocks are out.
+# A static library over the package.
 static_library() { # NAME FEATURES
     manifest "$1" '[lib]' 'crate-type = ["staticlib"]' '[dependencies]' "piper = { path = \"$room/this\"$2 }"
-    cat > "$1/src/lib.rs" <<'LIB'
+    cat > "$1/src/lib.rs" <<LIB
 /// How many bytes come through a pipe.
 #[no_mangle]
-pub extern "C" fn NAME_carries(byte: u8) -> usize {
+pub extern "C" fn $1_carries(byte: u8) -> usize {
     let (mut reader, mut writer) = piper::pipe(4);
     writer.try_fill(&[byte]);
     reader.try_drain(&mut [0; 4])
 }
 LIB
-    [ "$1" = two ] || cat >> "$1/src/lib.rs" <<'LIB'
-use std::alloc::{GlobalAlloc, Layout, System};
-use std::sync::atomic::{AtomicUsize, Ordering};
-struct Counts;
-static OUT: AtomicUsize = AtomicUsize::new(0);
-unsafe impl GlobalAlloc for Counts {
-    unsafe fn alloc(&self, layout: Layout) -> *mut u8 {
-        OUT.fetch_add(1, Ordering::SeqCst);
-        System.alloc(layout)
-    }
-    unsafe fn dealloc(&self, at: *mut u8, layout: Layout) {
-        OUT.fetch_sub(1, Ordering::SeqCst);
-        System.dealloc(at, layout)
-    }
-}
-#[global_allocator]
-static HEAP: Counts = Counts;
-/// How many blocks are out.
-#[no_mangle]
-pub extern "C" fn blocks_out() -> usize {
-    OUT.load(Ordering::SeqCst)
-}
-LIB
-    sed -i "s/NAME/$1/g" "$1/src/lib.rs"
     (cd "$1" && offline build)
 }
 
@@ -154,13 +130,11 @@ link() { # PROGRAM LIBRARY..
 two_static_libraries() {
     static_library one '' && static_library two ', default-features = false' || return
     echo '#include <stddef.h>
-size_t one_carries(unsigned char), two_carries(unsigned char), blocks_out(void);
+size_t one_carries(unsigned char), two_carries(unsigned char);
 int main(void) {
-    size_t before = blocks_out();
-    return !(one_carries(1) == 1 && two_carries(2) == 1 && blocks_out() == before);
+    return !(one_carries(1) == 1 && two_carries(2) == 1);
 }' > both.c
-    # Rust itself wants the one that has an allocator ahead.
-    link both target/debug/libone.a target/debug/libtwo.a
+    link both target/debug/libone.a target/debug/libtwo.a && link both target/debug/libtwo.a target/debug/libone.a
 }
 
 beside_c() {
