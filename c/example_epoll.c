@@ -2,15 +2,36 @@
  *
  *     ./example_epoll FILE
  *
- * The loop's words are an eventfd: whoever gets them writes to it. Then the loop waits for bytes of
- * the pipe as it does for any other descriptor. The thread waits by piper_wait.h. */
+ * The loop's waker is an eventfd: each clone of it is a descriptor of its own, which is written to and
+ * closed. So the loop waits for bytes of the pipe as it does for any other descriptor. The thread waits
+ * by piper_wait.h. */
 #include <stdio.h>
-#include <string.h>
 #include <sys/epoll.h>
 #include <sys/eventfd.h>
 #include <unistd.h>
 
 #include "piper_wait.h"
+
+static void *bell_clone(void *datum) {
+    int bell = dup((int)(intptr_t)datum);
+    if (bell < 0) {
+        perror("example_epoll");
+        abort();
+    }
+    return (void *)(intptr_t)bell;
+}
+
+static void bell_wake(void *datum) {
+    uint64_t one = 1;
+    if (write((int)(intptr_t)datum, &one, sizeof one) != sizeof one)
+        perror("example_epoll");
+}
+
+static void bell_drop(void *datum) {
+    close((int)(intptr_t)datum);
+}
+
+static const piper_calls BELL = {bell_clone, bell_wake, bell_drop};
 
 /* The thread that reads the file. */
 typedef struct {
@@ -19,50 +40,29 @@ typedef struct {
     piper_waiter *waiter;
 } source;
 
-/* Wakes the loop whose eventfd a call returned, if it returned one. */
-static void wake_loop(piper_words words) {
-    uint64_t one = 1;
-    if (words.vtable != 0 && write((int)words.data, &one, sizeof one) != sizeof one)
-        perror("example_epoll");
-}
-
 static void *run_source(void *at) {
     source *s = at;
-    for (;;) {
-        uint8_t *room;
-        piper_seen seen = piper_writer_offer(&s->writer, SIZE_MAX, &room);
-        if (seen.outcome == PIPER_PENDING) {
-            piper_settle(s->waiter, piper_writer_poll(&s->writer, piper_waiter_words(s->waiter)));
-            continue;
-        }
-        if (seen.outcome == PIPER_END)
+    uint8_t bytes[1000];
+    size_t n;
+    while ((n = fread(bytes, 1, sizeof bytes, s->file)) > 0)
+        if (piper_writer_write_wait(&s->writer, s->waiter, bytes, n, NULL) < n)
             break;
-        size_t n = fread(room, 1, seen.len, s->file);
-        wake_loop(piper_writer_publish(&s->writer, room, n));
-        if (n == 0)
-            break;
-    }
-    piper_left left = piper_writer_drop(&s->writer);
-    wake_loop(left.wake);
-    piper_words_free(left.mine);
+    piper_writer_drop(&s->writer);
     return NULL;
 }
 
 /* Takes all bytes that are there, and adds their lines. Returns whether more may come: then the pipe
- * has the eventfd. */
+ * has a clone of the eventfd. */
 static bool take_bytes(piper_reader *reader, int bell, size_t *lines) {
-    for (;;) {
+    uint32_t found;
+    while ((found = piper_reader_poll(reader, (piper_waker){(void *)(intptr_t)bell, &BELL})) == PIPER_READY) {
         const uint8_t *bytes;
-        piper_seen seen = piper_reader_look(reader, &bytes);
-        if (seen.outcome == PIPER_END)
-            return false;
-        for (size_t i = 0; i < seen.len; i++)
+        size_t len = piper_reader_peek(reader, &bytes);
+        for (size_t i = 0; i < len; i++)
             *lines += bytes[i] == '\n';
-        if (seen.outcome == PIPER_READY)
-            piper_wake(piper_reader_consume(reader, seen.len));
-        else if (piper_reader_poll(reader, (piper_words){(uintptr_t)bell, 1}).outcome == PIPER_PENDING)
-            return true;
+        piper_reader_consume(reader, len);
     }
+    return found == PIPER_PENDING;
 }
 
 static size_t count_lines(piper_reader *reader, int bell) {
@@ -94,11 +94,10 @@ int main(int argc, char **argv) {
         return 1;
     }
     printf("%zu\n", count_lines(&reader, bell));
-    piper_wake(piper_reader_drop(&reader).wake);
-    /* The thread may hold the eventfd to the end. Therefore it is closed behind the join. */
+    piper_reader_drop(&reader);
+    close(bell);
     pthread_join(thread, NULL);
     piper_waiter_free(s.waiter);
-    close(bell);
     fclose(s.file);
     return 0;
 }

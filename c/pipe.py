@@ -1,28 +1,18 @@
 """Sends a line through a pipe of bytes, by the shared library of C:
 
-    make -C c && python3 c/pipe.py c/build/x86_64/libpiper.so.0
+    make -C c && python3 c/pipe.py c/build/libpiper.so.0
 """
 import ctypes
 import sys
 
 lib = ctypes.CDLL(sys.argv[1])
-size, byte_p = ctypes.c_size_t, ctypes.POINTER(ctypes.c_uint8)
 
 
 class Handle(ctypes.Structure):
     _fields_ = [("at", ctypes.c_void_p)]
 
 
-class Words(ctypes.Structure):
-    _fields_ = [("data", size), ("vtable", size)]
-
-
-class Moved(ctypes.Structure):
-    _fields_ = [("count", size), ("wake", Words)]
-
-
-class Left(ctypes.Structure):
-    _fields_ = [("wake", Words), ("mine", Words)]
+size, handle = ctypes.c_size_t, ctypes.POINTER(Handle)
 
 
 def declare(name, result, *arguments):
@@ -31,21 +21,20 @@ def declare(name, result, *arguments):
     return call
 
 
-handle = ctypes.POINTER(Handle)
-pipe_open = declare("open_abi_2", ctypes.c_uint32, size, handle, handle)
-write = declare("writer_write", Moved, handle, ctypes.c_char_p, size)
-read = declare("reader_read", Moved, handle, ctypes.c_char_p, size)
-reader_drop = declare("reader_drop", Left, handle)
-writer_drop = declare("writer_drop", Left, handle)
+pipe_open = declare("open_abi_3", ctypes.c_uint32, size, handle, handle)
+write = declare("writer_write", size, handle, ctypes.c_char_p, size)
+read = declare("reader_read", size, handle, ctypes.c_char_p, size)
+reader_drop = declare("reader_drop", None, handle)
+writer_drop = declare("writer_drop", None, handle)
 
 reader, writer = Handle(), Handle()
 OPENED = 0
 if pipe_open(1000, reader, writer) != OPENED:
     sys.exit("no memory")
 line = b"hello from Python"
-sent = write(writer, line, len(line)).count
+sent = write(writer, line, len(line))
 place = ctypes.create_string_buffer(100)
-came = read(reader, place, len(place)).count
+came = read(reader, place, len(place))
 writer_drop(writer)
 reader_drop(reader)
 print(place.raw[:came].decode())

@@ -16,8 +16,8 @@ lib=$room/root/opt/piper/lib
     export PKG_CONFIG_PATH="$lib/pkgconfig" PKG_CONFIG_SYSROOT_DIR="$room/root" LD_LIBRARY_PATH="$lib"
     found=$(pkg-config --cflags --libs piper)
     # shellcheck disable=SC2086
-    $cc -std=c11 -o shared example.c $found -lpthread
-    $cc -std=c11 -o static example.c $(pkg-config --cflags piper) "$lib/libpiper.a" -lpthread
+    $cc -std=gnu11 -o shared example.c $found -lpthread
+    $cc -std=gnu11 -o static example.c $(pkg-config --cflags piper) "$lib/libpiper.a" -lpthread -ldl -lm
     test "$(./shared example.c)" = "$(wc -l < example.c)"
     test "$(env -u LD_LIBRARY_PATH ./static example.c)" = "$(wc -l < example.c)"
     readelf -d shared | grep -q 'NEEDED.*\[libpiper\.so\.0\]'

@@ -1,11 +1,11 @@
 #!/usr/bin/env python3
-"""Writes the table of rust/README.md: each public item of piper 0.2.5 beside that of this package.
+"""Writes the table of rust/README.md: each public item of piper 0.2.5 that this package has otherwise, or that it has beside.
 
     rust/api.py FOLDER
 
 FOLDER has a package with the sources of 0.2.5. The items are those that rustdoc prints as JSON, which
-takes RUSTC_BOOTSTRAP: functions, structs, methods with their types, impls, and auto traits. What the two
-packages have alike has "the same" beside it. CARGO_SOURCES is that of check.sh.
+takes RUSTC_BOOTSTRAP: functions, structs, methods with their types, impls, and auto traits. CARGO_SOURCES is that of
+check.sh.
 """
 import json
 import os
@@ -100,11 +100,11 @@ def code(text):
 
 
 def table(theirs, ours):
-    rows = ["| Item | 0.2.5 | here |", "|---|---|---|"]
-    for name in sorted({**theirs, **ours}, key=lambda it: (":: " in it, it)):
-        old, new = theirs.get(name, "no"), ours.get(name, "no")
-        rows.append(f"| {name} | {code(old)} | {'the same' if old == new else code(new)} |")
-    return "\n".join(rows) + "\n"
+    names = sorted({**theirs, **ours}, key=lambda it: (":: " in it, it))
+    other = [name for name in names if theirs.get(name, "no") != ours.get(name, "no")]
+    rows = [f"| {name} | {code(theirs.get(name, 'no'))} | {code(ours.get(name, 'no'))} |" for name in other]
+    alike = f"{len(names) - len(other)} items are the same, and {len(other)} are not:"
+    return "\n".join([alike, "", "| Item | 0.2.5 | here |", "|---|---|---|", *rows]) + "\n"
 
 
 def main(words):
@@ -116,8 +116,7 @@ def main(words):
     after = rest.split(END)[1]
     made = table(items(read(Path(words[0]).resolve())), items(read(HERE)))
     PAGE.write_text(before + BEGIN + "\n" + made + "\n" + END + after)
-    alike = made.count("the same")
-    print(f"{alike} items are alike, {made.count(chr(10)) - 2 - alike} are not")
+    print(made.split("\n")[0])
     return 0
 
 

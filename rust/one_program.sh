@@ -1,6 +1,7 @@
 #!/usr/bin/env bash
-# Tries that one program can have several copies of the package: two versions of it, two with the same text, as they are and optimized
-# as one unit; two static libraries with other features; and a static library beside that of C.
+# Tries that one program can have several copies of the package: two versions of it, as they are and optimized as one unit beside
+# assembler's text of another crate; one whose panics abort; two static libraries with other features; a static library beside that
+# of C; and the package by a shared library of Rust.
 #
 #     rust/one_program.sh
 #
@@ -34,7 +35,7 @@ holds() { # NAME COMMAND..
 
 copy() { # FOLDER VERSION
     mkdir "$1"
-    cp -r "$here"/{Cargo.toml,README.md,src,lib} "$1"
+    cp -r "$here"/{Cargo.toml,README.md,src} "$1"
     sed -i "s/^version = .*/version = \"$2\"/" "$1/Cargo.toml"
 }
 
@@ -43,10 +44,25 @@ manifest() { # NAME LINE.. of its manifest
     printf '%s\n' '[package]' "name = \"$1\"" 'version = "0.1.0"' 'edition = "2021"' "${@:2}" > "$1/Cargo.toml"
 }
 
+# A crate with assembler's text of its own.
+with_text() {
+    manifest text
+    cat > text/src/lib.rs <<'LIB'
+core::arch::global_asm!(".globl piper_test_text", "piper_test_text: ret");
+extern "C" {
+    fn piper_test_text();
+}
+pub fn calls() {
+    unsafe { piper_test_text() }
+}
+LIB
+}
+
 # A program over two copies, each of which carries bytes.
 two_copies() { # NAME FOLDER FOLDER
+    with_text
     manifest "$1" '[dependencies]' "piper = { path = \"$room/$2\" }" "other = { package = \"piper\", path = \"$room/$3\" }" \
-        '[profile.release]' 'lto = "fat"' 'codegen-units = 1'
+        "text = { path = \"$room/text\" }" '[profile.release]' 'lto = "fat"' 'codegen-units = 1' 'panic = "abort"'
     cat > "$1/src/main.rs" <<'MAIN'
 macro_rules! carries {
     ($piper:ident) => {{
@@ -60,47 +76,50 @@ macro_rules! carries {
 fn main() {
     carries!(piper);
     carries!(other);
+    text::calls();
 }
 MAIN
     (cd "$1" && offline run && offline run --release)
 }
 
-# A static library over the package. One of a program may have an allocator: this one counts which blocks are out.
+# A program that has this crate by a shared library of Rust, and takes parts of it inline.
+by_a_dylib() {
+    manifest between '[lib]' 'crate-type = ["dylib"]' '[dependencies]' "piper = { path = \"$room/this\" }"
+    echo 'pub use piper;' > between/src/lib.rs
+    manifest above '[dependencies]' 'between = { path = "../between" }'
+    cat > above/src/main.rs <<'MAIN'
+use between::piper::pipe;
+use std::task::{Context, Poll, Waker};
+fn main() {
+    let (mut reader, mut writer) = pipe(8);
+    let (mut cx, mut came) = (Context::from_waker(Waker::noop()), Vec::new());
+    assert!(reader.poll(&mut cx).is_pending());
+    while writer.poll_fill(&mut cx, &b"abc"[..]).is_pending() {}
+    while reader.poll_drain(&mut cx, &mut came).is_pending() {}
+    assert_eq!(came, b"abc");
+    assert!(writer.poll(&mut cx).is_ready());
+    writer.write_buf(1)[0] = 7;
+    writer.produced(1);
+    assert_eq!(reader.poll(&mut cx), Poll::Ready(true));
+    assert_eq!(reader.peek_buf(), [7]);
+    reader.consume(1);
+}
+MAIN
+    (cd above && offline run && offline run --release)
+}
+
+# A static library over the package.
 static_library() { # NAME FEATURES
     manifest "$1" '[lib]' 'crate-type = ["staticlib"]' '[dependencies]' "piper = { path = \"$room/this\"$2 }"
-    cat > "$1/src/lib.rs" <<'LIB'
+    cat > "$1/src/lib.rs" <<LIB
 /// How many bytes come through a pipe.
 #[no_mangle]
-pub extern "C" fn NAME_carries(byte: u8) -> usize {
+pub extern "C" fn $1_carries(byte: u8) -> usize {
     let (mut reader, mut writer) = piper::pipe(4);
     writer.try_fill(&[byte]);
     reader.try_drain(&mut [0; 4])
 }
 LIB
-    [ "$1" = two ] || cat >> "$1/src/lib.rs" <<'LIB'
-use std::alloc::{GlobalAlloc, Layout, System};
-use std::sync::atomic::{AtomicUsize, Ordering};
-struct Counts;
-static OUT: AtomicUsize = AtomicUsize::new(0);
-unsafe impl GlobalAlloc for Counts {
-    unsafe fn alloc(&self, layout: Layout) -> *mut u8 {
-        OUT.fetch_add(1, Ordering::SeqCst);
-        System.alloc(layout)
-    }
-    unsafe fn dealloc(&self, at: *mut u8, layout: Layout) {
-        OUT.fetch_sub(1, Ordering::SeqCst);
-        System.dealloc(at, layout)
-    }
-}
-#[global_allocator]
-static HEAP: Counts = Counts;
-/// How many blocks are out.
-#[no_mangle]
-pub extern "C" fn blocks_out() -> usize {
-    OUT.load(Ordering::SeqCst)
-}
-LIB
-    sed -i "s/NAME/$1/g" "$1/src/lib.rs"
     (cd "$1" && offline build)
 }
 
@@ -111,13 +130,11 @@ link() { # PROGRAM LIBRARY..
 two_static_libraries() {
     static_library one '' && static_library two ', default-features = false' || return
     echo '#include <stddef.h>
-size_t one_carries(unsigned char), two_carries(unsigned char), blocks_out(void);
+size_t one_carries(unsigned char), two_carries(unsigned char);
 int main(void) {
-    size_t before = blocks_out();
-    return !(one_carries(1) == 1 && two_carries(2) == 1 && blocks_out() == before);
+    return !(one_carries(1) == 1 && two_carries(2) == 1);
 }' > both.c
-    # Rust itself wants the one that has an allocator ahead.
-    link both target/debug/libone.a target/debug/libtwo.a
+    link both target/debug/libone.a target/debug/libtwo.a && link both target/debug/libtwo.a target/debug/libone.a
 }
 
 beside_c() {
@@ -130,7 +147,7 @@ int main(void) {
     uint8_t to;
     if (one_carries(1) != 1 || piper_open(4, &reader, &writer) != PIPER_OPENED)
         return 1;
-    bool came = piper_writer_write(&writer, (const uint8_t *)"a", 1).count == 1 && piper_reader_read(&reader, &to, 1).count == 1;
+    bool came = piper_writer_write(&writer, (const uint8_t *)"a", 1) == 1 && piper_reader_read(&reader, &to, 1) == 1;
     piper_writer_drop(&writer);
     piper_reader_drop(&reader);
     return !(came && one_carries(2) == 1);
@@ -139,13 +156,10 @@ int main(void) {
 }
 
 copy this 0.2.5
-copy again 0.2.4
-copy older 0.2.3
-# Each other text has other names.
-sed -i -E 's/piper_[0-9a-f]{12}_/piper_00000000cafe_/g' older/lib/*.s older/src/names.rs
-holds 'two versions in one program' two_copies versions this older
-holds 'the same text twice in one program' two_copies twice this again
+copy older 0.2.4
+holds 'two versions in one program, beside text of another crate' two_copies versions this older
 holds 'two static libraries with other features' two_static_libraries
 holds 'a static library beside that of C' beside_c
+holds 'a shared library of Rust' by_a_dylib
 echo "one program: $passed passed, $failed failed"
 [ "$failed" -eq 0 ]

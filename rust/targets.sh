@@ -1,87 +1,161 @@
 #!/usr/bin/env bash
-# Checks a program over this package for the targets on which nothing here can run: that it builds, and which of the two it gets, the
-# proved library or the stand-in. For macOS it also builds a library, which LLVM's linker links.
+# Tries the package for other targets than this machine's: it runs its tests where there is an emulator, and else checks that it builds.
 #
-#     rust/targets.sh FOLDER
+#     rust/targets.sh FOLDER [TARGET..]
 #
-# It downloads packages into FOLDER (web.sh), and checks std for each target, which takes a minute of processor time each. It needs
-# cargo and the sources of other packages as for check.sh. For Windows (gnu) it needs x86_64-w64-mingw32-dlltool (Debian's
-# binutils-mingw-w64-x86-64), and to link for macOS ld64.lld (Debian's lld-22 or lld-19): what is missing of these is left out, and it
-# says so. The last line is 'targets: N passed, M failed'. The status is 2 if something else is missing.
+# The table below has the targets. It gets Debian's rustc-web and the sources of its std, which it unpacks in FOLDER and installs
+# nowhere (150 MB), and builds std for each target there, which takes four minutes of a processor once. It needs cargo, and for tests
+# what the table names; a target whose tools are missing prints `not tried`. Tests leave out programs and examples, for which Debian
+# has the crates on its own processors alone. The last line is 'targets: N passed, M failed, K not tried'. The status is 2 if nothing
+# could be tried.
 set -uo pipefail
 here=$(cd "$(dirname "$0")" && pwd)
-[ $# -eq 1 ] || { sed -n 's/^# \?//; 2,11p' "$0" >&2; exit 2; }
-command -v cargo > /dev/null || { echo 'targets.sh: cargo is missing' >&2; exit 2; }
-"$here/web.sh" "$1" || exit 2
-root=$(cd "$1" && pwd)
-linker=$(command -v ld64.lld-22 ld64.lld-19 ld64.lld | head -n 1)
-room=$(mktemp -d)
-trap 'rm -rf "$room"' EXIT
-export RUSTC=$root/rustc RUSTC_BOOTSTRAP=1 CARGO_HOME=$root/home
+sources=${CARGO_SOURCES:-/usr/share/cargo/registry}
+[ $# -gt 0 ] || { sed -n 's/^# \?//; 2,11p' "$0" >&2; exit 2; }
+root=$(mkdir -p "$1" && cd "$1" && pwd)
+shift
+PATH=$PATH:/usr/lib/wine
+# On one processor, since qemu 7.2 lets a load overtake an earlier store though both are sequentially consistent.
+one="taskset -c $(taskset -pc $$ | sed 's/.*: //; s/[-,].*//')"
+
+# TARGET, the linker, and what runs a program: nothing, or an emulator. Without a linker it is checked, and not linked.
+table() {
+    cat <<TABLE
+x86_64-unknown-linux-musl musl-gcc
+i686-unknown-linux-gnu i686-linux-gnu-gcc
+aarch64-unknown-linux-gnu aarch64-linux-gnu-gcc $one qemu-aarch64 -L /usr/aarch64-linux-gnu
+riscv64gc-unknown-linux-gnu riscv64-linux-gnu-gcc $one qemu-riscv64 -L /usr/riscv64-linux-gnu
+powerpc-unknown-linux-gnu powerpc-linux-gnu-gcc $one qemu-ppc -L /usr/powerpc-linux-gnu
+x86_64-pc-windows-gnu x86_64-w64-mingw32-gcc-posix wine64
+aarch64-apple-darwin
+x86_64-apple-darwin
+x86_64-pc-windows-msvc
+x86_64-unknown-freebsd
+aarch64-linux-android
+wasm32-unknown-unknown
+thumbv7em-none-eabi
+TABLE
+}
+
+is_there() { # TOOL..
+    local tool
+    for tool; do
+        command -v "$tool" > /dev/null || return 1
+    done
+}
+
+# The compiler, as $root/rustc, and as $root/home a CARGO_HOME that finds the packages of std beside those of Debian.
+unpack() {
+    local version llvm
+    version=$(apt-cache policy rustc-web | sed -n 's/^ *Candidate: //p')
+    (
+        cd "$root" || exit
+        apt-get download -qq "rustc-web=$version" "libstd-rust-web-${version%.*}=$version" "libstd-rust-web-dev=$version" \
+            "rust-web-src=$version" || exit
+        llvm=$(dpkg -I libstd-rust-web-[0-9]*.deb | sed -n 's/.*\(libllvm[0-9]*\).*/\1/p' | head -n 1)
+        apt-get download -qq "${llvm:-libllvm22}" || exit
+        for package in *.deb; do
+            dpkg -x "$package" . && rm "$package" || exit
+        done
+    )
+}
+
+prepare() {
+    is_there cargo taskset || return
+    [ -e "$root/usr/lib/rustlib/src/rust/library" ] || unpack 2> /dev/null || return
+    printf '%s\n' '#!/bin/sh' "export LD_LIBRARY_PATH=$root/usr/lib/x86_64-linux-gnu:$(echo "$root"/usr/lib/llvm-*/lib)" \
+        "exec $root/usr/bin/rustc \"\$@\"" > "$root/rustc"
+    chmod +x "$root/rustc"
+    mkdir -p "$root/crates" "$root/home"
+    ln -sfn "$sources"/* "$root/usr/lib/rustlib/src/rust/library/vendor"/* "$root/crates"
+    printf '%s\n' '[source.crates-io]' 'replace-with = "here"' '[source.here]' "directory = \"$root/crates\"" > "$root/home/config.toml"
+    # The package, without what the other tests want, and the library for C.
+    rm -rf "$root/rust" "$root/c"
+    mkdir "$root/rust" "$root/c"
+    cp -r "$here"/{src,tests,README.md} "$root/rust"
+    rm "$root"/rust/tests/{programs,examples}.rs
+    sed '/^\[dev-dependencies\]/,$d' "$here/Cargo.toml" > "$root/rust/Cargo.toml"
+    printf '[dev-dependencies]\nfutures-lite = ">=1.12, <3"\n' >> "$root/rust/Cargo.toml"
+    cp -r "$here"/../c/{src,Cargo.toml} "$root/c"
+    export RUSTC=$root/rustc RUSTC_BOOTSTRAP=1 CARGO_HOME=$root/home
+    export PIPER_TEST_CALLS=${PIPER_TEST_CALLS:-50000} PIPER_TEST_SHARE=${PIPER_TEST_SHARE:-20}
+}
+
+# What std takes its random numbers from on Windows; wine 8.0 doesn't have it.
+for_windows() {
+    x86_64-w64-mingw32-gcc-posix -shared -o "$root/bcryptprimitives.dll" -x c - -ladvapi32 <<'DLL'
+#include <windows.h>
+BOOLEAN NTAPI SystemFunction036(PVOID place, ULONG count);
+__declspec(dllexport) BOOL WINAPI ProcessPrng(PBYTE place, SIZE_T count) {
+    return SystemFunction036(place, (ULONG)count);
+}
+DLL
+    export WINEPREFIX=$root/wine WINEPATH=$root WINEDEBUG=-all
+}
+
+# With musl std wants a libunwind.a; Debian's was built for glibc, and wants a function that musl lacks.
+for_musl() {
+    local unwind=/usr/lib/llvm-14/lib/libunwind.a # of libunwind-14-dev
+    [ -e "$unwind" ] || return
+    mkdir -p "$root/musl" && cp "$unwind" "$root/musl"
+    musl-gcc -c -o "$root/musl/printf.o" -x c - <<'STUB'
+#include <stdarg.h>
+#include <stdio.h>
+int __fprintf_chk(FILE *to, int flag, const char *text, ...) {
+    va_list given;
+    va_start(given, text);
+    int count = vfprintf(to, text, given);
+    va_end(given);
+    return count + 0 * flag;
+}
+STUB
+    ar r "$root/musl/libunwind.a" "$root/musl/printf.o" 2> /dev/null
+    export RUSTFLAGS="-L $root/musl -Clink-self-contained=no"
+}
+
+# The tests, or a check, of a target. The status is 2 if tools are missing.
+try() { # TARGET [LINKER [RUNNER..]]
+    local target=$1 name
+    name=${target//-/_}
+    cd "$root/rust" || return
+    if [ $# -eq 1 ]; then
+        local check=(cargo check --quiet --offline --target "$target" --target-dir "$root/target")
+        case $target in
+            *-none-*) "${check[@]}" -Zbuild-std=core,alloc --no-default-features && echo 'builds without std' ;;
+            *) "${check[@]}" -Zbuild-std=std,panic_abort && cd "$root/c" && "${check[@]}" -Zbuild-std=std,panic_abort && echo 'builds, with C' ;;
+        esac
+        return
+    fi
+    local tool
+    for tool in "$2" "${@:3}"; do
+        [[ $tool != *gcc* && $tool != qemu* && $tool != wine* ]] || is_there "$tool" || return 2
+    done
+    case $target in *windows*) for_windows || return 2 ;; *musl) for_musl || return 2 ;; esac
+    export "CARGO_TARGET_${name^^}_LINKER=$2"
+    [ -z "${3-}" ] || export "CARGO_TARGET_${name^^}_RUNNER=${*:3}"
+    # One test starts itself anew, which qemu can't.
+    local skip=() status=0
+    [[ $* != *qemu* ]] || skip=(-- --skip a_refusal_ends_the_program)
+    cargo test --offline -Zbuild-std=std,panic_unwind,test --tests --no-fail-fast --target "$target" --target-dir "$root/target" \
+        "${skip[@]}" > "$root/said" 2>&1 || { status=1; cat "$root/said"; }
+    awk '/^test result: / { passed += $4; failed += $6 } END { print passed + 0 " tests passed, " failed + 0 " failed" }' "$root/said"
+    return "$status"
+}
+
+prepare || { echo 'targets.sh: cargo is missing, or the packages are not to be had; nothing was tried' >&2; exit 2; }
 passed=0
 failed=0
-
-holds() { # NAME COMMAND..
-    local name=$1
-    shift
-    if "$@" > "$room/said" 2>&1; then
-        echo "$name: passed"
-        passed=$((passed + 1))
-    else
-        cat "$room/said"
-        echo "$name: FAILED"
-        failed=$((failed + 1))
-    fi
-}
-
-# Debian's fastrand lacks the crate that it wants on WebAssembly.
-cp -rL "$root"/crates/fastrand-[0-9]* "$room/fastrand"
-sed -i 's/^use instant::Instant;/use std::time::Instant;/' "$room/fastrand/src/lib.rs"
-
-# A library that other languages call, whose build fails if it doesn't get what is wanted.
-program() { # IS_PROVED
-    mkdir -p "$room/program/src"
-    printf '%s\n' '[package]' 'name = "program"' 'version = "0.1.0"' 'edition = "2021"' '[lib]' 'crate-type = ["staticlib"]' \
-        '[dependencies]' "piper = { path = \"$here\" }" \
-        '[patch.crates-io]' "fastrand = { path = \"$room/fastrand\" }" > "$room/program/Cargo.toml"
-    cat > "$room/program/src/lib.rs" <<LIB
-const _: () = assert!(piper::IS_PROVED == $1);
-#[no_mangle]
-pub extern "C" fn sends(byte: u8) -> usize {
-    let (mut reader, mut writer) = piper::pipe(4);
-    writer.try_fill(&[byte]) + reader.try_drain(&mut [0; 4])
-}
-LIB
-}
-
-cargo_for() { # COMMAND TARGET IS_PROVED
-    program "$3"
-    (cd "$room/program" && cargo "$1" --quiet --offline -Zbuild-std=std,panic_abort --target "$2" --target-dir "$root/checked")
-}
-
-# The library with all of std, as LLVM's linker links it for macOS: what the system has is looked up later.
-links() { # TARGET ARCHITECTURE
-    cargo_for build "$1" true || return
-    "$linker" -dylib -arch "$2" -platform_version macos 11.0 11.0 -undefined dynamic_lookup -u _sends -exported_symbol _sends \
-        -o "$root/$1.dylib" "$root/checked/$1/debug/libprogram.a"
-}
-
-if command -v x86_64-w64-mingw32-dlltool > /dev/null; then
-    holds 'x86_64-pc-windows-gnu, proved, built' cargo_for build x86_64-pc-windows-gnu true
-else
-    echo 'x86_64-pc-windows-gnu: left out, there is no x86_64-w64-mingw32-dlltool'
-fi
-for target in x86_64-pc-windows-msvc {x86_64,aarch64}-unknown-linux-musl riscv64gc-unknown-linux-gnu; do
-    holds "$target, proved, built" cargo_for build "$target" true
-done
-for target in wasm32-unknown-unknown i686-unknown-linux-gnu aarch64-linux-android x86_64-unknown-freebsd; do
-    holds "$target, with the stand-in" cargo_for check "$target" false
-done
-if [ -n "$linker" ]; then
-    holds 'aarch64-apple-darwin, proved, built and linked' links aarch64-apple-darwin arm64
-    holds 'x86_64-apple-darwin, proved, built and linked' links x86_64-apple-darwin x86_64
-else
-    echo 'macOS: left out, there is no ld64.lld'
-fi
-echo "targets: $passed passed, $failed failed"
+left=0
+while read -r target how; do
+    [ $# -eq 0 ] || [[ " $* " == *" $target "* ]] || continue
+    # shellcheck disable=SC2086
+    said=$(try "$target" $how 2>&1)
+    case $? in
+        0) passed=$((passed + 1)) ;;
+        2) left=$((left + 1)) said='not tried' ;;
+        *) failed=$((failed + 1)) said+=$'\nFAILED' ;;
+    esac
+    echo "$target: $said"
+done < <(table)
+echo "targets: $passed passed, $failed failed, $left not tried"
 [ "$failed" -eq 0 ]

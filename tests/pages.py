@@ -171,6 +171,7 @@ def lacks(section):
     """What a section needs that is not there."""
     text = "\n".join(section.commands())
     named = [tool for tool in ("cargo", "gcc") if re.search(rf"\b{tool} ", text)]
+    named += ["cargo"] if "make -s -C c " in text else []
     tools = [tool for tool in named if not shutil.which(tool)]
     if "cargo " in text and not list(SOURCES.glob("futures-lite-*")):
         tools.append(f"futures-lite in {SOURCES}, which `rust/check.sh --install` gets")

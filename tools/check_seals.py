@@ -73,14 +73,7 @@ SEALS = {
     "as_flushed": ("piper/specs/StdEnds", ["piper/proofs/like/std_ends/std_flush"]),
     "as_stepped": (
         "piper_ring/specs/Log",
-        ["piper/proofs/handles/waiting/call", "piper/proofs/handles/draws/ask_again"]
-        + [f"piper_c/proofs/halves/{call}" for call in ("wake_waiting", "wake_own")]
-        + [f"piper_c/proofs/halves/{half}/leave" for half in ("ReadHalf", "WriteHalf")],
-    ),
-    "as_begins_at": ("piper_c/specs/Address", ["piper_c/proofs/lending/address"]),
-    "as_left": (
-        "piper_c/specs/Leaving",
-        [f"piper_c/proofs/halves/{half}/leave" for half in ("ReadHalf", "WriteHalf")],
+        ["piper/proofs/handles/waiting/call", "piper/proofs/handles/draws/ask_again"],
     ),
     "as_waker_refused": ("piper_transfer/specs/Transfer", ["piper_transfer/proofs/error/no_waker"]),
     "as_cannot_wait": ("piper_transfer/specs/Transfer", ["piper_transfer/proofs/turns/of_queue"]),
@@ -121,8 +114,8 @@ GIVES_NONE = {
     ("piper_pump/specs/CommandLine", "are_words_prop"),
 }
 
-# The crates that hold memory which two threads share, or which belongs to C.
-UNSAFE = {"piper_c", "piper_cells", "piper_ring"}
+# The crates that hold memory which two threads share.
+UNSAFE = {"piper_cells", "piper_ring"}
 
 DECLARES = re.compile(r"^((?:(?:abbrev|unfoldable|opaque|pub)\s+)*)([^\s:(){}]+)\s*:(?=\s)", re.M)
 HOLDS_OF_ALL = re.compile(r"^([^\s(]+)((?: [a-z]\w*)*) = ⊤$", re.M)

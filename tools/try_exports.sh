@@ -1,9 +1,8 @@
 #!/usr/bin/env bash
 # Tries the packages for cargo and for C, on a PATH that has no `rt`: `rust/check.sh`, several copies in one program, the tests of
-# crates that stand on such a pipe by `rust/clients.sh`, `make -C c check`, and the same for aarch64 and riscv64 under qemu. If clang-22
-# is there, it tries that it makes the same texts of the modules. It runs the tests of Rust for other targets (`rust/run_for.sh`,
-# `rust/aarch64.sh`, `rust/targets.sh`) that were run once with the folder that PIPER_PLATFORMS names. The last line counts them. It says
-# what was not tried, since a tool or sources of Debian's are missing and can't be installed.
+# crates that stand on such a pipe by `rust/clients.sh`, Miri if there is one, and `make -C c check`. It runs the tests of Rust for other
+# targets (`rust/targets.sh`) that were run once with the folder that PIPER_PLATFORMS names. The last line counts them. It says what was
+# not tried, since a tool or sources of Debian's are missing and can't be installed.
 set -u
 cd "$(dirname "$0")/.."
 room=$(mktemp -d)
@@ -62,81 +61,27 @@ clients() {
 }
 
 c() {
-    has gcc make || return 2
+    has cargo gcc make objcopy || return 2
     make -s -C c check
 }
 
-# The tests of C under an emulator.
-under_qemu() { # MACHINE
-    has make taskset "$1-linux-gnu-gcc" "qemu-$1" || { echo "$1: not tried"; return 2; }
-    # On the first processor that this shell may use.
-    local one
-    one=$(taskset -pc $$ | sed 's/.*: //; s/[-,].*//')
-    make -s -C c check CC="$1-linux-gnu-gcc" RUN="taskset -c $one qemu-$1 -L /usr/$1-linux-gnu"
-}
-
-aarch64() {
-    has aarch64-linux-gnu-gcc qemu-aarch64 ||
-        apt-get install -y --no-install-recommends qemu-user gcc-aarch64-linux-gnu libc6-dev-arm64-cross > /dev/null 2>&1
-    under_qemu aarch64
-}
-
-riscv64() {
-    under_qemu riscv64
-}
-
 one_program() {
-    has cargo gcc make || return 2
+    has cargo gcc make objcopy || return 2
     rust/one_program.sh
 }
 
-modules() {
-    has clang-22 || { echo 'modules: not tried'; return 2; }
-    tools/compile_modules clang-22
+miri() {
+    rust/miri.sh
 }
 
-# Rust 1.85, the lowest, has the assembler of LLVM 19.
-lowest() {
-    has clang-19 || { echo 'the assembler of LLVM 19: not tried'; return 2; }
-    local text target
-    for text in rust/lib/*.s; do
-        target=$(basename "$text" .s)
-        clang-19 "--target=${target/%windows/windows-gnu}" -c -o "$room/object" "$text" || return 1
-    done
-    echo 'the assembler of LLVM 19: takes each text'
-}
-
-platforms=${PIPER_PLATFORMS:-/var/tmp/piper-platforms}
-
-# The tests of Rust for another target, if its std was built before: else that would take minutes.
-rust_for() { # TARGET
-    [ -d "$platforms/target/$1" ] || { echo "rust for $1: not tried"; return 2; }
-    rust/run_for.sh "$platforms" "$1"
-}
-
-windows() {
-    rust_for x86_64-pc-windows-gnu
-}
-
-musl() {
-    rust_for x86_64-unknown-linux-musl
-}
-
-rust_riscv64() {
-    rust_for riscv64gc-unknown-linux-gnu
-}
-
-rust_aarch64() {
-    [ -d "$platforms/aarch64" ] || { echo 'rust for aarch64: not tried'; return 2; }
-    rust/aarch64.sh "$platforms/aarch64"
-}
-
+# The tests of Rust for other targets, if their std was built before: else that would take an hour.
 targets() {
-    [ -d "$platforms/checked" ] || { echo 'targets: not tried'; return 2; }
+    local platforms=${PIPER_PLATFORMS:-/var/tmp/piper-platforms}
+    [ -d "$platforms/target" ] || { echo 'targets: not tried'; return 2; }
     rust/targets.sh "$platforms"
 }
 
-names=(rust one_program clients c aarch64 riscv64 modules lowest windows musl rust_aarch64 rust_riscv64 targets)
+names=(rust one_program clients c miri targets)
 line=
 for name in "${names[@]}"; do
     try "$name" "$name"

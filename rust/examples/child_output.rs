@@ -40,10 +40,7 @@ fn main() -> io::Result<ExitCode> {
         eprintln!("usage: child_output COMMAND ARGUMENT..");
         return Ok(ExitCode::from(2));
     };
-    let mut child = Command::new(command)
-        .args(words)
-        .stdout(Stdio::piped())
-        .spawn()?;
+    let mut child = Command::new(command).args(words).stdout(Stdio::piped()).spawn()?;
     let output = child.stdout.take().expect("the output is piped");
     let (reader, writer) = piper::pipe(64 * 1024);
     let pumping = thread::spawn(move || pump(output, writer));

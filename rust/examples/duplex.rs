@@ -18,35 +18,20 @@ pub struct Duplex {
 
 /// Both ends of a stream that holds so many bytes in each direction.
 pub fn duplex(capacity: usize) -> (Duplex, Duplex) {
-    let ((left_reader, right_writer), (right_reader, left_writer)) =
-        (pipe(capacity), pipe(capacity));
-    let left = Duplex {
-        reader: left_reader,
-        writer: left_writer,
-    };
-    let right = Duplex {
-        reader: right_reader,
-        writer: right_writer,
-    };
+    let ((left_reader, right_writer), (right_reader, left_writer)) = (pipe(capacity), pipe(capacity));
+    let left = Duplex { reader: left_reader, writer: left_writer };
+    let right = Duplex { reader: right_reader, writer: right_writer };
     (left, right)
 }
 
 impl AsyncRead for Duplex {
-    fn poll_read(
-        mut self: Pin<&mut Self>,
-        cx: &mut Context<'_>,
-        to: &mut [u8],
-    ) -> Poll<io::Result<usize>> {
+    fn poll_read(mut self: Pin<&mut Self>, cx: &mut Context<'_>, to: &mut [u8]) -> Poll<io::Result<usize>> {
         Pin::new(&mut self.reader).poll_read(cx, to)
     }
 }
 
 impl AsyncWrite for Duplex {
-    fn poll_write(
-        mut self: Pin<&mut Self>,
-        cx: &mut Context<'_>,
-        from: &[u8],
-    ) -> Poll<io::Result<usize>> {
+    fn poll_write(mut self: Pin<&mut Self>, cx: &mut Context<'_>, from: &[u8]) -> Poll<io::Result<usize>> {
         Pin::new(&mut self.writer).poll_write(cx, from)
     }
 
@@ -72,10 +57,7 @@ pub async fn serve(stream: impl AsyncRead + AsyncWrite + Unpin) -> io::Result<()
 }
 
 /// Sends one request after another, and returns the answers.
-pub async fn ask(
-    stream: impl AsyncRead + AsyncWrite + Unpin,
-    requests: &[&str],
-) -> io::Result<Vec<String>> {
+pub async fn ask(stream: impl AsyncRead + AsyncWrite + Unpin, requests: &[&str]) -> io::Result<Vec<String>> {
     let (reader, mut writer) = split(stream);
     let mut lines = BufReader::new(reader).lines();
     let mut answers = Vec::new();

@@ -137,16 +137,12 @@ struct FillDrain;
 impl Way for FillDrain {
     #[inline]
     fn write(self, writer: &mut Writer, sleeper: &Sleeper, bytes: &[u8]) -> usize {
-        sleeper
-            .wait(|cx| writer.poll_fill(cx, bytes))
-            .expect("a slice gives no error")
+        sleeper.wait(|cx| writer.poll_fill(cx, bytes)).expect("a slice gives no error")
     }
 
     #[inline]
     fn read(self, reader: &mut Reader, sleeper: &Sleeper, place: &mut [u8]) -> usize {
-        sleeper
-            .wait(|cx| reader.poll_drain(cx, &mut *place))
-            .expect("a slice gives no error")
+        sleeper.wait(|cx| reader.poll_drain(cx, &mut *place)).expect("a slice gives no error")
     }
 }
 
@@ -282,12 +278,7 @@ fn request(words: &[String]) -> Option<(&str, Request)> {
     };
     let can_be = 0 < piece && piece <= capacity && piece <= total;
     can_be.then(|| {
-        let asked = Request {
-            capacity,
-            piece,
-            total,
-            shift,
-        };
+        let asked = Request { capacity, piece, total, shift };
         (way.as_str(), asked)
     })
 }
@@ -299,18 +290,13 @@ fn main() {
     let checksum = run(way, asked).unwrap_or_else(|| usage());
     let nanoseconds = begin.elapsed().as_nanos() as f64;
     let pieces = asked.total / asked.piece;
-    println!(
-        "{} {} {} {:.1} {}",
-        way,
-        asked.piece,
-        pieces * asked.piece,
-        nanoseconds / pieces as f64,
-        checksum
-    );
+    println!("{} {} {} {:.1} {}", way, asked.piece, pieces * asked.piece, nanoseconds / pieces as f64, checksum);
 }
 
 fn usage() -> ! {
     eprintln!("speed WAY CAPACITY PIECE TOTAL [SHIFT]: WAY inplace, slices, filldrain, these with a 2, or pingpong;");
-    eprintln!("PIECE at most CAPACITY and TOTAL. It prints the way, the piece, all bytes, nanoseconds a piece, a checksum");
+    eprintln!(
+        "PIECE at most CAPACITY and TOTAL. It prints the way, the piece, all bytes, nanoseconds a piece, a checksum"
+    );
     std::process::exit(2);
 }

@@ -7,23 +7,15 @@ use tokio::io::{AsyncBufReadExt, AsyncRead, AsyncWrite, AsyncWriteExt, BufReader
 use tokio_util::compat::{FuturesAsyncReadCompatExt, FuturesAsyncWriteCompatExt};
 
 /// Answers each line with its length, until the client ends.
-async fn serve(
-    reader: impl AsyncRead + Unpin,
-    mut writer: impl AsyncWrite + Unpin,
-) -> io::Result<()> {
+async fn serve(reader: impl AsyncRead + Unpin, mut writer: impl AsyncWrite + Unpin) -> io::Result<()> {
     let mut lines = BufReader::new(reader).lines();
     while let Some(line) = lines.next_line().await? {
-        writer
-            .write_all(format!("{}\n", line.len()).as_bytes())
-            .await?;
+        writer.write_all(format!("{}\n", line.len()).as_bytes()).await?;
     }
     writer.shutdown().await
 }
 
-async fn ask(
-    reader: impl AsyncRead + Unpin,
-    mut writer: impl AsyncWrite + Unpin,
-) -> io::Result<()> {
+async fn ask(reader: impl AsyncRead + Unpin, mut writer: impl AsyncWrite + Unpin) -> io::Result<()> {
     let mut answers = BufReader::new(reader).lines();
     for request in ["a request", "another, longer than the pipe", ""] {
         writer.write_all(format!("{request}\n").as_bytes()).await?;

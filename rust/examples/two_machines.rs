@@ -29,10 +29,7 @@ async fn receive(mut stream: TcpStream, writer: Writer) -> io::Result<u64> {
 async fn run(is_cut: bool) -> io::Result<()> {
     let listener = TcpListener::bind((Ipv4Addr::LOCALHOST, 0)).await?;
     let (near_reader, mut writer) = pipe(16_384);
-    let sending = tokio::spawn(send(
-        near_reader,
-        TcpStream::connect(listener.local_addr()?).await?,
-    ));
+    let sending = tokio::spawn(send(near_reader, TcpStream::connect(listener.local_addr()?).await?));
     let (mut reader, far_writer) = pipe(16_384);
     let receiving = tokio::spawn(receive(listener.accept().await?.0, far_writer));
 
@@ -50,26 +47,14 @@ async fn run(is_cut: bool) -> io::Result<()> {
             came.extend_from_slice(&place[..count]);
         }
     }
-    let is_whole = came
-        .iter()
-        .zip(0..)
-        .all(|(byte, n)| u32::from(*byte) == n % 251);
-    let went_well = (
-        sending.await?.is_ok(),
-        receiving.await?.is_ok(),
-        writing.await?.is_ok(),
-    );
-    println!(
-        "{} bytes came, as sent: {is_whole}; send, receive, write: {went_well:?}",
-        came.len()
-    );
+    let is_whole = came.iter().zip(0..).all(|(byte, n)| u32::from(*byte) == n % 251);
+    let went_well = (sending.await?.is_ok(), receiving.await?.is_ok(), writing.await?.is_ok());
+    println!("{} bytes came, as sent: {is_whole}; send, receive, write: {went_well:?}", came.len());
     Ok(())
 }
 
 fn main() -> io::Result<()> {
-    let runtime = tokio::runtime::Builder::new_current_thread()
-        .enable_io()
-        .build()?;
+    let runtime = tokio::runtime::Builder::new_current_thread().enable_io().build()?;
     runtime.block_on(run(false))?;
     runtime.block_on(run(true))
 }

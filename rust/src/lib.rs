@@ -1,18 +1,15 @@
 //! A bounded pipe of bytes between one reader and one writer, for threads and for tasks.
 //!
-//! This crate takes the place of `piper` 0.2.5: it has the same calls under the same names. For
-//! [most targets](#features-and-targets) it has a library that is proved, and for others [a
-//! stand-in](#the-stand-in). It has no build script.
+//! This crate takes the place of `piper` 0.2.5: it has the same calls under the same names. What
+//! carries the bytes is proved:
 //!
-//! - **Proved** is the source of the library that carries the bytes, for all orders in which two
-//!   threads take their steps: bytes come in order, none is lost, doubled or read unset, no
-//!   memory is used after it was freed, and the waker that a side leaves while it waits comes out of the pipe once.
-//! - **Checked** is that the assembler's text in `lib`, which is built into your program, is the one
-//!   that the compiler made of that source, to the byte.
-//! - **Tested** is what this crate adds: it turns wakers into the two words that the library keeps, and
-//!   tests what the library asks of its callers.
-//! - **Trusted** are the prover, the compiler that made the text, the assembler that reads it, and the
-//!   unsafe lines of this crate, each with its reason beside it.
+//! - **Proved** is the source in `src/proved`, for all orders in which two threads take their steps:
+//!   bytes come in order, none is lost, doubled or read unset, no memory is used after it was
+//!   freed, and no waiting task is forgotten. It is Rust with contracts, which stand in comments there.
+//! - **Tested** is what this crate adds: the traits of `futures-io`, assertions for what the proofs
+//!   ask of a caller, and what holds after a panic.
+//! - **Trusted** are the prover, rustc, and `src/shim.rs`, which has what the source uses of the
+//!   prover's libraries.
 //! - Nothing is claimed of progress, fairness, freedom from deadlock, or time.
 //!
 //! ```
@@ -32,11 +29,9 @@
 //! # Features and targets
 //!
 //! - `std`, by default, has the traits of `futures-io`, `Writer::poll_fill` and `Reader::poll_drain`.
-//! - `dylib` is for a program that has this crate by a shared library of Rust.
-//! - `portable-atomic` changes nothing: the library has atomics of its own.
+//! - `portable-atomic` changes nothing.
 //!
-//! The lowest Rust is 1.85. The proved library is there for x86-64 with Linux, Windows and macOS, for
-//! aarch64 with Linux and macOS, and for riscv64 with Linux; other targets get [a stand-in](#the-stand-in).
+//! It needs `alloc`, and atomics of 64 bits or of a pointer's size. The lowest Rust is 1.85.
 //!
 //! # When a pipe is closed
 //!
@@ -52,111 +47,63 @@
 //! - `poll_close` is final also for the writer: nothing is lent any more, and what was lent is taken
 //!   back. Every copy into the pipe ends with nothing lent.
 //! - If the reader is dropped during a read of `Writer::poll_fill`, what was read is counted, as in
-//!   0.2.5, and it is published: [`Writer::len`] has it.
+//!   0.2.5. It is not published.
 //! - [`Reader::try_drain`] and [`Writer::try_fill`] leave the waker of an earlier poll where it is. By
 //!   that a task that waits is not forgotten.
 //! - The waker of a handle is dropped with it, and not called by the other handle later.
 //! - A copy from a slice lends no more room than the slice is long. By that less room is set to 0.
 //! - A task whose waker is just being called may be polled once more than with 0.2.5.
 //! - A copy panics if a `Read` or a `Write` claims more bytes than it was handed.
-//! - Calls through a shared reference that ask the pipe (`len`, `is_empty`, `is_full`, `is_closed`, and
-//!   `peek_buf` after bytes were taken) wait for each other: by a lock, and without `std` by spinning.
 //! - The handles have a `Debug` that prints counts and no bytes.
-//! - A pipe takes three blocks of memory; with 0.2.5 it takes two.
 //!
-//! # The stand-in
+//! # Panics of others
 //!
-//! If there is no text of the library, as for WebAssembly or 32 bits, and under Miri, which runs none, a
-//! queue that both sides use in turn stands for the library. It is not proved; all tests of this crate
-//! also pass over it. It has the bytes of a pipe up to three times. Each call takes a lock, and without `std`
-//! spins: there no interrupt may use a side while the code that it stops uses the other.
+//! A waker, a source or a destination that panics leaves both handles whole, and no byte that was not
+//! written is ever shown. What a call did before it stays, and what it would have done after is left out:
 //!
-//! # Under sanitizers
-//!
-//! The sanitizer of addresses and valgrind take the text as it is. The sanitizer of threads doesn't see the
-//! text's accesses, and would report a race as bytes cross a pipe: with `--cfg piper_tsan` beside
-//! `-Zsanitizer=thread` this crate tells it of each call.
+//! | What panics | What was done before | What is left out |
+//! |---|---|---|
+//! | the wake of the other side | bytes were published or taken, and counted by this side | the rest of the copy |
+//! | the clone of a waker | the task's earlier waker was taken out of the pipe | the poll: nothing waits |
+//! | the drop of a task's own waker | the look, which found something | the answer |
+//! | the drop of another task's waker | the whole call | the answer |
+//! | the wake of a yield | the look | the yield |
+//! | a source, a destination | earlier rounds of the copy | this round: what a source wrote is not published |
+//! | a waker in the drop of a handle | the pipe was closed, and freed if it was the last | nothing |
 
 #![cfg_attr(not(feature = "std"), no_std)]
-#![deny(unsafe_code, unsafe_op_in_unsafe_fn)]
+#![deny(unsafe_op_in_unsafe_fn)]
 #![warn(missing_docs)]
 
 extern crate alloc;
 
-/// Builds each item of the first list for targets that have a text of the library, and each of the
-/// second list for all others. Miri runs no text, and tests of the stand-in want none.
-macro_rules! by_target {
-    ({ $($proved:item)* } else { $($other:item)* }) => {
-        by_target! {
-            @all(
-                any(
-                    all(target_arch = "x86_64", any(target_os = "linux", target_os = "windows", target_os = "macos")),
-                    all(target_arch = "aarch64", target_endian = "little", any(target_os = "linux", target_os = "macos")),
-                    all(target_arch = "riscv64", target_os = "linux"),
-                ),
-                target_pointer_width = "64",
-                not(any(miri, piper_stand_in)),
-            ),
-            { $($proved)* } else { $($other)* }
-        }
-    };
-    (@$has_text:meta, { $($proved:item)* } else { $($other:item)* }) => {
-        $(#[cfg($has_text)] $proved)*
-        $(#[cfg(not($has_text))] $other)*
-    };
-}
-
-#[macro_use]
-mod convention;
-#[macro_use]
-mod names;
-
-mod copies;
-mod draws;
+// What only the proofs use is left in the source: arguments, labels, functions.
+#[rustfmt::skip]
+#[allow(dead_code, unused, missing_docs, clippy::all, clippy::undocumented_unsafe_blocks)]
+mod proved;
 mod reader;
-#[allow(unsafe_code)]
-mod turns;
+// Numbers of 32 bits are cast where a processor has no atomics of 64; a type only names what is proved.
+#[allow(dead_code, clippy::unnecessary_cast, clippy::extra_unused_type_parameters)]
+mod shim;
 mod writer;
-
-by_target! {
-    {
-        #[allow(unsafe_code)]
-        mod ends;
-        #[allow(unsafe_code)]
-        mod heap;
-        #[allow(unsafe_code)]
-        mod sys;
-        #[cfg(piper_tsan)]
-        #[allow(unsafe_code)]
-        mod tsan;
-    } else {
-        #[path = "stand_in.rs"]
-        mod ends;
-
-        #[cfg(piper_only_proved)]
-        compile_error!(
-            "the proved library of piper is there for x86_64 with Linux, Windows or macOS, for aarch64 with Linux or macOS, and for \
-             riscv64 with Linux (64 bits, little endian); this target would get a stand-in, which `--cfg piper_only_proved` refuses"
-        );
-    }
-}
 
 pub use reader::Reader;
 pub use writer::Writer;
 
-/// Whether this build has the proved library. It is `false` for a target that has no text of the library,
-/// and under Miri: there a queue in Rust stands for it, which is tested and not proved.
-///
-/// A program that wants no stand-in has a line `const _: () = assert!(piper::IS_PROVED);`, or is built with
-/// `RUSTFLAGS="--cfg piper_only_proved"`: then a target that would get a stand-in is an error.
-pub const IS_PROVED: bool = ends::IS_PROVED;
+use core::task::{Poll, Waker};
+use proved::piper_ring::{OutOfMemory, Side, SlotEnd};
+use shim::std::alloc::Global;
+
+/// Whether the source of this build is proved for its target. It is for all targets of 64 bits; for
+/// others the same source is built, and tested.
+pub const IS_PROVED: bool = cfg!(target_pointer_width = "64");
 
 /// Makes a pipe that holds up to `cap` bytes, and returns both of its sides.
 ///
 /// # Panics
 ///
-/// If `cap` is 0, or if `cap * 2` is more than a `usize` can hold. If memory is refused, the
-/// program ends, as at any allocation.
+/// If `cap` is 0, if `cap * 2` is more than a `usize` can hold, or if a block of memory can't be
+/// so large. If memory is refused, the program ends, as at any allocation.
 ///
 /// ```
 /// let (reader, _writer) = piper::pipe(10);
@@ -165,12 +112,90 @@ pub const IS_PROVED: bool = ends::IS_PROVED;
 pub fn pipe(cap: usize) -> (Reader, Writer) {
     assert!(cap > 0, "capacity must be positive");
     assert!(cap.checked_mul(2).is_some(), "capacity is too large");
-    let (of_reader, of_writer) = draws::Draws::pair();
-    let (reader, writer) = ends::open(cap);
-    (
-        Reader::new(reader, of_reader),
-        Writer::new(writer, of_writer),
-    )
+    match proved::piper::pipe(Global, cap, first_seed()) {
+        Ok((reader, writer)) => (Reader::new(reader), Writer::new(writer)),
+        Err(OutOfMemory) => panic!("capacity overflow"),
+    }
+}
+
+/// What a poll says. If it is over, it leaves no waker, even if it found the end. It can't want
+/// memory: a waker's clone is always granted.
+#[inline]
+fn settled<E: SlotEnd, T>(side: &mut Side<E, Waker>, polled: Poll<Result<T, OutOfMemory>>) -> Poll<T> {
+    let_go(side, &polled);
+    polled.map(|answer| answer.unwrap_or_else(|OutOfMemory| unreachable!("wakers are granted")))
+}
+
+/// As `settled`, of a copy by the traits of std.
+#[cfg(feature = "std")]
+#[inline]
+fn copied<E: SlotEnd>(
+    side: &mut Side<E, Waker>,
+    polled: Poll<proved::piper::PipeResult<usize>>,
+) -> Poll<std::io::Result<usize>> {
+    let_go(side, &polled);
+    polled.map_err(std::io::Error::from)
+}
+
+#[inline]
+fn let_go<E: SlotEnd, T>(side: &mut Side<E, Waker>, polled: &Poll<T>) {
+    if polled.is_ready() && side.maybe_registered() {
+        drop(side.cancel());
+    }
+}
+
+/// A source or a destination that does not count more bytes than it was handed.
+#[cfg(feature = "std")]
+struct Checked<T>(T);
+
+#[cfg(feature = "std")]
+impl<R: std::io::Read> std::io::Read for Checked<R> {
+    #[inline]
+    fn read(&mut self, room: &mut [u8]) -> std::io::Result<usize> {
+        let given = self.0.read(room)?;
+        assert!(given <= room.len(), "a source gave more bytes than there was room for");
+        Ok(given)
+    }
+}
+
+#[cfg(feature = "std")]
+impl<W: std::io::Write> std::io::Write for Checked<W> {
+    #[inline]
+    fn write(&mut self, shown: &[u8]) -> std::io::Result<usize> {
+        let taken = self.0.write(shown)?;
+        assert!(taken <= shown.len(), "a destination took more bytes than it was shown");
+        Ok(taken)
+    }
+
+    fn flush(&mut self) -> std::io::Result<()> {
+        self.0.flush()
+    }
+}
+
+/// A number that differs from pipe to pipe and from run to run.
+#[cfg(feature = "std")]
+fn first_seed() -> u64 {
+    use std::collections::hash_map::RandomState;
+    use std::hash::BuildHasher;
+
+    RandomState::new().hash_one(0)
+}
+
+/// There is no source of random numbers without `std`.
+#[cfg(not(feature = "std"))]
+fn first_seed() -> u64 {
+    0x9e37_79b9_7f4a_7c15
+}
+
+/// A test of schedules stops here before each access of a word that both sides share.
+#[cfg(piper_schedules)]
+pub static BEFORE_ACCESS: std::sync::OnceLock<fn()> = std::sync::OnceLock::new();
+
+#[cfg(piper_schedules)]
+fn before_access() {
+    if let Some(stop) = BEFORE_ACCESS.get() {
+        stop();
+    }
 }
 
 /// Both handles can go to another thread, be shared, and outlive a caught panic, with and without `std`.

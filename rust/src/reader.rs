@@ -1,11 +1,13 @@
 //! The handle that reads.
 
+use crate::proved::piper as proved;
+use crate::settled;
+use crate::shim::futures::task::Context as Task;
 #[cfg(feature = "std")]
-use crate::copies::IntoWrite;
-use crate::copies::{without_fail, Destination, IntoSlice, MOST_A_ROUND};
-use crate::draws::{yield_now, Draws};
-use crate::ends::ReadEnd;
+use crate::{copied, Checked};
 use core::fmt;
+use core::mem::ManuallyDrop;
+use core::panic::{RefUnwindSafe, UnwindSafe};
 use core::task::{Context, Poll};
 #[cfg(feature = "std")]
 use futures_io::{AsyncBufRead, AsyncRead};
@@ -19,13 +21,16 @@ use std::{
 ///
 /// Its drop closes the pipe and wakes the writer; what is unread is lost.
 pub struct Reader {
-    end: ReadEnd,
-    draws: Draws,
+    side: ManuallyDrop<proved::Reader>,
 }
 
+// A panic of a waker, a source or a destination leaves a handle between two steps, as each of its calls may.
+impl UnwindSafe for Reader {}
+impl RefUnwindSafe for Reader {}
+
 impl Reader {
-    pub(crate) fn new(end: ReadEnd, draws: Draws) -> Reader {
-        Reader { end, draws }
+    pub(crate) fn new(side: proved::Reader) -> Reader {
+        Reader { side: ManuallyDrop::new(side) }
     }
 
     /// How many bytes were published and not consumed. The writer may publish more at any time.
@@ -36,7 +41,7 @@ impl Reader {
     /// assert_eq!(reader.len(), 4);
     /// ```
     pub fn len(&self) -> usize {
-        self.end.len()
+        self.side.len()
     }
 
     /// Whether no byte is unread now.
@@ -60,7 +65,7 @@ impl Reader {
     /// assert_eq!(reader.capacity(), 200);
     /// ```
     pub fn capacity(&self) -> usize {
-        self.end.capacity()
+        self.side.capacity()
     }
 
     /// Whether as many bytes are unread as the pipe can hold.
@@ -88,7 +93,7 @@ impl Reader {
     /// assert_eq!(reader.try_drain(&mut [0; 8]), 4);
     /// ```
     pub fn is_closed(&self) -> bool {
-        self.end.is_closed()
+        self.side.is_closed()
     }
 
     /// Waits for a byte, or for the end.
@@ -109,7 +114,8 @@ impl Reader {
     /// ```
     #[inline]
     pub fn poll(&mut self, cx: &mut Context<'_>) -> Poll<bool> {
-        self.end.poll(cx.waker())
+        let polled = self.side.poll(&mut Task::new(cx));
+        settled(&mut self.side.side, polled)
     }
 
     /// The bytes that this side knows of and that lie in one piece. It never looks for more: that
@@ -125,7 +131,7 @@ impl Reader {
     /// ```
     #[inline]
     pub fn peek_buf(&self) -> &[u8] {
-        self.end.known()
+        self.side.peek_buf()
     }
 
     /// Takes the first `amt` bytes of [`peek_buf`](Reader::peek_buf), and wakes the writer.
@@ -144,7 +150,8 @@ impl Reader {
     /// ```
     #[inline]
     pub fn consume(&mut self, amt: usize) {
-        self.end.consume(amt);
+        assert!(amt <= self.peek_buf().len(), "cannot consume more bytes than `peek_buf` shows");
+        self.side.consume(amt);
     }
 
     /// Copies bytes to `dest`, and returns how many. It never waits: 0 says that there is no byte
@@ -159,7 +166,7 @@ impl Reader {
     /// assert_eq!(&place[..3], b"abc");
     /// ```
     pub fn try_drain(&mut self, dest: &mut [u8]) -> usize {
-        self.read(dest)
+        self.side.try_drain(dest)
     }
 
     /// Waits for a byte, and copies what is there to `dest`. `Ready(0)` says that the pipe is closed
@@ -178,12 +185,8 @@ impl Reader {
     /// assert_eq!((drain(), drain(), drain()), (3, 2, 0));
     /// ```
     pub fn poll_drain_bytes(&mut self, cx: &mut Context<'_>, dest: &mut [u8]) -> Poll<usize> {
-        match self.end.poll(cx.waker()) {
-            Poll::Ready(true) if self.draws.draw() => yield_now(cx),
-            Poll::Ready(true) => Poll::Ready(self.read(dest)),
-            Poll::Ready(false) => Poll::Ready(0),
-            Poll::Pending => Poll::Pending,
-        }
+        let polled = self.side.poll_drain_bytes(&mut Task::new(cx), dest);
+        settled(&mut self.side.side, polled)
     }
 
     /// Waits for a byte, and writes what is there to `dest`, straight from the pipe's memory. It
@@ -210,49 +213,19 @@ impl Reader {
     /// ```
     #[cfg(feature = "std")]
     #[inline]
-    pub fn poll_drain(
-        &mut self,
-        cx: &mut Context<'_>,
-        dest: impl Write,
-    ) -> Poll<io::Result<usize>> {
-        match self.end.poll(cx.waker()) {
-            Poll::Ready(true) if self.draws.draw() => yield_now(cx),
-            Poll::Ready(true) => Poll::Ready(self.drain(IntoWrite(dest))),
-            Poll::Ready(false) => Poll::Ready(Ok(0)),
-            Poll::Pending => Poll::Pending,
-        }
+    pub fn poll_drain(&mut self, cx: &mut Context<'_>, dest: impl Write) -> Poll<io::Result<usize>> {
+        let polled = self.side.poll_drain(&mut Task::new(cx), &mut Checked(dest));
+        copied(&mut self.side.side, polled)
     }
+}
 
-    /// Looks for bytes if none are known, and moves what is known until `dest` is full.
-    fn read(&mut self, dest: &mut [u8]) -> usize {
-        let most = dest.len().min(MOST_A_ROUND);
-        // Only the first piece is looked for: a copy ends once no more is known.
-        match self.end.read(&mut dest[..most]) {
-            0 => 0,
-            count => count + without_fail(self.drain(IntoSlice(&mut dest[count..]))),
-        }
-    }
-
-    /// Moves known bytes, one piece after another, until there is none or `dest` is full.
-    #[inline]
-    fn drain<D: Destination>(&mut self, mut dest: D) -> Result<usize, D::Error> {
-        let mut count = 0;
-        while dest.asks() > 0 {
-            let known = self.end.known_now();
-            let shown = &known[..known.len().min(MOST_A_ROUND)];
-            let most = shown.len();
-            let taken = dest.take(shown)?;
-            if taken == 0 {
-                break;
-            }
-            assert!(
-                taken <= most,
-                "a destination took more bytes than it was shown"
-            );
-            self.end.consume(taken);
-            count += taken;
-        }
-        Ok(count)
+impl Drop for Reader {
+    fn drop(&mut self) {
+        // SAFETY: nobody has the handle after its drop.
+        let mut side = unsafe { ManuallyDrop::take(&mut self.side) };
+        // Its own waker is dropped last, and not called by the other side.
+        let _mine = side.side.cancel();
+        side.drop();
     }
 }
 
@@ -268,11 +241,7 @@ impl fmt::Debug for Reader {
 
 #[cfg(feature = "std")]
 impl AsyncRead for Reader {
-    fn poll_read(
-        self: Pin<&mut Self>,
-        cx: &mut Context<'_>,
-        buf: &mut [u8],
-    ) -> Poll<io::Result<usize>> {
+    fn poll_read(self: Pin<&mut Self>, cx: &mut Context<'_>, buf: &mut [u8]) -> Poll<io::Result<usize>> {
         self.get_mut().poll_drain_bytes(cx, buf).map(Ok)
     }
 }

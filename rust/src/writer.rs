@@ -1,11 +1,13 @@
 //! The handle that writes.
 
+use crate::proved::piper as proved;
+use crate::settled;
+use crate::shim::futures::task::Context as Task;
 #[cfg(feature = "std")]
-use crate::copies::FromRead;
-use crate::copies::{without_fail, FromSlice, Source, MOST_A_ROUND};
-use crate::draws::{yield_now, Draws};
-use crate::ends::WriteEnd;
+use crate::{copied, Checked};
 use core::fmt;
+use core::mem::ManuallyDrop;
+use core::panic::{RefUnwindSafe, UnwindSafe};
 use core::task::{Context, Poll};
 #[cfg(feature = "std")]
 use futures_io::AsyncWrite;
@@ -19,13 +21,34 @@ use std::{
 ///
 /// Its drop closes the pipe and wakes the reader, which can still read what is unread.
 pub struct Writer {
-    end: WriteEnd,
-    draws: Draws,
+    side: ManuallyDrop<proved::Writer>,
 }
 
+// As of the reader.
+impl UnwindSafe for Writer {}
+impl RefUnwindSafe for Writer {}
+
 impl Writer {
-    pub(crate) fn new(end: WriteEnd, draws: Draws) -> Writer {
-        Writer { end, draws }
+    pub(crate) fn new(side: proved::Writer) -> Writer {
+        Writer { side: ManuallyDrop::new(side) }
+    }
+
+    /// A copy, after which nothing is lent, even if a waker or a source panics.
+    #[inline]
+    fn unlent<T>(&mut self, copy: impl FnOnce(&mut proved::Writer) -> T) -> T {
+        struct Unlends<'a>(&'a mut proved::Writer);
+
+        impl Drop for Unlends<'_> {
+            fn drop(&mut self) {
+                self.0.side.unlend();
+            }
+        }
+
+        let unlends = Unlends(&mut self.side);
+        let done = copy(unlends.0);
+        // The copy has done so itself.
+        core::mem::forget(unlends);
+        done
     }
 
     /// How many bytes were published and not consumed. The reader may consume some at any time.
@@ -36,7 +59,7 @@ impl Writer {
     /// assert_eq!(writer.len(), 4);
     /// ```
     pub fn len(&self) -> usize {
-        self.end.len()
+        self.side.len()
     }
 
     /// Whether no byte is unread now.
@@ -58,7 +81,7 @@ impl Writer {
     /// assert_eq!(writer.capacity(), 200);
     /// ```
     pub fn capacity(&self) -> usize {
-        self.end.capacity()
+        self.side.capacity()
     }
 
     /// Whether as many bytes are unread as the pipe can hold.
@@ -83,7 +106,7 @@ impl Writer {
     /// assert!(writer.is_closed());
     /// ```
     pub fn is_closed(&self) -> bool {
-        self.end.is_closed()
+        self.side.is_closed()
     }
 
     /// Waits for room, or for the end.
@@ -103,7 +126,8 @@ impl Writer {
     /// ```
     #[inline]
     pub fn poll(&mut self, cx: &mut Context<'_>) -> Poll<bool> {
-        self.end.poll(cx.waker())
+        let polled = self.side.poll(&mut Task::new(cx));
+        settled(&mut self.side.side, polled)
     }
 
     /// Lends room of the pipe, in one piece, to be written to, at most `max` bytes. What is in these
@@ -119,7 +143,7 @@ impl Writer {
     /// ```
     #[inline]
     pub fn write_buf(&mut self, max: usize) -> &mut [u8] {
-        self.end.lend(max)
+        self.side.write_buf(max)
     }
 
     /// Publishes the first `n` bytes of what is left of the slice that
@@ -143,7 +167,8 @@ impl Writer {
     /// ```
     #[inline]
     pub fn produced(&mut self, n: usize) {
-        self.end.publish(n);
+        assert!(n <= self.side.end().lent(), "cannot publish more bytes than `write_buf` lent");
+        self.side.produced(n);
     }
 
     /// Copies bytes from `src` into the pipe, and returns how many. It never waits: 0 says that there
@@ -157,8 +182,7 @@ impl Writer {
     /// assert_eq!(writer.try_fill(b"ef"), 0);
     /// ```
     pub fn try_fill(&mut self, src: &[u8]) -> usize {
-        self.end.unlend();
-        self.write(src)
+        self.unlent(|side| side.try_fill(src))
     }
 
     /// Waits for room, and copies bytes from `bytes` into the pipe. `Ready(0)` says that the pipe is
@@ -175,13 +199,8 @@ impl Writer {
     /// assert_eq!(block_on(poll_fn(|cx| writer.poll_fill_bytes(cx, b"ef"))), 0);
     /// ```
     pub fn poll_fill_bytes(&mut self, cx: &mut Context<'_>, bytes: &[u8]) -> Poll<usize> {
-        self.end.unlend();
-        match self.end.poll(cx.waker()) {
-            Poll::Ready(true) if self.draws.draw() => yield_now(cx),
-            Poll::Ready(true) => Poll::Ready(self.write(bytes)),
-            Poll::Ready(false) => Poll::Ready(0),
-            Poll::Pending => Poll::Pending,
-        }
+        let polled = self.unlent(|side| side.poll_fill_bytes(&mut Task::new(cx), bytes));
+        settled(&mut self.side.side, polled)
     }
 
     /// Waits for room, and reads from `src` straight into the pipe's memory. It blocks the thread
@@ -209,50 +228,18 @@ impl Writer {
     #[cfg(feature = "std")]
     #[inline]
     pub fn poll_fill(&mut self, cx: &mut Context<'_>, src: impl Read) -> Poll<io::Result<usize>> {
-        self.end.unlend();
-        // It is drawn before the look, since a copy that yields lends nothing.
-        let yields = self.draws.draw();
-        let found = match yields {
-            true => self.end.poll(cx.waker()),
-            false => self.end.offer(cx.waker(), MOST_A_ROUND),
-        };
-        match found {
-            Poll::Ready(true) if yields => yield_now(cx),
-            Poll::Ready(true) => Poll::Ready(self.fill_lent(FromRead(src))),
-            Poll::Ready(false) => Poll::Ready(Ok(0)),
-            Poll::Pending => Poll::Pending,
-        }
+        let polled = self.unlent(|side| side.poll_fill(&mut Task::new(cx), &mut Checked(src)));
+        copied(&mut self.side.side, polled)
     }
+}
 
-    /// Looks for room if none is known, and fills what is known until `bytes` are used up.
-    fn write(&mut self, bytes: &[u8]) -> usize {
-        // Only the first piece is looked for: a copy ends once no more is known.
-        let count = self.end.write(&bytes[..bytes.len().min(MOST_A_ROUND)]);
-        if count == 0 || count == bytes.len() {
-            return count;
-        }
-        let rest = FromSlice(&bytes[count..]);
-        self.end.lend_to_copy(rest.asks().min(MOST_A_ROUND));
-        count + without_fail(self.fill_lent(rest))
-    }
-
-    /// Fills the room that is lent and what is known beside it, one piece after another, until there is
-    /// none or `src` gives nothing. The last loan ends with the next call.
-    #[inline]
-    fn fill_lent<S: Source>(&mut self, mut src: S) -> Result<usize, S::Error> {
-        let lender = self.end.lender();
-        let mut count = 0;
-        loop {
-            let given = src.give(lender.room())?;
-            if given == 0 {
-                return Ok(count);
-            }
-            let is_closed = lender.next(given, src.asks().min(MOST_A_ROUND));
-            count += given;
-            if is_closed {
-                return Ok(count);
-            }
-        }
+impl Drop for Writer {
+    fn drop(&mut self) {
+        // SAFETY: nobody has the handle after its drop.
+        let mut side = unsafe { ManuallyDrop::take(&mut self.side) };
+        // As the reader's.
+        let _mine = side.side.cancel();
+        side.drop();
     }
 }
 
@@ -268,11 +255,7 @@ impl fmt::Debug for Writer {
 
 #[cfg(feature = "std")]
 impl AsyncWrite for Writer {
-    fn poll_write(
-        self: Pin<&mut Self>,
-        cx: &mut Context<'_>,
-        buf: &[u8],
-    ) -> Poll<io::Result<usize>> {
+    fn poll_write(self: Pin<&mut Self>, cx: &mut Context<'_>, buf: &[u8]) -> Poll<io::Result<usize>> {
         self.get_mut().poll_fill_bytes(cx, buf).map(Ok)
     }
 
@@ -282,10 +265,8 @@ impl AsyncWrite for Writer {
     }
 
     /// Closes the pipe for good, and wakes both sides.
-    fn poll_close(self: Pin<&mut Self>, _cx: &mut Context<'_>) -> Poll<io::Result<()>> {
+    fn poll_close(self: Pin<&mut Self>, cx: &mut Context<'_>) -> Poll<io::Result<()>> {
         let writer = self.get_mut();
-        writer.end.unlend();
-        writer.end.close();
-        Poll::Ready(Ok(()))
+        writer.side.poll_close(&mut Task::new(cx)).map_err(|refused| refused.into())
     }
 }

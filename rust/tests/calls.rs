@@ -23,6 +23,7 @@ fn a_pipe_of_no_or_too_many_bytes_is_refused() {
     panics(|| pipe(0));
     panics(|| pipe(usize::MAX));
     panics(|| pipe(usize::MAX / 2 + 1));
+    panics(|| pipe(usize::MAX / 2));
 }
 
 #[test]
@@ -70,10 +71,7 @@ fn a_poll_shows_what_comes_next() {
     assert_eq!(poll_reader(&mut reader), Poll::Pending);
     assert!(reader.peek_buf().is_empty());
     writer.try_fill(b"abcdef");
-    assert!(
-        reader.peek_buf().is_empty(),
-        "what is shown changes by a look alone"
-    );
+    assert!(reader.peek_buf().is_empty(), "what is shown changes by a look alone");
     assert_eq!(poll_reader(&mut reader), Poll::Ready(true));
     assert_eq!(reader.peek_buf(), b"abcdef");
     reader.consume(4);
@@ -84,11 +82,7 @@ fn a_poll_shows_what_comes_next() {
     reader.consume(2);
     assert!(reader.peek_buf().is_empty());
     assert_eq!(poll_reader(&mut reader), Poll::Ready(true));
-    assert_eq!(
-        reader.peek_buf(),
-        b"gh",
-        "a piece ends at the end of the buffer"
-    );
+    assert_eq!(reader.peek_buf(), b"gh", "a piece ends at the end of the buffer");
     reader.consume(2);
     assert_eq!(reader.peek_buf(), b"ijk", "and what goes round it is known");
     reader.consume(3);
@@ -108,16 +102,8 @@ fn room_is_lent_and_published() {
     writer.produced(2);
     let mut place = [0; 8];
     assert_eq!(reader.try_drain(&mut place), 6);
-    assert_eq!(
-        &place[..6],
-        b"abcdef",
-        "what is left of a loan stays as it was written"
-    );
-    assert_eq!(
-        writer.write_buf(100).len(),
-        2,
-        "room is lent up to the end of the buffer"
-    );
+    assert_eq!(&place[..6], b"abcdef", "what is left of a loan stays as it was written");
+    assert_eq!(writer.write_buf(100).len(), 2, "room is lent up to the end of the buffer");
     writer.produced(0);
     writer.write_buf(2).copy_from_slice(b"gh");
     writer.produced(2);
@@ -207,16 +193,10 @@ fn a_drop_of_the_writer_leaves_what_is_unread() {
     assert!(reader.is_closed());
     assert_eq!(reader.len(), 3);
     let mut place = [0; 8];
-    assert_eq!(
-        block_on(poll_fn(|cx| reader.poll_drain_bytes(cx, &mut place))),
-        3
-    );
+    assert_eq!(block_on(poll_fn(|cx| reader.poll_drain_bytes(cx, &mut place))), 3);
     for _ in 0..3 {
         assert_eq!(poll_reader(&mut reader), Poll::Ready(false));
-        assert_eq!(
-            block_on(poll_fn(|cx| reader.poll_drain_bytes(cx, &mut place))),
-            0
-        );
+        assert_eq!(block_on(poll_fn(|cx| reader.poll_drain_bytes(cx, &mut place))), 0);
         assert_eq!(reader.try_drain(&mut place), 0);
         assert!(reader.peek_buf().is_empty());
     }
@@ -233,10 +213,7 @@ fn a_drop_of_the_reader_ends_the_writer() {
     assert_eq!(writer.len(), 4, "a loan from before can be published");
     assert_eq!(writer.try_fill(b"a"), 0);
     assert_eq!(block_on(poll_fn(|cx| writer.poll_fill_bytes(cx, b"a"))), 0);
-    assert_eq!(
-        block_on(poll_fn(|cx| writer.poll_fill(cx, &b"a"[..]))).unwrap(),
-        0
-    );
+    assert_eq!(block_on(poll_fn(|cx| writer.poll_fill(cx, &b"a"[..]))).unwrap(), 0);
 }
 
 #[test]
@@ -250,10 +227,7 @@ fn a_close_by_the_writer_is_final() {
         writer.produced(0);
         assert_eq!(writer.try_fill(b"d"), 0);
         assert_eq!(poll_writer(&mut writer), Poll::Ready(false));
-        assert_eq!(
-            block_on(poll_fn(|cx| Pin::new(&mut writer).poll_write(cx, b"d"))).unwrap(),
-            0
-        );
+        assert_eq!(block_on(poll_fn(|cx| Pin::new(&mut writer).poll_write(cx, b"d"))).unwrap(), 0);
         block_on(poll_fn(|cx| Pin::new(&mut writer).poll_flush(cx))).unwrap();
     }
     assert_eq!(reader.try_drain(&mut [0; 8]), 3);
@@ -265,62 +239,35 @@ fn slices_of_no_bytes_move_none() {
     let (mut reader, mut writer) = pipe(2);
     assert_eq!(writer.try_fill(&[]), 0);
     assert_eq!(block_on(poll_fn(|cx| writer.poll_fill_bytes(cx, &[]))), 0);
-    assert_eq!(
-        block_on(poll_fn(|cx| writer.poll_fill(cx, io::empty()))).unwrap(),
-        0
-    );
-    assert_eq!(
-        block_on(poll_fn(|cx| Pin::new(&mut writer).poll_write(cx, &[]))).unwrap(),
-        0
-    );
+    assert_eq!(block_on(poll_fn(|cx| writer.poll_fill(cx, io::empty()))).unwrap(), 0);
+    assert_eq!(block_on(poll_fn(|cx| Pin::new(&mut writer).poll_write(cx, &[]))).unwrap(), 0);
     assert!(writer.write_buf(0).is_empty());
     writer.produced(0);
     assert!(reader.is_empty());
     assert_eq!(writer.try_fill(b"ab"), 2);
     assert_eq!(reader.try_drain(&mut []), 0);
     assert_eq!(reader.peek_buf(), b"ab", "an empty drain looks");
-    assert_eq!(
-        block_on(poll_fn(|cx| reader.poll_drain_bytes(cx, &mut []))),
-        0
-    );
-    assert_eq!(
-        block_on(poll_fn(|cx| reader.poll_drain(cx, &mut [][..]))).unwrap(),
-        0
-    );
-    assert_eq!(
-        block_on(poll_fn(|cx| Pin::new(&mut reader).poll_read(cx, &mut []))).unwrap(),
-        0
-    );
+    assert_eq!(block_on(poll_fn(|cx| reader.poll_drain_bytes(cx, &mut []))), 0);
+    assert_eq!(block_on(poll_fn(|cx| reader.poll_drain(cx, &mut [][..]))).unwrap(), 0);
+    assert_eq!(block_on(poll_fn(|cx| Pin::new(&mut reader).poll_read(cx, &mut []))).unwrap(), 0);
     reader.consume(0);
     assert_eq!(reader.peek_buf(), b"ab");
     Counter::new().with(|cx| {
-        assert_eq!(
-            writer.poll_fill_bytes(cx, &[]),
-            Poll::Pending,
-            "a full pipe is waited for"
-        );
+        assert_eq!(writer.poll_fill_bytes(cx, &[]), Poll::Pending, "a full pipe is waited for");
     });
     reader.consume(2);
     Counter::new().with(|cx| {
-        assert_eq!(
-            reader.poll_drain_bytes(cx, &mut []),
-            Poll::Pending,
-            "and so is an empty one"
-        );
+        assert_eq!(reader.poll_drain_bytes(cx, &mut []), Poll::Pending, "and so is an empty one");
     });
 }
 
 #[test]
 fn the_traits_read_and_write() {
     let (mut reader, mut writer) = pipe(8);
-    let wrote = block_on(poll_fn(|cx| {
-        Pin::new(&mut writer).poll_write(cx, b"abcdefghij")
-    }));
+    let wrote = block_on(poll_fn(|cx| Pin::new(&mut writer).poll_write(cx, b"abcdefghij")));
     assert_eq!(wrote.unwrap(), 8);
     let mut place = [0; 3];
-    let read = block_on(poll_fn(|cx| {
-        Pin::new(&mut reader).poll_read(cx, &mut place)
-    }));
+    let read = block_on(poll_fn(|cx| Pin::new(&mut reader).poll_read(cx, &mut place)));
     assert_eq!(read.unwrap(), 3);
     assert_eq!(&place, b"abc");
     Counter::new().with(|cx| match Pin::new(&mut reader).poll_fill_buf(cx) {
@@ -341,10 +288,7 @@ fn other_calls_may_stand_between_a_loan_and_its_publish() {
     let (mut reader, mut writer) = pipe(8);
     for turn in 0..5u8 {
         writer.write_buf(5).copy_from_slice(&[turn, 1, 2, 3, 4]);
-        assert_eq!(
-            (writer.len(), writer.is_empty(), writer.is_full()),
-            (0, true, false)
-        );
+        assert_eq!((writer.len(), writer.is_empty(), writer.is_full()), (0, true, false));
         assert!(!writer.is_closed());
         assert!(format!("{:?}", writer).starts_with("Writer"));
         writer.produced(2);
@@ -372,15 +316,9 @@ fn other_calls_may_stand_between_a_loan_and_its_publish() {
 fn a_handle_prints_counts() {
     let (reader, mut writer) = pipe(8);
     writer.try_fill(b"abc");
-    assert_eq!(
-        format!("{:?}", reader),
-        "Reader { len: 3, capacity: 8, is_closed: false }"
-    );
+    assert_eq!(format!("{:?}", reader), "Reader { len: 3, capacity: 8, is_closed: false }");
     drop(reader);
-    assert_eq!(
-        format!("{:?}", writer),
-        "Writer { len: 3, capacity: 8, is_closed: true }"
-    );
+    assert_eq!(format!("{:?}", writer), "Writer { len: 3, capacity: 8, is_closed: true }");
 }
 
 #[test]

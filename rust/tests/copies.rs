@@ -150,15 +150,7 @@ fn one_poll_in_a_hundred_yields() {
         yields += counter.with(|cx| reader.poll_drain_bytes(cx, &mut [0]).is_pending() as usize);
         reader.try_drain(&mut [0; 4]);
     }
-    assert!(
-        (200..=600).contains(&yields),
-        "{} of 40,000 polls yielded",
-        yields
-    );
-    assert_eq!(
-        counter.wakes(),
-        yields,
-        "a yield wakes its own task at once"
-    );
+    assert!((200..=600).contains(&yields), "{} of 40,000 polls yielded", yields);
+    assert_eq!(counter.wakes(), yields, "a yield wakes its own task at once");
     assert_eq!(counter.wakers(), 0);
 }

@@ -17,10 +17,7 @@ fn printed(output: &Output) -> &str {
 
 #[test]
 fn lines_of_a_child_are_printed_and_its_status_is_kept() {
-    let output = run(
-        "child_output",
-        &["sh", "-c", "echo one; printf 'two'; exit 7"],
-    );
+    let output = run("child_output", &["sh", "-c", "echo one; printf 'two'; exit 7"]);
     assert_eq!(printed(&output), "> one\n> two\nexit status: 7\n");
     assert_eq!(output.status.code(), Some(7));
 }
@@ -49,10 +46,7 @@ fn lines_of_a_file_are_counted() {
     let output = run("file_lines", &[file.to_str().unwrap()]);
     std::fs::remove_file(&file).unwrap();
     assert_eq!(printed(&output), "4 lines, the longest of 200001 bytes\n");
-    assert!(
-        !run("file_lines", &["/"]).status.success(),
-        "a folder can't be read"
-    );
+    assert!(!run("file_lines", &["/"]).status.success(), "a folder can't be read");
 }
 
 #[test]

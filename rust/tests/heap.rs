@@ -5,7 +5,6 @@
 
 use std::alloc::{GlobalAlloc, Layout, System};
 use std::cell::Cell;
-use std::collections::HashMap;
 use std::process::Command;
 use std::sync::atomic::{AtomicBool, Ordering};
 use std::sync::Mutex;
@@ -44,14 +43,8 @@ unsafe impl GlobalAlloc for Counting {
             let mut out = OUT.lock().unwrap();
             match out.iter().position(|it| it.0 == at as usize) {
                 Some(found) if out[found].1 == layout => drop(out.swap_remove(found)),
-                Some(_) => MISTAKES
-                    .lock()
-                    .unwrap()
-                    .push("given back with another layout"),
-                None => MISTAKES
-                    .lock()
-                    .unwrap()
-                    .push("given back, and never asked for"),
+                Some(_) => MISTAKES.lock().unwrap().push("given back with another layout"),
+                None => MISTAKES.lock().unwrap().push("given back, and never asked for"),
             }
             COUNTS.set(true);
         }
@@ -72,7 +65,6 @@ fn each_block_goes_back_as_it_came() {
         let _pipe = pipe(2_000_000);
         return;
     }
-    let mut sizes = HashMap::new();
     for capacity in [1, 7, 8, 1_000, 70_000, 1 << 20] {
         COUNTS.set(true);
         let (mut reader, mut writer) = pipe(capacity);
@@ -86,30 +78,18 @@ fn each_block_goes_back_as_it_came() {
         COUNTS.set(false);
         assert_eq!(*OUT.lock().unwrap(), []);
         assert_eq!(*MISTAKES.lock().unwrap(), [""; 0]);
-        assert!(blocks.iter().any(|size| *size >= capacity));
-        sizes.insert(capacity, blocks);
+        assert!(matches!(blocks[..], [size] if (capacity..capacity + 300).contains(&size)));
     }
-    // The stand-in has the bytes of a pipe more than once.
-    let times = if piper::IS_PROVED { 1 } else { 2 };
-    assert!(sizes[&70_000].iter().sum::<usize>() < times * 70_000 + 1_000);
-    assert_eq!(sizes[&1].len(), sizes[&(1 << 20)].len());
 }
 
 #[test]
 fn a_refusal_ends_the_program_as_any_allocation_does() {
     let this = std::env::current_exe().unwrap();
-    let run = Command::new(this)
-        .env(REFUSED, "1")
-        .args(["--exact", "each_block_goes_back_as_it_came"])
-        .output()
-        .unwrap();
+    let run =
+        Command::new(this).env(REFUSED, "1").args(["--exact", "each_block_goes_back_as_it_came"]).output().unwrap();
     let said = String::from_utf8_lossy(&run.stderr);
     assert!(!run.status.success());
-    let mut words = said
-        .split_once("memory allocation of ")
-        .unwrap()
-        .1
-        .split(' ');
+    let mut words = said.split_once("memory allocation of ").unwrap().1.split(' ');
     let refused: usize = words.next().unwrap().parse().unwrap();
     assert!((2_000_000..2_001_000).contains(&refused), "{said}");
 }

@@ -52,9 +52,14 @@ static VTABLE: RawWakerVTable = RawWakerVTable::new(
 );
 
 fn waker() -> Waker {
+    waker_of(ptr::null())
+}
+
+/// A waker of a task: two of the same task have the same data.
+fn waker_of(task: *const ()) -> Waker {
     count(1, 0);
     // SAFETY: the functions have no use for the data.
-    unsafe { Waker::new(ptr::null(), &VTABLE) }
+    unsafe { Waker::new(task, &VTABLE) }
 }
 
 /// Whether this panics, with wakers that panic at the call.
@@ -149,8 +154,8 @@ fn a_poll_that_panics_leaves_no_waker() {
 #[test]
 fn the_drop_of_a_waker_that_comes_back_may_panic() {
     let (mut reader, mut writer) = awaited();
-    let waker = waker();
-    let mut cx = Context::from_waker(&waker);
+    let other = waker_of(ptr::dangling());
+    let mut cx = Context::from_waker(&other);
     assert!(panics(Call::Drop, || reader.poll(&mut cx)));
     assert_eq!(ALIVE.get(), 2, "the new waker is left");
     writer.try_fill(b"a");

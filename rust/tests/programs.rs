@@ -42,9 +42,8 @@ fn two_tasks_of_an_executor_send_and_receive() {
         });
         numbers.sum::<u64>()
     });
-    let (_, (sent, received)) = Parallel::new()
-        .each(0..3, |_| block_on(executor.run(stopped.recv())).is_err())
-        .finish(|| {
+    let (_, (sent, received)) =
+        Parallel::new().each(0..3, |_| block_on(executor.run(stopped.recv())).is_err()).finish(|| {
             block_on(async {
                 let sums = (sending.await, receiving.await);
                 drop(running);
@@ -81,18 +80,10 @@ fn a_thread_reads_a_file_straight_into_the_pipe_and_one_writes_it_out() {
     let (mut reader, mut writer) = pipe(1_000);
     let reading = thread::spawn(move || {
         let mut file = File::open(THIS_FILE).unwrap();
-        block_on(async {
-            while poll_fn(|cx| writer.poll_fill(cx, &mut file)).await.unwrap() > 0 {}
-        })
+        block_on(async { while poll_fn(|cx| writer.poll_fill(cx, &mut file)).await.unwrap() > 0 {} })
     });
     let mut text = Vec::new();
-    block_on(async {
-        while poll_fn(|cx| reader.poll_drain(cx, &mut text))
-            .await
-            .unwrap()
-            > 0
-        {}
-    });
+    block_on(async { while poll_fn(|cx| reader.poll_drain(cx, &mut text)).await.unwrap() > 0 {} });
     reading.join().unwrap();
     assert_eq!(text, std::fs::read(THIS_FILE).unwrap());
 }
@@ -172,10 +163,7 @@ fn an_echo_sends_all_back() {
             from_here.close().await.unwrap();
         };
         let receiving = here.read_to_string(&mut back);
-        futures_lite::future::zip(sending, receiving)
-            .await
-            .1
-            .unwrap();
+        futures_lite::future::zip(sending, receiving).await.1.unwrap();
     });
     assert_eq!(back, text);
     assert_eq!(echo.join().unwrap(), text.len() as u64);

@@ -26,10 +26,7 @@ struct Play {
 /// What a copy that may yield returned: `None` if it yielded.
 fn unless_yielded<A>(polled: Poll<A>, found: Poll<bool>, wakes: usize) -> Option<Poll<A>> {
     let is_yield = polled.is_pending() && found == Poll::Ready(true);
-    assert_eq!(
-        wakes, is_yield as usize,
-        "a copy wakes its own task if it yields"
-    );
+    assert_eq!(wakes, is_yield as usize, "a copy wakes its own task if it yields");
     match is_yield {
         true => None,
         false => Some(polled),
@@ -186,14 +183,13 @@ impl Play {
             3 => {
                 let wants = self.model.poll_read();
                 let peek = self.model.peek();
-                self.of_reader
-                    .with(|cx| match Pin::new(&mut reader).poll_fill_buf(cx) {
-                        Poll::Pending => assert_eq!(wants, Poll::Pending),
-                        Poll::Ready(shown) => {
-                            same(shown.unwrap(), &peek);
-                            assert!(wants.is_ready());
-                        }
-                    });
+                self.of_reader.with(|cx| match Pin::new(&mut reader).poll_fill_buf(cx) {
+                    Poll::Pending => assert_eq!(wants, Poll::Pending),
+                    Poll::Ready(shown) => {
+                        same(shown.unwrap(), &peek);
+                        assert!(wants.is_ready());
+                    }
+                });
             }
             4 => same(reader.peek_buf(), &self.model.peek()),
             _ => {
@@ -213,9 +209,7 @@ impl Play {
         let task = Counter::new();
         let drained = |cx: &mut std::task::Context<'_>| match form {
             0 => reader.poll_drain_bytes(cx, &mut place),
-            1 => Pin::new(reader)
-                .poll_read(cx, &mut place)
-                .map(Result::unwrap),
+            1 => Pin::new(reader).poll_read(cx, &mut place).map(Result::unwrap),
             _ => reader.poll_drain(cx, &mut place[..]).map(Result::unwrap),
         };
         let found = self.model.poll_read();
@@ -246,10 +240,7 @@ impl Play {
             assert_eq!(writer.is_full(), len == writer.capacity());
             assert_eq!(writer.is_closed(), self.model.is_closed);
         }
-        for (counter, waits) in [
-            (&self.of_reader, &self.model.reader),
-            (&self.of_writer, &self.model.writer),
-        ] {
+        for (counter, waits) in [(&self.of_reader, &self.model.reader), (&self.of_writer, &self.model.writer)] {
             assert_eq!(counter.wakes(), waits.wakes);
             assert_eq!(counter.wakers(), waits.left as usize);
         }
@@ -260,9 +251,7 @@ impl Play {
         match self.numbers.below(3) {
             0 => {
                 let writer = self.writer.as_mut().unwrap();
-                assert!(self
-                    .of_writer
-                    .with(|cx| Pin::new(writer).poll_close(cx).is_ready()));
+                assert!(self.of_writer.with(|cx| Pin::new(writer).poll_close(cx).is_ready()));
                 self.model.close();
             }
             1 => {
@@ -299,9 +288,7 @@ fn play(capacity: usize, calls: usize, seed: usize) {
 #[cfg_attr(miri, ignore = "it would take hours")]
 fn any_calls_do_what_a_queue_does() {
     let mut capacities: Vec<usize> = (1..=20).collect();
-    capacities.extend(&[
-        31, 32, 33, 64, 100, 255, 256, 1_000, 4_095, 4_096, 4_097, 8_192,
-    ]);
+    capacities.extend(&[31, 32, 33, 64, 100, 255, 256, 1_000, 4_095, 4_096, 4_097, 8_192]);
     capacities.extend(&[10_000, 12_289, 32_768, 65_521, 65_536, 70_000]);
     let mut numbers = Numbers::new(1);
     capacities.extend((0..12).map(|_| numbers.below(70_000) + 1));

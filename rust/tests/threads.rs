@@ -42,11 +42,7 @@ const WRITES: [Write; 5] = [
 type Read = fn(&mut Reader, &Sleeper, &mut [u8]) -> usize;
 
 const READS: [Read; 6] = [
-    |reader, sleeper, place| {
-        sleeper
-            .wait(|cx| reader.poll_drain(cx, &mut *place))
-            .unwrap()
-    },
+    |reader, sleeper, place| sleeper.wait(|cx| reader.poll_drain(cx, &mut *place)).unwrap(),
     |reader, sleeper, place| sleeper.wait(|cx| reader.poll_drain_bytes(cx, place)),
     |reader, sleeper, place| {
         let read = sleeper.wait(|cx| Pin::new(&mut *reader).poll_read(cx, place));
@@ -103,12 +99,7 @@ fn receive(reader: &mut Reader, sleeper: &Sleeper, read: Read, total: usize, mos
         let piece = (numbers.below(most) + 1).min(total - received);
         let count = read(reader, sleeper, &mut place[..piece]);
         for (offset, &byte) in place[..count].iter().enumerate() {
-            assert_eq!(
-                byte,
-                byte_at(received + offset),
-                "byte {}",
-                received + offset
-            );
+            assert_eq!(byte, byte_at(received + offset), "byte {}", received + offset);
         }
         received += count;
         if count == 0 {
@@ -128,10 +119,7 @@ fn carry(capacity: usize, total: usize, most: usize, write: Write, read: Read) {
         sleeper
     });
     let sleeper = Sleeper::new();
-    assert_eq!(
-        receive(&mut reader, &sleeper, read, usize::MAX, most),
-        total
-    );
+    assert_eq!(receive(&mut reader, &sleeper, read, usize::MAX, most), total);
     assert!(reader.is_closed() && reader.is_empty());
     drop(reader);
     // Before the join the writer's thread may still be about to call the reader's waker.
@@ -186,10 +174,7 @@ fn a_writer_that_waits_learns_that_the_reader_is_gone() {
             });
             let sleeper = Sleeper::new();
             let wants = round % 30;
-            assert_eq!(
-                receive(&mut reader, &sleeper, READS[round % READS.len()], wants, 5),
-                wants
-            );
+            assert_eq!(receive(&mut reader, &sleeper, READS[round % READS.len()], wants, 5), wants);
             drop(reader);
             let (sent, sleeper_of_writer) = sending.join().unwrap();
             assert!(sent >= wants);
@@ -209,9 +194,7 @@ fn a_reader_that_waits_learns_that_the_writer_is_gone() {
                 let write = WRITES[round % WRITES.len()];
                 assert_eq!(send(&mut writer, &sleeper, write, total, 5), total);
                 if round % 2 == 0 {
-                    sleeper
-                        .wait(|cx| Pin::new(&mut writer).poll_close(cx))
-                        .unwrap();
+                    sleeper.wait(|cx| Pin::new(&mut writer).poll_close(cx)).unwrap();
                 }
                 drop(writer);
                 sleeper
@@ -242,10 +225,7 @@ fn both_may_go_at_once() {
             });
             let sleeper = Sleeper::new();
             let waker = std::task::Waker::noop();
-            if reader
-                .poll(&mut std::task::Context::from_waker(waker))
-                .is_ready()
-            {
+            if reader.poll(&mut std::task::Context::from_waker(waker)).is_ready() {
                 reader.try_drain(&mut [0; 2]);
             }
             drop(reader);

@@ -236,72 +236,19 @@ fn a_close_wakes_both_sides() {
 }
 
 #[test]
-fn a_poll_that_finds_the_end_leaves_nothing_for_good() {
+fn a_call_that_finds_the_end_leaves_no_waker() {
     let counter = Counter::new();
     let (mut reader, writer) = pipe(8);
     drop(writer);
     for _ in 0..3 {
         assert_eq!(counter.with(|cx| reader.poll(cx)), Poll::Ready(false));
-        assert!(counter.wakers() <= 1);
+        let drained = counter.with(|cx| reader.poll_drain_bytes(cx, &mut [0]));
+        assert_eq!(drained, Poll::Ready(0));
+        assert_eq!(counted(&counter), (0, 0));
     }
+    let (reader, mut writer) = writer_waits(&counter);
     drop(reader);
-    assert_eq!(counted(&counter), (0, 0));
-}
-
-#[test]
-fn a_waker_that_panics_harms_nobody() {
-    use std::panic::{catch_unwind, AssertUnwindSafe};
-    use std::sync::Arc;
-    use std::task::{Context, Wake, Waker};
-
-    struct Panics;
-    impl Wake for Panics {
-        fn wake(self: Arc<Self>) {
-            panic!("this waker can't wake");
-        }
-    }
-
-    let (mut reader, mut writer) = pipe(8);
-    let waker = Waker::from(Arc::new(Panics));
-    let mut cx = Context::from_waker(&waker);
-    assert_eq!(reader.poll(&mut cx), Poll::Pending);
-    assert!(catch_unwind(AssertUnwindSafe(|| writer.try_fill(b"abc"))).is_err());
-    assert_eq!(reader.len(), 3, "what was published before the wake stays");
-    assert_eq!(reader.poll(&mut cx), Poll::Ready(true));
-    assert_eq!(reader.try_drain(&mut [0; 8]), 3);
-    assert_eq!(reader.poll(&mut cx), Poll::Pending);
-    assert!(catch_unwind(AssertUnwindSafe(|| drop(writer))).is_err());
-    assert_eq!(reader.poll(&mut cx), Poll::Ready(false));
-}
-
-#[test]
-fn a_wake_may_use_the_other_side() {
-    use std::sync::{Arc, Mutex};
-    use std::task::{Context, Wake, Waker};
-
-    /// Its wake drains the pipe that it waits for.
-    struct Drains(Mutex<(Reader, Vec<u8>)>);
-    impl Wake for Drains {
-        fn wake(self: Arc<Self>) {
-            let (reader, taken) = &mut *self.0.lock().unwrap();
-            let mut place = [0; 8];
-            let count = reader.try_drain(&mut place);
-            taken.extend_from_slice(&place[..count]);
-        }
-    }
-
-    let (reader, mut writer) = pipe(8);
-    let drains = Arc::new(Drains(Mutex::new((reader, Vec::new()))));
-    let waker = Waker::from(Arc::clone(&drains));
-    for bytes in [&b"abc"[..], b"d", b"efgh"].iter() {
-        let polled = drains
-            .0
-            .lock()
-            .unwrap()
-            .0
-            .poll(&mut Context::from_waker(&waker));
-        assert_eq!(polled, Poll::Pending);
-        assert_eq!(writer.try_fill(bytes), bytes.len());
-    }
-    assert_eq!(drains.0.lock().unwrap().1, b"abcdefgh");
+    assert_eq!(counter.with(|cx| writer.poll(cx)), Poll::Ready(false));
+    assert_eq!(counter.with(|cx| writer.poll_fill_bytes(cx, b"a")), Poll::Ready(0));
+    assert_eq!(counted(&counter), (1, 0));
 }

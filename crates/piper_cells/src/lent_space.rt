@@ -40,6 +40,7 @@ impl Model for Lender {
     ghost also_owns = { λ l. lender l.life l.words l.start };
 }
 
+// SAFETY: the right to memory, which any thread may have.
 unsafe impl Send for Lender {}
 
 /// One of the two leases of a space.
@@ -55,8 +56,10 @@ impl Model for Lease {
     ghost also_shares = { λ l _ κ. leased l.life κ };
 }
 
+// SAFETY: it has no bytes, and any thread may keep the space lent.
 unsafe impl Send for Lease {}
 
+// SAFETY: a `&` to it only says that the space is lent.
 unsafe impl Sync for Lease {}
 
 /// Where a value lies in a lent space. Whoever has a lease can read it. What lies there when the
@@ -73,8 +76,10 @@ impl<T> Model for Placed<T> {
     ghost also_shares = { λ p _ κ. said (placed T.row p.at p.value p.life) κ };
 }
 
+// SAFETY: it shows the value, of which threads may share a `&`.
 unsafe impl<T: Sync> Send for Placed<T> {}
 
+// SAFETY: as above.
 unsafe impl<T: Sync> Sync for Placed<T> {}
 
 impl<T> Drop for Placed<T> {

@@ -53,8 +53,10 @@ impl Model for Token {
     ghost also_shares = { λ _ _ _. ftrue };
 }
 
+// SAFETY: it has no bytes, and a cell asks of its content that it may go to other threads.
 unsafe impl Send for Token {}
 
+// SAFETY: a `&` to it opens nothing.
 unsafe impl Sync for Token {}
 
 impl<X: Content> TokenCell<X> {
@@ -129,6 +131,8 @@ impl<X: Content + Drop> Drop for TokenCell<X> {
     }
 }
 
+// SAFETY: its content may go to another thread.
 unsafe impl<X: Content + Send> Send for TokenCell<X> {}
 
+// SAFETY: who has its token, of which there is one, gets at the content, and nobody else.
 unsafe impl<X: Content + Send> Sync for TokenCell<X> {}

@@ -32,8 +32,10 @@ impl Model for Log {
     ghost also_shares = { λ _ _ _. ftrue };
 }
 
+// SAFETY: it has no bytes.
 unsafe impl Send for Log {}
 
+// SAFETY: as above.
 unsafe impl Sync for Log {}
 
 impl Drop for Log {

@@ -144,10 +144,7 @@ impl Model {
     pub fn lend(&mut self, max: usize) -> usize {
         self.lent = match self.is_shut {
             true => 0,
-            false => max
-                .min(2 * self.set + 4096)
-                .min(self.room)
-                .min(self.capacity - self.tail),
+            false => max.min(2 * self.set + 4096).min(self.room).min(self.capacity - self.tail),
         };
         self.set = self.set.max(self.tail + self.lent);
         self.lent

@@ -173,7 +173,7 @@ fn open_ends(
 }
 
 /// No block of the heap has more bytes than `isize::MAX`.
-const MOST_SIZE: usize = 0x7fff_ffff_ffff_ffff;
+const MOST_SIZE: usize = isize::MAX as usize;
 
 /// The memory for a ring of `capacity` bytes. What no block can hold is refused as the heap refuses
 /// what it doesn't have.

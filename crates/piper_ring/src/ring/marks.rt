@@ -22,8 +22,10 @@ impl Model for WriteMark {
     ghost also_shares = { λ m _ κ. said (announced m.names m.bytes m.shut) κ };
 }
 
+// SAFETY: it has no bytes, and what it says stays true for good.
 unsafe impl Send for WriteMark {}
 
+// SAFETY: as above.
 unsafe impl Sync for WriteMark {}
 
 impl Drop for WriteMark {
@@ -68,8 +70,10 @@ impl Model for ReadMark {
     ghost also_shares = { λ m _ κ. said (took m.names m.count) κ };
 }
 
+// SAFETY: it has no bytes, and what it says stays true for good.
 unsafe impl Send for ReadMark {}
 
+// SAFETY: as above.
 unsafe impl Sync for ReadMark {}
 
 impl Drop for ReadMark {
@@ -124,8 +128,10 @@ impl Model for ClosedMark {
     ghost also_shares = { λ s _ κ. said (raised s.names.closed s.seen) κ };
 }
 
+// SAFETY: it has no bytes, and what it says stays true for good.
 unsafe impl Send for ClosedMark {}
 
+// SAFETY: as above.
 unsafe impl Sync for ClosedMark {}
 
 impl Drop for ClosedMark {

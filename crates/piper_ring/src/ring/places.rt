@@ -14,8 +14,10 @@ pub(crate) struct Base {
     pub(crate) ptr: *mut u8,
 }
 
+// SAFETY: an address, which owns nothing.
 unsafe impl Send for Base {}
 
+// SAFETY: as above.
 unsafe impl Sync for Base {}
 
 /// The owner of places that follow one another round the ring, and hold `bytes`.
@@ -33,8 +35,10 @@ impl Model for Places {
     ghost also_shares = { λ p _ κ. places_lent p.at p.capacity p.first p.bytes κ };
 }
 
+// SAFETY: who has it has the bytes of its places, in any thread.
 unsafe impl Send for Places {}
 
+// SAFETY: by a `&` to it they are only read.
 unsafe impl Sync for Places {}
 
 /// The owner of `count` places that follow one another round the ring, and need not be set.
@@ -52,8 +56,10 @@ impl Model for Blank {
     ghost also_shares = { λ b _ κ. said (fact (Placed b.at b.capacity)) κ };
 }
 
+// SAFETY: who has it has the bytes of its places, in any thread.
 unsafe impl Send for Blank {}
 
+// SAFETY: a `&` to it gives nothing.
 unsafe impl Sync for Blank {}
 
 impl Places {

@@ -40,8 +40,10 @@ impl Model for ReadSeat {
     ghost also_shares = { λ r _ κ. reader_lends r.words r.at r.names r.head r.seen r.leaving κ };
 }
 
+// SAFETY: what it owns of the ring any thread may use.
 unsafe impl Send for ReadSeat {}
 
+// SAFETY: by a `&` to it the words are only accessed atomically.
 unsafe impl Sync for ReadSeat {}
 
 /// The writer's side of the words. It may write up to the place `limit`.
@@ -60,8 +62,10 @@ impl Model for WriteSeat {
     ghost also_shares = { λ r _ κ. writer_lends r.words r.at r.names r.sent r.limit r.shut κ };
 }
 
+// SAFETY: what it owns of the ring any thread may use.
 unsafe impl Send for WriteSeat {}
 
+// SAFETY: by a `&` to it the words are only accessed atomically.
 unsafe impl Sync for WriteSeat {}
 
 /// The two seats of an empty open ring and its places, all of them the writer's room and none of

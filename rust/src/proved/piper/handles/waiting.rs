@@ -1,0 +1,171 @@
+//! What both handles do at the slots: in their own a task waits, in the other's they wake one.
+/* ghost use Rattle.std.specs.Prelude.{◌≡◌, ◌⊎◌, IsTrue, IsFalse, IfNone, IfSome, true, false}; */
+/* ghost use Rattle.futures.specs.Task.{Covers, Keeps, Wakes}; */
+/* ghost use Rattle.piper_ring.specs.Log.{Comes, WakesNext, WasMade, made, next, now, other, own, then}; */
+/* ghost use Rattle.piper_ring.specs.SlotsView.{OnlyWaits, WaitsAsBefore}; */
+/* ghost use Rattle.piper.specs.Called.{CallsOwn, CallsTaken, IsGranted, LetsOwnGo, WasCalled, WasLetGo}; */
+/* ghost use Rattle.piper.specs.Contexts.{JustRegistered}; */
+
+use crate::shim::futures::task::{Context, Poll, Source, Waker};
+use crate::proved::piper_protocol::table::{Action, Found};
+use crate::proved::piper_ring::{Away, LeftWakers, Side, SlotEnd};
+
+/// Registers in the side's slot, and reports whether a waker was granted. If the other side has just
+/// taken whoever was registered there, the task asks for another poll in place of that.
+#[inline(never)]
+pub(crate) fn register<E: SlotEnd>(
+    side: &mut Side<E, Waker>,
+    source: &Source,
+    cx: &mut Context<'_>,
+) -> bool
+    /* requires turn { next side.old.log ≡ Action.Register }
+    ensures log { side.new.log ≡ made (Found.Granted result) side.old.log }
+    ensures covered { Covers cx.new (λ s. s ≡ source.now.id) }
+    ensures registered { IsTrue result → IsGranted side.old.slots side.new.slots cx.new }
+    ensures refused { IsFalse result →
+        (cx.new.lacks_waker ≡ true) × (side.new.slots.maybe_registered ≡ false) }
+    ensures kept { Keeps cx.old cx.new }
+    ensures waits { OnlyWaits side.old.slots side.new.slots }
+    ensures rest { (side.new.end ≡ side.old.end) × (side.new.cells ≡ side.old.cells) } */
+{
+    let held = match side.reclaim_waker() {
+        Ok(held) => held,
+        Err(Away) => {
+            let _pending: Poll<()> = cx.yield_now();
+            side.note(Action::Register, Found::Granted(true));
+            return true;
+        }
+    };
+    let Some(waker) = grant(held, source, cx) else {
+        side.note(Action::Register, Found::Granted(false));
+        return false;
+    };
+    side.publish_waker(waker);
+    side.note(Action::Register, Found::Granted(true));
+    true
+}
+
+/// A waker of the task that is polled, which waits at `source`, in place of the one that its slot
+/// held: that is the same if it is of this task, and else it is woken. If none can be made, the task
+/// has asked for another poll.
+#[inline] fn grant(held: Option<Waker>, source: &Source, cx: &mut Context<'_>) -> Option<Waker>
+    /* ensures covered { Covers cx.new (λ s. s ≡ source.now.id) }
+    ensures calm { JustRegistered held cx.new }
+    ensures refused { IfNone result (cx.new.lacks_waker ≡ true) }
+    ensures task { IfSome result (λ w. (cx.new.lacks_waker ≡ true) ⊎ Wakes w cx.new) }
+    ensures kept { Keeps cx.old cx.new } */
+{
+    let mut waker = held;
+    let _pending: Poll<()> = cx.register(source, &mut waker);
+    waker
+}
+
+/// Empties the side's own slot after a look that found something, unless its place is known to be
+/// empty, so that a flowing pipe need not check for it.
+#[inline(always)]
+pub(crate) fn take_own<E: SlotEnd>(side: &mut Side<E, Waker>)
+    /* requires turn { next side.old.log ≡ Action.Take (own E.READS) }
+    ensures log { side.new.log ≡ made Found.Nothing side.old.log }
+    ensures leaves { side.new.slots.maybe_registered ≡ false }
+    ensures waits { OnlyWaits side.old.slots side.new.slots }
+    ensures rest { (side.new.end ≡ side.old.end) × (side.new.cells ≡ side.old.cells) } */
+{
+    if side.maybe_registered() {
+        let_own_go(side);
+    }
+    side.own_emptied();
+}
+
+/// Drops a waker that is still registered in the side's slot. That wakes its task, too: it polls
+/// once too often.
+#[cold]
+#[inline(never)]
+fn let_own_go<E: SlotEnd>(side: &mut Side<E, Waker>)
+    /* ensures leaves { side.new.slots.maybe_registered ≡ false }
+    ensures dropped { LetsOwnGo side.old.slots }
+    ensures waits { OnlyWaits side.old.slots side.new.slots }
+    ensures rest { (side.new.end ≡ side.old.end) × (side.new.cells ≡ side.old.cells)
+        × (side.new.log ≡ side.old.log) } */
+{
+    if side.is_registered() {
+        let_go(side.cancel());
+    }
+}
+
+/// Takes whoever is registered in the side's own slot, in a close, and calls its waker.
+#[inline] pub(crate) fn wake_own<E: SlotEnd>(side: &mut Side<E, Waker>)
+    /* requires turn { next side.old.log ≡ Action.Take (own E.READS) }
+    requires on { WakesNext (now side.old.log) }
+    ensures log { Comes (then (now side.old.log) (Found.Waker false)) side.old.log side.new.log }
+    ensures called { CallsOwn side.old.slots }
+    ensures leaves { side.new.slots ≡ record side.old.slots
+        { owns = side.new.slots.owns; maybe_registered = false } }
+    ensures rest { (side.new.end ≡ side.old.end) × (side.new.cells ≡ side.old.cells) } */
+{
+    if let Some(waker) = side.take_own() {
+        call(waker);
+        side.note(Action::Wake, Found::Nothing);
+    }
+}
+
+/// Calls a waker that came out of its place.
+#[inline] pub(crate) fn call(waker: Waker)
+    /* ensures called { WasCalled waker }
+    ensures made { WasMade Action.Wake } */
+{
+    waker.wake();
+}
+
+/// Drops a waker that came out of its place, if there is one.
+#[inline] fn let_go(waker: Option<Waker>)
+    /* ensures { IfSome waker WasLetGo } */
+{
+    drop(waker);
+}
+
+/// Drops what lay in the places of a ring that both ends have left.
+#[inline] pub(crate) fn let_left_go(left: LeftWakers<Waker>)
+    /* ensures reader { IfSome left.reader WasLetGo }
+    ensures writer { IfSome left.writer WasLetGo } */
+{
+    let LeftWakers { reader, writer } = left;
+    let_go(reader);
+    let_go(writer);
+}
+
+/// Checks after all that this side stored whether the other is registered in its slot, and if so
+/// takes it and calls its waker. So a call has none that may wake on the path of a flowing pipe:
+/// after one the compiler checks whether it returned.
+#[inline(always)]
+pub(crate) fn wake_other<E: SlotEnd>(side: &mut Side<E, Waker>)
+    /* requires turn { next side.old.log ≡ Action.Take (other E.READS) }
+    requires on { WakesNext (now side.old.log) }
+    ensures log { Comes (then (now side.old.log) (Found.Waker false)) side.old.log side.new.log }
+    ensures rests { side.new.slots.stored ≡ E.stored_of side.new.end }
+    ensures called { CallsTaken side.old.slots side.new.slots }
+    ensures own { WaitsAsBefore side.old.slots side.new.slots }
+    ensures rest { (side.new.end ≡ side.old.end) × (side.new.cells ≡ side.old.cells) } */
+{
+    if !side.nobody_waits() {
+        wake_waiting(side);
+    }
+}
+
+/// The rest of `wake_other`, if someone waits. It is a function of its own: the path of a flowing
+/// pipe stays short.
+#[cold]
+#[inline(never)]
+pub(crate) fn wake_waiting<E: SlotEnd>(side: &mut Side<E, Waker>)
+    /* requires turn { next side.old.log ≡ Action.Take (other E.READS) }
+    requires on { WakesNext (now side.old.log) }
+    ensures log { Comes (then (now side.old.log) (Found.Waker false)) side.old.log side.new.log }
+    ensures rests { side.new.slots.stored ≡ E.stored_of side.new.end }
+    ensures called { CallsTaken side.old.slots side.new.slots }
+    ensures own { WaitsAsBefore side.old.slots side.new.slots }
+    ensures rest { (side.new.end ≡ side.old.end) × (side.new.cells ≡ side.old.cells) } */
+{
+    if let Some(waker) = side.take() {
+        call(waker);
+        side.note(Action::Wake, Found::Nothing);
+    }
+}

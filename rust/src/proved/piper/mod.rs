@@ -1,0 +1,20 @@
+//! A bounded pipe of bytes between one reader and one writer, for threads and for polled tasks.
+/* #![tactic(auto)] */
+
+mod calls;
+mod copies;
+/* mod debug; */
+mod error;
+mod handles;
+/* pub mod io; */
+pub mod like;
+mod looks;
+/* mod owned; */
+
+pub use error::{CopyError, PipeError, PipeResult};
+pub use handles::{Reader, Writer, pipe};
+/* pub use owned::{DEFAULT_SEED, OwnedReader, OwnedWriter, owned_pipe}; */
+pub use crate::proved::piper_ring::{
+    FinishedReader, FinishedWriter, LastReadMark, OutOfMemory, ReadEnd, ReadMark, WriteEnd,
+    WriteMark, open_ring,
+};

@@ -1,0 +1,148 @@
+//! The ends once they closed the ring and are about to leave. The second one to leave frees the
+//! memory.
+/* ghost use Rattle.std.specs.Prelude.{◌≡◌, ◌*◌, ◌<◌, ◌^◌, length, true, false, IfSome}; */
+/* ghost use Rattle.piper_ring.specs.Cells.{AreCellsOf, CameOut, GetsLeft}; */
+/* ghost use Rattle.piper_ring.specs.Loads.{FoundGone}; */
+/* ghost use Rattle.piper_ring.specs.Shared.{flag}; */
+/* ghost use Rattle.piper_ring.specs.SlotValues.{IsLeft}; */
+/* ghost use Rattle.piper_ring.specs.Stretches.{IsBlankFrom}; */
+
+use crate::proved::piper_ring::ends::cells::{LeftWakers, WakerCells};
+use crate::proved::piper_ring::ring::memory::block_size;
+use crate::proved::piper_ring::ring::places::Blank;
+use crate::proved::piper_ring::ring::remains::Remains;
+use crate::proved::piper_ring::ring::seats::{ReadSeat, WriteSeat};
+use crate::proved::piper_cells::lent_space::{Lease, Placed};
+use crate::proved::piper_cells::token_cell::{Token, TokenCell};
+use crate::shim::std::alloc::Global;
+
+/// The reader's end, which has closed the ring. The places of the bytes that it knew of go to
+/// whoever frees them.
+pub(crate) struct LeavingReader {
+    pub(crate) seat: ReadSeat,
+    pub(crate) known: Blank,
+    pub(crate) lease: Lease,
+    pub(crate) alloc: Global,
+    pub(crate) capacity: usize,
+    /* ghost closed: { seat.leaving ≡ true }, */
+    /* ghost fits: { capacity ≡ seat.names.capacity }, */
+    /* ghost placed: { IsBlankFrom seat.at seat.names.capacity seat.head seat.seen known }, */
+    /* ghost leased: { (lease.life ≡ seat.names.life) × (lease.first ≡ true) }, */
+}
+
+impl LeavingReader {
+    /// Leaves, and frees the memory if the writer has left. With it comes what is left in the places
+    /// of the wakers then, if these are handed over.
+    #[inline] pub(crate) fn leave<T>(self, cells: Option<&Placed<WakerCells<T>>>) -> LeftWakers<T>
+        /* requires { IfSome cells (λ c. AreCellsOf self.seat.names c.now) }
+        ensures { IfSome cells.entry (λ _. GetsLeft self.seat.names result) } */
+    {
+        let LeavingReader {
+            seat,
+            known,
+            lease,
+            alloc,
+            capacity,
+        } = self;
+        let (found, remains) = seat.leave(known, lease);
+        release(found, remains, alloc, capacity, cells)
+    }
+}
+
+/// The writer's end, which has closed the ring. The places of its room go to whoever frees them.
+pub(crate) struct LeavingWriter {
+    pub(crate) seat: WriteSeat,
+    pub(crate) room: Blank,
+    pub(crate) lease: Lease,
+    pub(crate) alloc: Global,
+    pub(crate) capacity: usize,
+    /* ghost closed: { seat.shut ≡ true }, */
+    /* ghost fits: { capacity ≡ seat.names.capacity }, */
+    /* ghost placed: { IsBlankFrom seat.at seat.names.capacity (length seat.sent) seat.limit room }, */
+    /* ghost leased: { (lease.life ≡ seat.names.life) × (lease.first ≡ false) }, */
+}
+
+impl LeavingWriter {
+    /// Leaves, and frees the memory if the reader has left. With it comes what is left in the places
+    /// of the wakers then, if these are handed over.
+    #[inline] pub(crate) fn leave<T>(self, cells: Option<&Placed<WakerCells<T>>>) -> LeftWakers<T>
+        /* requires { IfSome cells (λ c. AreCellsOf self.seat.names c.now) }
+        ensures { IfSome cells.entry (λ _. GetsLeft self.seat.names result) } */
+    {
+        let LeavingWriter {
+            seat,
+            room,
+            lease,
+            alloc,
+            capacity,
+        } = self;
+        let (found, remains) = seat.leave(room, lease);
+        release(found, remains, alloc, capacity, cells)
+    }
+}
+
+/// Frees what an end got when it left: all of the memory if `found` is 1, else nothing. With it
+/// comes what is left in the places of the wakers: the other end may have registered after this one
+/// looked for it.
+#[inline] fn release<T>(
+    found: u64,
+    remains: Remains,
+    alloc: Global,
+    capacity: usize,
+    cells: Option<&Placed<WakerCells<T>>>,
+) -> LeftWakers<T>
+    /* requires remains { (found ≡ flag remains.last) × FoundGone remains.names found
+        × (capacity ≡ remains.names.capacity) × (2 * capacity < 2 ^ 64) }
+    requires cells { IfSome cells (λ c. AreCellsOf remains.names c.now) }
+    ensures { IfSome cells.entry (λ _. GetsLeft remains.names result) } */
+{
+    if found == 0 {
+        remains.finish();
+        return LeftWakers::none();
+    }
+    let (frame, lender, first, second, reader, reader_right, writer, writer_right) =
+        remains.into_parts();
+    let left = match cells {
+        None => LeftWakers::none(),
+        Some(cells) => take_both(
+            cells.get(&first),
+            reader,
+            reader_right,
+            writer,
+            writer_right,
+        ),
+    };
+    let space = lender.take_back(first, second);
+    frame.join(space).surrender(&alloc, block_size(capacity));
+    left
+}
+
+/// What is left in both places, if these are 1: the reader's first.
+#[inline] fn take_both<T>(
+    places: &WakerCells<T>,
+    reader: u64,
+    reader_right: Token,
+    writer: u64,
+    writer_right: Token,
+) -> LeftWakers<T>
+    /* requires reader { IsLeft places.now.reader reader reader_right }
+    requires writer { IsLeft places.now.writer writer writer_right }
+    ensures reader { CameOut places.now.reader result.reader }
+    ensures writer { CameOut places.now.writer result.writer } */
+{
+    LeftWakers {
+        reader: take_left(&places.reader, reader, reader_right),
+        writer: take_left(&places.writer, writer, writer_right),
+    }
+}
+
+/// What is left in a place, if `lies` is 1.
+#[inline] fn take_left<T>(place: &TokenCell<Option<T>>, lies: u64, mut right: Token) -> Option<T>
+    /* requires { IsLeft place.now lies right }
+    ensures { CameOut place.now result } */
+{
+    if lies == 0 {
+        return None;
+    }
+    Some(place.take(&mut right))
+}

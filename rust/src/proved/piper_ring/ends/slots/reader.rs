@@ -1,0 +1,187 @@
+//! The reader's side: how it waits in its slot, and wakes whoever waits in the writer's.
+/* ghost use Rattle.std.specs.Prelude.{◌≡◌, ◌<◌, ◌≤◌, ◌++◌, [], length, take, drop, None, true, false, is_some, IsTrue, IsFalse}; */
+/* ghost use Rattle.piper_ring.specs.Log.{Comes, HasLeft, made, next, now, then}; */
+
+use crate::proved::piper_ring::ends::finished::{Finished, FinishedReader};
+use crate::proved::piper_ring::ends::reader::ReadEnd;
+use crate::proved::piper_ring::ends::slots::side::Side;
+use crate::proved::piper_ring::ends::slots::writer::WriteSide;
+use crate::proved::piper_ring::ends::slots::{Registrations, SlotEnd};
+use crate::proved::piper_ring::ring::marks::{LastReadMark, WriteMark};
+use crate::proved::piper_ring::ring::memory::{WRITER_BACK, WRITER_FLAG};
+use crate::proved::piper_ring::ring::slots::{SlotWords, WaiterState};
+use crate::proved::piper_cells::lent_space::Lease;
+use crate::proved::piper_cells::token_cell::Token;
+use crate::proved::piper_protocol::table::{Action, Found};
+
+/// The reader's side of a ring whose sides can wait.
+pub type ReadSide<T> = Side<ReadEnd, T>;
+
+/// What the reader's end has of both slots.
+pub type ReadRegistrations = Registrations<ReadEnd>;
+
+impl SlotEnd for ReadEnd {
+    /* ghost use Rattle.piper_ring.specs.Slot.{as_stored}; */
+
+    type Heard = WriteMark;
+
+    const READS: bool = true;
+
+    /* ghost READS = { true }; */
+
+    /* ghost names_of = { λ e. e.ring.names }; */
+
+    /* ghost capacity_of = { λ e. e.capacity }; */
+
+    /* ghost stored_of = { λ e. as_stored [] (length e.taken) false }; */
+
+    /* ghost tells = { λ m z s. (m.names ≡ z) × (m.bytes ≡ s.bytes) × (m.shut ≡ s.closed) }; */
+
+    #[inline(always)]
+    fn slot_words(&self) -> SlotWords<'_> {
+        let seat = &self.parts.seat;
+        seat.slot_words(&seat.unseen())
+    }
+
+    #[inline(always)]
+    fn lease(&self) -> &Lease {
+        &self.parts.lease
+    }
+
+    #[inline(always)]
+    fn register(&self, slot: &mut WaiterState, right: Token) -> WriteMark {
+        self.parts.seat.publish_waker(slot, right)
+    }
+}
+
+impl<T> Side<ReadEnd, T> {
+    /* ghost use Rattle.piper_ring.specs.Becomes.{Becomes}; */
+    /* ghost use Rattle.piper_ring.specs.Cells.{GetsLeft}; */
+    /* ghost use Rattle.piper_ring.specs.Looks.{HasBytes}; */
+    /* ghost use Rattle.piper_ring.specs.ReadView.{LoadsTail, Observes, ReaderLoadsClosed, in_one_piece}; */
+    /* ghost use Rattle.piper_ring.specs.Meeting.{EndsMeet}; */
+    /* ghost use Rattle.piper_ring.specs.SlotsView.{IsReaderPending, ReaderHasNews, TakesTicket, WaitsAsBefore, IsWriterPending, WriterHasNews}; */
+
+    /// Loads the tail, as `load_tail` of its end, and returns whether no byte is known even now.
+    /// Once it has registered it finds all that the writer had stored before its last check of the
+    /// slot ahead of the registration.
+    #[inline(always)]
+    pub fn load_tail(&mut self) -> bool
+        /* requires turn { next self.old.log ≡ Action.LoadIndex }
+        requires none { length self.old.end.known ≡ 0 }
+        ensures found { (IsTrue result → length self.new.end.known ≡ 0)
+            × (IsFalse result → HasBytes self.new.end) }
+        ensures end { LoadsTail self.old.slots.heard.bytes self.old.end self.new.end }
+        ensures side { Becomes self.old self.new self.new.end self.old.slots
+            (made (Found.IndexLoaded result) self.old.log) } */
+    {
+        self.end.observe_stored(&self.slots.parts.heard);
+        self.end.load_tail();
+        let none = self.end.knows_none();
+        self.log.index_loaded(none);
+        none
+    }
+
+    /// Loads closed, as `load_closed` of its end. Once it has registered it finds a close that the
+    /// writer had stored before its last check of the slot ahead of the registration.
+    #[inline(always)]
+    pub fn load_closed(&mut self) -> bool
+        /* requires turn { next self.old.log ≡ Action.LoadClosed }
+        ensures end { ReaderLoadsClosed self.old.slots.heard.closed result
+            self.old.end self.new.end }
+        ensures side { Becomes self.old self.new self.new.end self.old.slots
+            (made (Found.Flag result) self.old.log) } */
+    {
+        let is_closed = self.end.load_closed_knowing(&self.slots.parts.heard);
+        self.log.closed_loaded(is_closed);
+        is_closed
+    }
+
+    /// Takes the first `n` known bytes off, and stores the head past them: their places are the
+    /// writer's again.
+    #[inline(always)]
+    pub fn store_head(&mut self, n: usize)
+        /* requires turn { next self.old.log ≡ Action.StoreHead n }
+        requires there { n ≤ in_one_piece self.old.end }
+        ensures { Becomes self.old self.new (record self.old.end {
+          taken = self.old.end.taken ++ take n self.old.end.known;
+          known = drop n self.old.end.known;
+        }) self.old.slots (made Found.Nothing self.old.log) } */
+    {
+        self.end.store_head(n);
+        self.log.note(Found::Nothing);
+    }
+
+    /// `finish` of its end, and `take` after its close. With it comes what was left in the places,
+    /// if the other side has left.
+    #[inline] pub fn finish(self) -> Finished<FinishedReader, T>
+        /* requires turn { next self.log ≡ Action.StoreClosed false }
+        ensures log { Comes (then (then (now self.log) Found.Nothing)
+            (Found.Waker (is_some result.taken))) self.log result.side.log }
+        ensures last { (result.side.mark.consumed.names ≡ self.end.ring.names)
+            × (result.side.mark.consumed.count ≡ length self.end.taken) }
+        ensures looked { (result.side.slots.stored.count ≡ length self.end.taken)
+            × (result.side.slots.stored.closed ≡ true) × WaitsAsBefore self.slots result.side.slots }
+        ensures ticket { TakesTicket self.slots result.side.slots result.taken }
+        ensures leaves { HasLeft self.end.ring.names result.taken result.side.log }
+        ensures left { GetsLeft self.end.ring.names result.left } */
+    {
+        let Side {
+            end,
+            mut slots,
+            cells,
+            mut log,
+        } = self;
+        let consumed = end.mark();
+        let (leaving, closed) = end.close();
+        log.note(Found::Nothing);
+        let wakes = &mut slots.parts.wakes;
+        let words = leaving.seat.slot_words(&closed);
+        let (found, mut right) = words.take_waker(wakes, WRITER_FLAG);
+        let taken = if found == 0 {
+            None
+        } else {
+            let waker = cells.get(&leaving.lease).writer.take(&mut right);
+            let words = leaving.seat.slot_words(&closed);
+            words.give_back(wakes, right, WRITER_BACK);
+            Some(waker)
+        };
+        log.slot_loaded(taken.is_some());
+        let left = leaving.leave(Some(&cells));
+        let mark = LastReadMark { consumed, closed };
+        let side = FinishedReader { mark, slots, log };
+        Finished { side, taken, left }
+    }
+
+    /// `observe` of its end.
+    #[inline] pub fn observe(&mut self, mark: &WriteMark)
+        /* requires { mark.now.names ≡ self.old.end.ring.names }
+        ensures end { Observes mark.now self.old.end self.new.end }
+        ensures rest { Becomes self.old self.new self.new.end self.old.slots self.old.log } */
+    {
+        self.end.observe(mark);
+    }
+
+    /// `meet` of both ends, held by one thread. And for each side that waits, and since whose
+    /// registration the other stored something and looked, the last ticket was taken.
+    #[inline] pub fn meet(&mut self, writer: &mut WriteSide<T>)
+        /* requires { writer.old.end.ring ≡ self.old.end.ring }
+        ensures ends { EndsMeet self.old.end self.new.end writer.old.end writer.new.end }
+        ensures reader { IsReaderPending self.old.end self.old.slots →
+            ReaderHasNews self.old.end writer.old.slots →
+            writer.old.slots.taken ≡ self.old.slots.tickets }
+        ensures writer { IsWriterPending writer.old.end writer.old.slots →
+            WriterHasNews writer.old.end self.old.slots →
+            self.old.slots.taken ≡ writer.old.slots.tickets }
+        ensures capacity { (writer.old.end.capacity ≡ self.old.end.capacity)
+            × (0 < self.old.end.capacity) }
+        ensures rest { Becomes self.old self.new self.new.end self.old.slots self.old.log
+            × Becomes writer.old writer.new writer.new.end writer.old.slots writer.old.log } */
+    {
+        // A ring holds at least one byte.
+        let _ = self.end.capacity();
+        self.meet_slot(&mut writer.slots);
+        writer.meet_slot(&mut self.slots);
+        self.end.meet(&mut writer.end);
+    }
+}

@@ -1,0 +1,21 @@
+//! The ring that two threads share without a lock: the two ends of a bounded pipe of bytes; and its
+//! two sides, each an end that can wait for the other and wake it.
+/* #![tactic(auto)] */
+
+mod ends;
+mod log;
+mod ring;
+
+pub use ends::cells::LeftWakers;
+pub use ends::finished::{Finished, FinishedReader, FinishedWriter};
+pub use ends::opening::{open_ring, open_with_slots};
+pub use ends::reader::ReadEnd;
+pub use ends::slots::looks::Look;
+pub use ends::slots::reader::{ReadRegistrations, ReadSide};
+pub use ends::slots::side::Side;
+pub use ends::slots::writer::{WriteRegistrations, WriteSide};
+pub use ends::slots::{Away, Registrations, SlotEnd};
+pub use ends::writer::WriteEnd;
+pub use log::{Line, Log};
+pub use crate::proved::piper_protocol::memory::OutOfMemory;
+pub use ring::marks::{LastReadMark, ReadMark, WriteMark};
