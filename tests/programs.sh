@@ -134,7 +134,7 @@ cat > late.sh <<'LATE'
 # Stops a pump as it begins, and goes on later: it is to have its threads for the run and for the input.
 has_threads() { test "$(ls "/proc/$child/task" | wc -l)" -ge 3; }
 for turn in {1..20}; do
-    sleep 20 | $pump &
+    { echo a line; exec sleep 20; } | $pump > /dev/null &
     child=$!
     sleep "0.00$((RANDOM % 10))"
     kill -STOP $child

@@ -187,7 +187,7 @@ os.close(far)
 child.stdin.write(b"a line\n")
 child.stdin.flush()
 drawn = os.read(near, 1000)
-assert drawn.startswith(b"\r\x1b[?7l7 B in ") and drawn.endswith(b"\x1b[?7h"), drawn
+assert drawn.startswith(b"\r\x1b[?7l0:00:00 7 B ") and drawn.endswith(b"\x1b[?7h"), drawn
 child.stdin.close()
 assert child.wait() == 0
 PYTHON
@@ -299,6 +299,11 @@ if [ -n "$loop" ]; then
     mknod node b "$((0x$(stat -c %t "$loop")))" "$((0x$(stat -c %T "$loop")))" 2> /dev/null &&
         try 'a block device by two names' 10 4 'it is also the input, another output' "\$pump --force -i src -o $loop --tee node"
     try_silent 'a block device that is overwritten' 10 0 "\$pump --force -i src -o $loop && cmp -n 100000 src $loop"
+    for words in --append '--append --force'; do
+        try "a block device that is appended to, by $words" 10 4 "^piper_pump: $loop: it is a block device, which has no room" "echo other | \$pump $words -o $loop"
+        try "a copy to a block device that is appended to, by $words" 10 4 "^piper_pump: $loop: it is a block device, which has no room" "echo other | \$pump $words --tee $loop > /dev/null"
+    done
+    note 'it stays as it was' cmp -n 100000 src "$loop"
     losetup -d "$loop"
 else
     echo 'left out, for want of a loop device: block devices'
@@ -308,9 +313,9 @@ fi
 if unshare -m sh -c 'umount -l /proc' 2> /dev/null; then
     try 'an input that is the output, without /proc' 10 4 "it can't be told from the other files without /proc" 'cp src s; unshare -m sh -c "umount -l /proc; \$pump -o s --force < s 2>&1" | cat >&2; exit ${PIPESTATUS[0]}'
     note 'it stays' cmp -s src s
-    try 'a file that is appended to, without /proc' 10 4 "it can't be told from the other files without /proc" 'unshare -m sh -c "umount -l /proc; \$pump -i s >> s" 2> >(cat >&2)'
+    try 'a file that is appended to, without /proc' 10 4 "it can't be told from the other files without /proc" 'unshare -m sh -c "umount -l /proc; \$pump -i s >> s" 2>&1 | cat >&2; exit ${PIPESTATUS[0]}'
     note 'it stays, too' cmp -s src s
-    try 'a file into a pipe, without /proc' 10 4 "it can't be told from the other files without /proc" 'unshare -m sh -c "umount -l /proc; \$pump < src" 2> >(cat >&2) | cat > piped; exit ${PIPESTATUS[0]}'
+    try 'a file into a pipe, without /proc' 10 4 "it can't be told from the other files without /proc" '(unshare -m sh -c "umount -l /proc; \$pump < src" 2>&1 >&3 | cat >&2; exit ${PIPESTATUS[0]}) 3>&1 | cat > piped; exit ${PIPESTATUS[0]}'
 else
     echo 'left out, for want of unshare: no /proc'
 fi
@@ -384,6 +389,135 @@ if status or held > most:
 PYTHON
 try_silent 'a capacity of 16M holds 20 MiB' 60 0 'lines 200000000 | python3 held.py 20480 --capacity 16M --chunk 16M'
 try_silent 'a capacity of 2G holds what passes' 60 0 'lines 67108864 | python3 held.py 139264 --capacity 2G --chunk 2G'
+
+# Packets, of which a read that has less room would lose the rest.
+cat > packets.py <<'PYTHON'
+import os, socket, subprocess, sys, threading
+kind, size, words = sys.argv[1], int(sys.argv[2]), sys.argv[3:]
+if kind == "pipe":
+    near, far = os.pipe2(os.O_DIRECT)
+else:
+    ours, theirs = socket.socketpair(socket.AF_UNIX, socket.SOCK_SEQPACKET)
+    near, far = theirs.detach(), ours.detach()
+data = os.urandom(3_000_000 // size * size)
+child = subprocess.Popen([os.environ["pump"]] + words, stdin=near, stdout=subprocess.PIPE)
+os.close(near)
+def give():
+    for at in range(0, len(data), size):
+        os.write(far, data[at:at + size])
+    os.close(far)
+threading.Thread(target=give).start()
+got = child.stdout.read()
+left = data[int(words[1]):] if words[:1] == ["--skip"] else data
+assert got == left, (len(got), len(left))
+sys.exit(child.wait())
+PYTHON
+for case in 'pipe 3000' 'pipe 1000 --capacity 4K' 'pipe 100 --capacity 64' 'pipe 4096 --chunk 1000' 'pipe 3000 --skip 10' \
+    'socket 3000' 'socket 1000 --capacity 4K' 'socket 150000' 'socket 3000 --skip 10'; do
+    try_silent "packets: $case" 20 0 "python3 packets.py $case"
+done
+
+# Bytes that come between the look at a file and its cut, and files that can't be cut.
+: > late
+mkfifo fifo3
+try 'a file that got bytes before it was cut' 10 4 '^piper_pump: late: it holds bytes' '(sleep 0.5; echo precious > late; cat fifo3 > /dev/null) & $pump -i src -o late --tee fifo3; status=$?; wait; exit $status'
+note 'it keeps them' test "$(cat late)" = precious
+if command -v strace > /dev/null; then
+    echo old > old1
+    echo old > old2
+    try 'a copy that can not be cut' 10 4 '^piper_pump: old2: Operation not permitted' 'strace -f -o calls -P old2 -e trace=ftruncate -e inject=ftruncate:error=EPERM $pump --force -i src -o old1 --tee old2'
+    note 'the output is not cut' test "$(cat old1)" = old
+fi
+
+# Writes that take a part, the last of all that there are.
+head -c 5000 file > five
+try 'a file that is cut short by a limit' 10 4 '^piper_pump: limited: writing the output failed: File too large' 'trap "" XFSZ; prlimit --fsize=3000 $pump -i five -o limited'
+try 'a copy that is cut short by a limit' 10 7 '^piper_pump: limited2: File too large' 'trap "" XFSZ; prlimit --fsize=3000 $pump -i five --tee limited2 | cmp - five && exit ${PIPESTATUS[0]}'
+
+# A pause is made up for by no burst: what comes after it takes its time from its first byte on.
+cat > burst.py <<'PYTHON'
+import os, subprocess, threading, time
+child = subprocess.Popen([os.environ["pump"], "--rate", "100000"], stdin=subprocess.PIPE, stdout=subprocess.PIPE)
+def give():
+    child.stdin.write(b"x" * 20_000)
+    child.stdin.flush()
+    time.sleep(1.5)
+    child.stdin.write(b"x" * 50_000)
+    child.stdin.close()
+threading.Thread(target=give).start()
+got, first = 0, None
+while piece := os.read(child.stdout.fileno(), 65536):
+    got += len(piece)
+    if got > 20_000 and first is None:
+        first = time.monotonic()
+    if got == 70_000:
+        took = time.monotonic() - first
+assert child.wait() == 0 and took > 0.36, took
+PYTHON
+try_silent 'a rate after a pause' 10 0 'python3 burst.py'
+
+# As a user of a shell expects.
+try 'errors that go where the bytes go' 10 0 '' '$pump src > log 2>&1 && cmp log src'
+try 'an output that is standard error, if a sum is told' 10 4 '' '$pump --sha256 src > log 2>&1; status=$?; cat log >&2; exit $status'
+try 'a help whose reader left' 10 141 '' '$pump --help | true; exit ${PIPESTATUS[0]}'
+note 'it is silent' test ! -s told
+try 'a FIFO as the input and the output' 5 4 'it is also the input, another output' 'mkfifo fifo4; $pump -i fifo4 -o fifo4'
+for words in '--skip 00' '--skip 0K' '--stop-after 0K' '--size 0K' '--size 00'; do
+    try_silent "no bytes as $words" 10 0 "\$pump $words < /dev/null"
+done
+for size in 0 0K 00 +1 -1 ' 1' 1KB 1iB iB KiB 1Ki 1KiBiB 1KK 1P 1.5M K1 8589934592G 9223372036854775808 99999999999999999999G; do
+    try "a size that is none: '$size'" 10 2 "for '--capacity <N>': a size is a number of bytes from 1 to 9223372036854775807" "\$pump '--capacity=$size' < /dev/null"
+done
+try_silent 'sizes' 10 0 'for size in 1 0064 64kiB 16MiB 1g 1GiB; do $pump --capacity $size --rate 3T --size 8589934591G --skip 2KiB < five > /dev/null || exit 1; done'
+try 'how much is done of nothing' 10 0 '^100$' ': > nothing; $pump -n nothing'
+try_silent 'what is left out of a file is not read' 5 0 'truncate -s 6G sparse && echo the end >> sparse && $pump --skip 6G sparse | cmp - <(echo the end) && exit ${PIPESTATUS[0]}'
+try 'a name with a quote' 10 3 "^piper_pump: \$'it.'s': No such" "\$pump \"it's\""
+try 'a word with a quote' 10 2 "invalid value \$'a.'b' for '--rate <N>'" "\$pump --rate \"a'b\""
+if command -v strace > /dev/null; then
+    try 'a closed standard stream, and no folder in its place' 10 4 '^piper_pump: standard input: Permission denied' 'strace -f -o calls -P / -e trace=openat -e inject=openat:error=EACCES $pump src <&-'
+fi
+
+# A line at a terminal: with a bar, in 79 columns at most. In the background none is drawn, since the terminal would stop who
+# writes there.
+cat > drawn.py <<'PYTHON'
+import os, pty, re, subprocess, sys
+near, far = pty.openpty()
+child = subprocess.Popen([os.environ["pump"], "--progress", "--rate", "3m", "file"], stdout=subprocess.DEVNULL, stderr=far)
+os.close(far)
+drawn = b""
+try:
+    while piece := os.read(near, 4096):
+        drawn += piece
+except OSError:
+    pass
+lines = [re.sub(rb"\x1b\[[?0-9a-zK]*", b"", line).strip() for line in drawn.split(b"\r\x1b[?7l") if line.strip()]
+wanted = rb"\d+:\d\d:\d\d [0-9.]+ [KM]iB [0-9.]+ [KM]?i?B/s \d+% \[=*>? *\]( \d+:\d\d:\d\d left)?, \d+% full"
+assert len(lines) > 2 and all(re.fullmatch(wanted, line) and len(line) <= 79 for line in lines), lines
+assert b" 100% [============]," in lines[-1], lines
+sys.exit(child.wait())
+PYTHON
+try_silent 'a line at a terminal has a bar' 20 0 'python3 drawn.py'
+cat > behind.py <<'PYTHON'
+import os, pty, subprocess, sys, termios, time
+pid, near = pty.fork()
+if pid == 0:
+    mode = termios.tcgetattr(0)
+    mode[3] |= termios.TOSTOP
+    termios.tcsetattr(0, termios.TCSANOW, mode)
+    child = subprocess.Popen([os.environ["pump"], "--progress"], stdin=subprocess.PIPE, stdout=subprocess.DEVNULL, preexec_fn=lambda: os.setpgid(0, 0))
+    for _ in range(4):
+        child.stdin.write(b"x" * 500_000)
+        child.stdin.flush()
+        time.sleep(0.3)
+    child.stdin.close()
+    try:
+        os._exit(child.wait(3))
+    except subprocess.TimeoutExpired:
+        child.kill()
+        os._exit(99)
+sys.exit(os.waitstatus_to_exitcode(os.waitpid(pid, 0)[1]))
+PYTHON
+try_silent 'progress in the background of a terminal that stops who writes' 20 0 'python3 behind.py'
 
 # Signals.
 try 'SIGTERM' 10 143 '' 'sleep 5 | (exec $pump) & sleep 0.5; kill -TERM $(pgrep -P $$ -x piper_pump); wait $!'

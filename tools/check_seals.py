@@ -75,43 +75,10 @@ SEALS = {
         "piper_ring/specs/Log",
         ["piper/proofs/handles/waiting/call", "piper/proofs/handles/draws/ask_again"],
     ),
-    "as_waker_refused": ("piper_transfer/specs/Transfer", ["piper_transfer/proofs/error/no_waker"]),
-    "as_cannot_wait": ("piper_transfer/specs/Transfer", ["piper_transfer/proofs/turns/of_queue"]),
-    "as_asked": ("piper_transfer/specs/Transfer", ["piper_transfer/proofs/over/OutputOverHears/is_over"]),
-    "as_told": ("piper_transfer/specs/Transfer", ["piper_transfer/proofs/over/OutputOver/end_output"]),
-    "as_begun": ("piper_transfer/specs/Threads", ["piper_transfer/proofs/start/Start/begin"]),
-    "as_late": ("piper_transfer/specs/Threads", ["piper_transfer/proofs/start/Start/give_up"]),
-    "as_at_once": ("piper_transfer/specs/Threads", ["piper_transfer/proofs/threads/at_once"]),
-    "as_slept": ("piper_transfer/specs/Turns", ["piper_transfer/proofs/sleeping/sleep"]),
-    "as_waited": ("piper_transfer/specs/Turns", ["piper_transfer/proofs/rises/Rises/wait"]),
-    "as_woken": ("piper_transfer/specs/Turns", ["piper_transfer/proofs/rises/Rises/wake"]),
-    "as_counted": ("piper_transfer/specs/Turns", ["piper_transfer/proofs/meter/Side/add_bytes"]),
-    "as_words": ("piper_pump/specs/CommandLine", ["piper_pump/proofs/command_line/CommandLine/read"]),
-    "as_failed_so": (
-        "piper_pump/specs/Outcome",
-        ["piper_pump/proofs/ends/Outlet/open", "piper_pump/proofs/ends/OutletDestination/write"],
-    ),
-    "as_returned": ("piper_pump/specs/Outcome", ["piper_pump/proofs/running/run"]),
-    "as_opened": ("pump_files/specs/Handle", ["pump_files/proofs/handle/Handle/open"]),
-    "as_answer_of": ("pump_files/specs/Handle", ["pump_files/proofs/handle/Handle/metadata"]),
-    "as_answer_for": ("pump_files/specs/Handle", ["pump_files/proofs/handle/ask"]),
-    "as_synced": ("pump_files/specs/Handle", ["pump_files/proofs/handle/Handle/sync"]),
-    "as_resized": ("pump_files/specs/Handle", ["pump_files/proofs/handle/Handle/resize"]),
-    "as_empty": ("pump_files/specs/Handle", ["pump_files/proofs/handle/Handle/metadata"]),
-    "as_made": ("pump_files/specs/Made", ["pump_files/proofs/made/of_file"]),
-    "as_said": ("pump_files/specs/Saying", ["pump_files/proofs/saying/say"]),
     "as_lost": ("piper_duplex/specs/Failures", ["piper_duplex/proofs/engine/lost/lost"]),
     "as_had_seen": ("piper_futures/specs/Threads", ["piper_futures/proofs/threads/closed_by_writer"]),
     "as_failed_with": ("piper_futures/specs/Threads", ["piper_futures/proofs/threads/wait_for"]),
     "as_wait_failed": ("piper_futures/specs/Threads", ["piper_futures/proofs/threads/wait_for"]),
-}
-
-
-# These look into sealed definitions, and say only that two pieces of such evidence are the same.
-GIVES_NONE = {
-    ("piper_transfer/specs/Threads", "shows_prop"),
-    ("pump_files/specs/Made", "was_made_prop"),
-    ("piper_pump/specs/CommandLine", "are_words_prop"),
 }
 
 # The crates that hold memory which two threads share.
@@ -164,8 +131,6 @@ def wrong_seals(files):
             opened = {it.split(".")[-1] for it in opened} & homes.keys()
             given |= opened
             lemmas = set(re.findall(r"[\w-]+", text)) & SEALS.keys() - {name}
-            if (path, name) in GIVES_NONE:
-                continue
             if (opened or "/specs/" in path and lemmas) and SEALS.get(name, ("",))[0] != path:
                 yield f"{path}: {name} gives {', '.join(sorted(opened | lemmas))}, and is not in this tool's table"
     for name in sorted(homes.keys() - given):

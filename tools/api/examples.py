@@ -20,7 +20,7 @@ FILES = {
                       "piper_futures_streams_tests/src/crossing", "example_lines/src/main"],
     "piper_duplex": ["piper_examples/src/duplex", "piper_lines_duplex_replay_tests/src/duplex/ends"],
     "piper_transfer": ["piper_transfer_tests/src/faults", "piper_transfer_tests/src/waits",
-                       "piper_transfer_tests/src/sizes"],
+                       "piper_transfer_tests/src/errors"],
     "piper_tokio": ["piper_tokio_tests/src/ends", "piper_tokio_tests/src/copies",
                     "piper_tokio_tests/src/codecs"],
 }

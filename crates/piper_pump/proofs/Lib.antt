@@ -1,4 +1,3 @@
-mod Concluded
-pub mod Named
-mod Parts
-mod Tees
+pub mod Elements
+pub mod Passed
+pub mod Taking

@@ -1,14 +1,2 @@
-pub mod Accepting
-pub mod Asked
-pub mod CommandLine
 pub mod Ended
-pub mod Ends
-pub mod Opening
-pub mod Outcome
-pub mod Planned
-pub mod Prepared
-pub mod Running
-pub mod Section
-pub mod Streams
-pub mod Why
-pub mod Written
+pub mod Passed

@@ -1,15 +1,11 @@
 //! How the program ends: what it says, and its exit status.
-ghost use Rattle.std.specs.Prelude.{◌≡◌, IfErr, IfOk, string_bytes};
+ghost use Rattle.std.specs.Prelude.{◌≡◌, IfErr, IfOk};
 ghost use Rattle.std.specs.Process.{exit_status};
-ghost use Rattle.piper_protocol.specs.Reported.{HasFailed};
-ghost use Rattle.piper_pump.specs.Ended.{EndsAs, HasStatus, IsAgain, IsOfOption, IsOfPrint, IsOfRange, IsShown, IsUnopened};
-ghost use Rattle.piper_pump.specs.Why.{IsWhySaid, SaysWhy, is_printable, why_text};
+ghost use Rattle.piper_pump.specs.Ended.{EndsAs, HasStatus, IsShown};
 
-use piper_protocol::reported::reported;
+use crate::names::{Shown, Tamed};
+use crate::numbers::Untaken;
 use piper_transfer::TransferError;
-use pump_files::names::{Shown, Tamed};
-use pump_files::saying::say;
-use pump_words::plan::Untaken;
 use std::alloc::{AllocGlobal, Global};
 use std::fmt::{Display, Formatter};
 use std::io::ErrorKind;
@@ -25,24 +21,9 @@ pub struct Unopened {
 
 impl Unopened {
     /// The name of the file, and why it can't be opened.
-    pub(crate) fn new(alloc: Global, name: &str, error: io::Error) -> Result<Unopened, Ended>
-        ensures named { IfOk result (λ file. string_bytes file.name ≡ name.now) }
-        ensures error { IfOk result (λ file. file.error ≡ error) }
-        ensures memory { IfErr result (λ e. e ≡ Ended.Memory) }
-        ensures refused { IfErr result HasFailed }
-    {
-        let name = reported(String::from_str(alloc, name).map_err(|_| Ended::Memory))?;
+    pub fn new(alloc: Global, name: &str, error: io::Error) -> Result<Unopened, Ended> {
+        let name = String::from_str(alloc, name).map_err(|_| Ended::Memory)?;
         Ok(Unopened { name, error })
-    }
-
-    fn try_clone(&self, alloc: Global) -> Result<Unopened, Ended>
-        ensures named { IfOk result (λ file.
-            string_bytes file.name ≡ string_bytes self.now.name) }
-        ensures error { IfOk result (λ file. file.error ≡ self.now.error) }
-        ensures memory { IfErr result (λ e. e ≡ Ended.Memory) }
-        ensures refused { IfErr result HasFailed }
-    {
-        Unopened::new(alloc, self.name.as_str(), self.error)
     }
 }
 
@@ -53,26 +34,6 @@ pub struct NotTaken {
     pub text: String,
     /// Which numbers it takes.
     pub range: &'static str,
-}
-
-/// That the option does not take this word.
-pub fn not_taken(alloc: Global, word: Untaken<'_>) -> Ended
-    ensures named { IsOfOption word.entry.option.now word.entry.text.now result }
-    ensures range { IsOfRange word.entry.range.now result }
-{
-    let Untaken {
-        option,
-        text,
-        range,
-    } = word;
-    match reported(String::from_str(alloc, text).map_err(|_| Ended::Memory)) {
-        Ok(text) => Ended::Value(NotTaken {
-            option,
-            text,
-            range,
-        }),
-        Err(refused) => refused,
-    }
 }
 
 /// How the program ends.
@@ -123,28 +84,37 @@ impl Ended {
         }
     }
 
-    /// The same again, of an end for a file that can't be opened.
-    pub(crate) fn try_clone(&self, alloc: Global) -> Ended
-        ensures unopened { IsUnopened self.now → IsUnopened result }
-        ensures again { IsUnopened self.now → IsAgain self.now result }
-    {
-        match self {
-            Ended::NoInput(file) => match file.try_clone(alloc) {
-                Ok(file) => Ended::NoInput(file),
-                Err(refused) => refused,
-            },
-            Ended::NoOutput(file) => match file.try_clone(alloc) {
-                Ok(file) => Ended::NoOutput(file),
-                Err(refused) => refused,
-            },
-            _ => Ended::Memory,
+    /// The option does not take this word.
+    pub fn refused(alloc: Global, word: Untaken<'_>) -> Ended {
+        match String::from_str(alloc, word.text) {
+            Ok(text) => Ended::Value(NotTaken {
+                option: word.option,
+                text,
+                range: word.range,
+            }),
+            Err(_) => Ended::Memory,
+        }
+    }
+
+    /// The file of this name can't be read.
+    pub fn no_input(alloc: Global, name: &str, error: io::Error) -> Ended {
+        match Unopened::new(alloc, name, error) {
+            Ok(file) => Ended::NoInput(file),
+            Err(ended) => ended,
+        }
+    }
+
+    /// The file of this name can't be written.
+    pub fn no_output(alloc: Global, name: &str, error: io::Error) -> Ended {
+        match Unopened::new(alloc, name, error) {
+            Ok(file) => Ended::NoOutput(file),
+            Err(ended) => ended,
         }
     }
 
     /// Says why it ended early, if it did, and returns the status.
     pub fn report(&self, rt: &(impl Print + Eprint + AllocGlobal), names: &EndNames) -> ExitCode
-        ensures status { HasStatus self.now (exit_status result) }
-        ensures said { SaysWhy self.now }
+        ensures { HasStatus self.now (exit_status result) }
     {
         match self {
             Ended::Moved => ExitCode::from(0),
@@ -159,13 +129,12 @@ impl Ended {
     }
 
     // It is not inlined, nor is `report_words`: the first thread, whose stack may be small, ends well
-    // without the space for their texts.
+    // without the space for their texts. If standard error is closed, there is nowhere left to say so.
     #[inline(never)]
     fn say_why(&self, rt: &impl Eprint, names: &EndNames, status: u8) -> ExitCode
-        ensures status { exit_status result ≡ status }
-        ensures said { IsWhySaid self.now }
+        ensures { exit_status result ≡ status }
     {
-        let _ = say(rt, Why { ended: self, names });
+        let _ = rt.eprintln(Why { ended: self, names });
         ExitCode::from(status)
     }
 }
@@ -193,14 +162,14 @@ impl EndNames {
 
 /// Why the program ended, after its name. An option is refused in the words that others are refused in.
 #[derive(Clone, Copy)]
-pub struct Why<'a> {
+struct Why<'a> {
     ended: &'a Ended,
     names: &'a EndNames,
 }
 
 /// What comes before an error of a file, or before a line of progress: a name.
 #[derive(Clone, Copy)]
-pub(crate) struct Prefix<'a>(pub(crate) Option<&'a str>);
+pub struct Prefix<'a>(pub Option<&'a str>);
 
 impl Display for Prefix<'_> {
     fn fmt<W: fmt::Write>(&self, f: &mut Formatter<W>) -> fmt::Result {
@@ -211,27 +180,24 @@ impl Display for Prefix<'_> {
     }
 }
 
-pub(crate) fn name_in(name: &Option<String>) -> Option<&str> {
+/// The name, if there is one.
+pub fn name_in(name: &Option<String>) -> Option<&str> {
     name.as_ref().map(|name| name.as_str())
 }
 
-// Whether a text is shown as it is: it has printable characters of ASCII alone.
-fn is_printable(text: &str) -> bool
-    ensures { result ≡ is_printable text.now }
-{
+// Whether a text is shown as it is: it has printable characters of ASCII alone, and no quote.
+fn is_plain(text: &str) -> bool {
     text.as_bytes()
         .iter()
-        .all(|byte| 32 <= *byte && *byte < 127)
+        .all(|byte| 32 <= *byte && *byte < 127 && *byte != b'\'')
 }
 
 impl Display for Why<'_> {
-    ghost output = { λ why. why_text why.ended.now };
-
     fn fmt<W: fmt::Write>(&self, f: &mut Formatter<W>) -> fmt::Result {
         match self.ended {
             Ended::Moved | Ended::Copies | Ended::Closed | Ended::Words(_) => Ok(()),
             Ended::NotText => f.write_str("piper_pump: an argument is not UTF-8"),
-            Ended::Value(word) if is_printable(word.text.as_str()) => write!(
+            Ended::Value(word) if is_plain(word.text.as_str()) => write!(
                 f,
                 "piper_pump: invalid value '{}' for '{}': {}\n\nFor more information, try '--help'.",
                 word.text, word.option, word.range
@@ -269,11 +235,10 @@ impl Display for Why<'_> {
 }
 
 // Prints the help or the version, or why the words are refused. A help that can't be printed is an
-// output that failed.
+// output that failed, or whose reader has ended.
 #[inline(never)]
 fn report_words<R: Print + Eprint + AllocGlobal>(rt: &R, error: &clap::Error) -> u8
-    ensures shown { IsShown error.now → IsOfPrint result }
-    ensures refused { ¬ IsShown error.now → result ≡ 2 }
+    ensures { ¬ IsShown error.now → result ≡ 2 }
 {
     let status = error.exit_code() as u8;
     if status != 0 {
@@ -281,12 +246,13 @@ fn report_words<R: Print + Eprint + AllocGlobal>(rt: &R, error: &clap::Error) ->
         let _ = print_refused(rt, error);
         return status;
     }
-    match reported(error.print(rt)) {
+    match error.print(rt) {
+        Ok(()) => status,
+        Err(failed) if failed.kind() == ErrorKind::BrokenPipe => 141,
         Err(failed) => {
             let _ = eprintln!(rt; "piper_pump: writing the output failed: {failed}");
             4
         }
-        Ok(()) => status,
     }
 }
 

@@ -2,29 +2,31 @@
 //! it to standard output.
 #![tactic(auto)]
 
-mod accepting;
-mod command_line;
+mod arguments;
 mod ended;
-mod ends;
-mod opening;
+mod files;
+mod found;
+mod input;
+mod lines;
+mod names;
+mod numbers;
 mod outcome;
-mod outputs;
-mod program;
+mod outlet;
+mod pace;
 mod progress;
-mod refusing;
-mod running;
-mod section;
-mod sizing;
+mod run;
+mod sinks;
 mod streams;
+mod sums;
+mod tees;
 
-use crate::command_line::CommandLine;
-use crate::ended::EndNames;
+use crate::ended::{EndNames, Ended};
 use crate::outcome::Outcome;
-use crate::program::{Nothing, STACK, run_and_report};
+use crate::run::{Nothing, STACK, run_and_report};
 use crate::streams::{Streams, is_open};
-use piper_transfer::Plain;
-use pump_files::files::SystemFile;
-use std::io::IsTerminal;
+use std::alloc::AllocGlobal;
+use std::env::{self, Env};
+use std::io::{ErrorKind, IsTerminal};
 use std::process::ExitCode;
 use std::thread::Builder;
 
@@ -39,22 +41,31 @@ fn main(rt: HostRuntime) -> ExitCode {
         Ok(fillers) => fillers,
         Err(ended) => return ended.report(&rt, &EndNames::none()),
     };
-    let line = match CommandLine::read(&rt) {
-        Ok(line) => line,
+    let words = match words_of(&rt) {
+        Ok(words) => words,
         Err(ended) => return ended.report(&rt, &EndNames::none()),
     };
     let (outcome, theirs) = match Outcome::for_two(rt.alloc()) {
         Ok(outcomes) => outcomes,
         Err(ended) => return ended.report(&rt, &EndNames::none()),
     };
-    let (source, dest) = (Plain(rt.stdin()), Plain(rt.stdout()));
+    let (stdin, stdout) = (rt.stdin(), rt.stdout());
     let started = Builder::new()
         .stack_size(STACK)
         .spawn_with(&rt, Nothing, move || {
-            run_and_report::<_, SystemFile, _, _>(rt, line, source, dest, streams, theirs)
+            run_and_report(rt, words, stdin, stdout, streams, theirs)
         });
     if let Err(refused) = started {
         (refused.value)();
     }
     outcome.report(&rt)
+}
+
+// The words on the command line, of which the first is the program's name.
+fn words_of<R: Env + AllocGlobal>(rt: &R) -> Result<Vec<String>, Ended> {
+    match env::args(rt) {
+        Ok(args) => args.collect(rt.alloc()).map_err(|_| Ended::Memory),
+        Err(error) if error.kind() == ErrorKind::InvalidData => Err(Ended::NotText),
+        Err(_) => Err(Ended::Memory),
+    }
 }

@@ -1,54 +1,28 @@
 //! What the first thread waits for: the end of the run, or a failed output, after which the run can
 //! end late, since a read that is under way is not cut short.
-ghost use Rattle.std.specs.Prelude.{◌≡◌, IfErr, IfSome, None};
 ghost use Rattle.std.specs.Process.{exit_status};
-ghost use Rattle.piper_pump.specs.Ended.{IsOfFailure};
-ghost use Rattle.piper_pump.specs.Outcome.{EndsBy, IsOfRun, IsTold, OutputFailed, ReportsRun};
+ghost use Rattle.piper_pump.specs.Ended.{HasStatus};
+ghost use Rattle.piper_pump.specs.declared.ended.Ended.{Ended};
 
 use crate::ended::{EndNames, Ended};
 use crate::progress::EndSignal;
-use piper_protocol::reported::reported;
-use piper_transfer::{Meter, TransferError};
+use piper_transfer::Meter;
 use std::alloc::{AllocGlobal, Global};
+use std::mem;
 use std::process::ExitCode;
 use std::sync::{Arc, Condvar, Mutex, Wait};
 use std::time::{Clock, Duration};
-use std::{io, mem};
 
 /// For how many milliseconds the run may still end by itself once its output has failed.
 const GRACE: u64 = 200;
-
-/// How an output failed.
-#[derive(Drop)]
-pub enum Failure {
-    /// A file that is to be written can't be opened, which ends the run so.
-    Unopened(Ended),
-    /// A write failed with this error.
-    Write(io::Error),
-    /// A write took no byte.
-    Full,
-}
-
-/// How the run has ended.
-#[derive(Drop)]
-struct RunEnd {
-    ended: Ended,
-    ghost of_run: { ∥ IsOfRun ended ∥₁ },
-}
-
-/// How its output has failed.
-#[derive(Drop)]
-struct Failed {
-    failure: Failure,
-    ghost of_output: { ∥ OutputFailed failure ∥₁ },
-}
 
 /// What was reported so far.
 #[derive(Drop)]
 enum Told {
     Nothing,
-    Failed(Failed),
-    Over(RunEnd),
+    /// The output has failed, so that the run will end so.
+    Failed(Ended),
+    Over(Ended),
 }
 
 /// The place where a run reports how it goes. Another thread may wait for that.
@@ -58,53 +32,8 @@ pub struct Outcome {
     changed: Condvar,
     names: Mutex<EndNames>,
     /// What the run has done so far, and whether that is over, for who reports its progress.
-    pub(crate) meter: Meter,
-    pub(crate) over: EndSignal,
-}
-
-impl Failure {
-    // How a run ends that fails so.
-    fn ended(self) -> Ended
-        ensures { EndsBy self result }
-    {
-        match self {
-            Failure::Unopened(ended) => ended,
-            Failure::Write(error) => Ended::of(Err(TransferError::Write(error)), false),
-            Failure::Full => Ended::of(Err(TransferError::Full), false),
-        }
-    }
-}
-
-impl RunEnd {
-    fn into_ended(self) -> Ended
-        ensures { IsTold result }
-    {
-        let RunEnd { ended } = self;
-        ended
-    }
-}
-
-impl Failed {
-    fn into_ended(self) -> Ended
-        ensures { IsTold result }
-    {
-        let Failed { failure } = self;
-        failure.ended()
-    }
-}
-
-impl Told {
-    // How the program ends by that, if it was reported.
-    fn into_ended(self) -> Option<Ended>
-        ensures told { IfSome result IsTold }
-        ensures nothing { result ≡ None → self ≡ Told.Nothing }
-    {
-        match self {
-            Told::Over(over) => Some(over.into_ended()),
-            Told::Failed(failed) => Some(failed.into_ended()),
-            Told::Nothing => None,
-        }
-    }
+    pub meter: Meter,
+    pub over: EndSignal,
 }
 
 impl Outcome {
@@ -120,39 +49,32 @@ impl Outcome {
     }
 
     /// What is read and written is named so, where an error of it is said.
-    pub(crate) fn name(&self, rt: &impl Wait, names: EndNames) {
+    pub fn name(&self, rt: &impl Wait, names: EndNames) {
         *self.names.lock(rt) = names;
     }
 
     /// What begins each line of progress, which is no more known here then.
-    pub(crate) fn take_name(&self, rt: &impl Wait) -> Option<String> {
+    pub fn take_name(&self, rt: &impl Wait) -> Option<String> {
         mem::replace(&mut self.names.lock(rt).progress, None)
     }
 
     /// The same, for two threads.
-    pub fn for_two(alloc: Global) -> Result<(Arc<Outcome, Global>, Arc<Outcome, Global>), Ended>
-        ensures failed { IfErr result IsOfFailure }
-    {
-        let ours = reported(Arc::new(alloc, Outcome::new()).map_err(|_| Ended::Memory))?;
-        let theirs = reported(Arc::try_clone(&ours).map_err(|_| Ended::Memory))?;
+    pub fn for_two(alloc: Global) -> Result<(Arc<Outcome, Global>, Arc<Outcome, Global>), Ended> {
+        let ours = Arc::new(alloc, Outcome::new()).map_err(|_| Ended::Memory)?;
+        let theirs = Arc::try_clone(&ours).map_err(|_| Ended::Memory)?;
         Ok((ours, theirs))
     }
 
-    /// Reports that the output has failed: not that a write is to be made again.
-    pub(crate) fn fail(&self, rt: &impl Wait, failure: Failure)
-        requires { OutputFailed failure }
-    {
-        let failed = Failed { failure };
-        *self.reported.lock(rt) = Told::Failed(failed);
+    /// Reports that the output has failed, by which the run ends so: not that a write is to be made
+    /// again.
+    pub fn fail(&self, rt: &impl Wait, ended: Ended) {
+        *self.reported.lock(rt) = Told::Failed(ended);
         self.changed.notify_all();
     }
 
     /// Reports how the run has ended.
-    pub(crate) fn end(&self, rt: &impl Wait, ended: Ended)
-        requires { IsOfRun ended }
-    {
-        let over = RunEnd { ended };
-        *self.reported.lock(rt) = Told::Over(over);
+    pub fn end(&self, rt: &impl Wait, ended: Ended) {
+        *self.reported.lock(rt) = Told::Over(ended);
         self.changed.notify_all();
     }
 
@@ -161,7 +83,7 @@ impl Outcome {
     pub fn report<R>(&self, rt: &R) -> ExitCode
     where
         R: Wait + Clock + Print + Eprint + AllocGlobal,
-        ensures { ReportsRun (exit_status result) }
+        ensures { (ended : Ended) × HasStatus ended (exit_status result) }
     {
         let ended = self.wait(rt);
         let names = self.names.lock(rt);
@@ -169,12 +91,11 @@ impl Outcome {
     }
 
     // How the program ends.
-    fn wait(&self, rt: &(impl Wait + Clock)) -> Ended
-        ensures { IsTold result }
-    {
+    fn wait(&self, rt: &(impl Wait + Clock)) -> Ended {
         for _ in rt.forever() {
-            if let Some(ended) = self.take(rt).into_ended() {
-                return ended;
+            match self.take(rt) {
+                Told::Failed(ended) | Told::Over(ended) => return ended,
+                Told::Nothing => {}
             }
         }
         unreachable!()

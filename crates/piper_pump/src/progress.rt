@@ -1,19 +1,14 @@
 //! Lines on standard error that report how far a transfer is.
-ghost use Rattle.std.specs.Prelude.{◌≡◌, ◌≤◌, ◌-◌, ◌*◌, ◌/◌, ◌^◌, ◌↔◌, min, max, IfSome, IsErrAnd, IsSome, IsSomeAnd, IsTrue, None, Result, Some};
-ghost use Rattle.std.specs.Duration.{as_nanos};
-ghost use Rattle.std.specs.declared.io.Error.{Error};
-ghost use Rattle.piper_protocol.specs.Reported.{IsOfStd};
-ghost use Rattle.piper_transfer.specs.Transfer.{IsLasting};
-ghost use Rattle.pump_files.specs.Pace.{IsOfClock};
 
 use crate::ended::{Prefix, name_in};
+use crate::lines::{Done, Drawn, Fill, Line};
 use crate::outcome::Outcome;
-use crate::program::{Nothing, STACK};
-use piper_protocol::reported::reported;
+use crate::run::{Nothing, STACK};
 use piper_transfer::{Meter, is_lasting};
-use pump_words::lines::{Done, Fill, Line};
 use std::alloc::{AllocError, Global};
+use std::fs::File;
 use std::io;
+use std::io::{Read, Seek};
 use std::marker::Send;
 use std::sync::{Arc, Condvar, Mutex, Wait};
 use std::thread::{Builder, Threads};
@@ -59,7 +54,7 @@ impl EndSignal {
 
     /// Reports that it is over, and waits for the last line, for at most a fifth of a second: the
     /// end does not wait for who reads standard error.
-    pub(crate) fn end(&self, rt: &(impl Wait + Clock)) {
+    pub fn end(&self, rt: &(impl Wait + Clock)) {
         let mut stage = self.stage.lock(rt);
         if matches!(*stage, Stage::Told) {
             return;
@@ -95,6 +90,8 @@ pub struct Watched {
     pub tells_number: bool,
     /// How many milliseconds it is from one line to the next.
     pub pause: u64,
+    /// When the run began.
+    pub begun: Option<Instant>,
 }
 
 /// How many bytes were moved, and how many in a second.
@@ -110,43 +107,51 @@ pub struct Progress {
     watched: Watched,
     /// What begins each line.
     name: Option<String>,
-    begun: Option<Instant>,
     reported: Option<Instant>,
     bytes: u64,
     /// Bytes a second, as an average over the last seconds.
     average: Option<u64>,
     /// Whether a line could not be printed, so that nobody reads them.
     is_unread: bool,
+    /// Where the system reports of this process, if it does.
+    stat: Option<File>,
 }
 
 /// Has a thread of its own report the transfer until it is over. It is not joined, so that a line
-/// which standard error does not take holds up nobody else. Returns whether a thread was granted.
-pub fn begin_watch<R>(rt: &R, outcome: &Arc<Outcome, Global>, watched: Watched) -> bool
+/// which standard error does not take holds up nobody else. If no thread is granted, it returns what
+/// reports it between two writes.
+pub fn begin_watch<R>(
+    rt: &R,
+    outcome: &Arc<Outcome, Global>,
+    watched: Watched,
+    stat: Option<File>,
+) -> Option<Progress>
 where
     R: Wait + Threads + Clock + Eprint + Clone + Drop + Send + Sync + 'static,
 {
     let cloned: Result<R, AllocError> = rt.clone();
-    let (Ok(runtime), Ok(theirs)) = (cloned, Arc::try_clone(outcome)) else {
-        return false;
-    };
-    outcome.over.turn(rt, Stage::Watching);
-    let started = Builder::new()
-        .stack_size(STACK)
-        .spawn_with(rt, Nothing, move || watch(&runtime, &theirs, watched));
-    if started.is_err() {
+    if let (Ok(runtime), Ok(theirs)) = (cloned, Arc::try_clone(outcome)) {
+        outcome.over.turn(rt, Stage::Watching);
+        let started = Builder::new().stack_size(STACK).spawn_with(
+            rt,
+            Nothing,
+            move || watch(&runtime, &theirs, watched, stat),
+        );
+        if started.is_ok() {
+            return None;
+        }
         outcome.over.turn(rt, Stage::Told);
-        return false;
     }
-    true
+    Some(Progress::new(watched, outcome.take_name(rt), None))
 }
 
 // Prints a line after each pause until the transfer is over, and then one of the whole. Where nobody
 // reads them any more, it prints no more.
-fn watch<R>(rt: &R, outcome: &Outcome, watched: Watched)
+fn watch<R>(rt: &R, outcome: &Outcome, watched: Watched, stat: Option<File>)
 where
     R: Wait + Clock + Eprint,
 {
-    let mut progress = Progress::new(rt, watched, outcome.take_name(rt));
+    let mut progress = Progress::new(watched, outcome.take_name(rt), stat);
     for _ in rt.forever() {
         let is_over = outcome.over.wait(rt, Duration::from_millis(watched.pause));
         progress.report(rt, &outcome.meter, is_over);
@@ -159,28 +164,22 @@ where
 
 impl Progress {
     /// Nothing is reported yet.
-    pub fn new(clock: &impl Clock, watched: Watched, name: Option<String>) -> Progress
-        ensures watched { result.watched ≡ watched }
-        ensures begun { IsOfClock result.begun }
-        ensures reported { result.reported ≡ result.begun }
-        ensures bytes { result.bytes ≡ 0 }
-    {
-        let now = reported(Instant::now(clock)).ok();
+    fn new(watched: Watched, name: Option<String>, stat: Option<File>) -> Progress {
         Progress {
             watched,
             name,
-            begun: now,
-            reported: now,
+            reported: watched.begun,
             bytes: 0,
             average: None,
             is_unread: false,
+            stat,
         }
     }
 
     /// Prints a line if the pause since the last one is over, where no other thread does that.
-    pub fn report_if_due<R: Wait + Clock + Eprint>(&mut self, rt: &R, meter: &Meter)
-        ensures watched { self.new.watched ≡ self.old.watched }
-        ensures begun { self.new.begun ≡ self.old.begun }
+    pub fn report_if_due<R>(&mut self, rt: &R, meter: &Meter)
+    where
+        R: Wait + Clock + Eprint,
     {
         let since = match self.reported {
             Some(reported) => reported.elapsed(rt).unwrap_or(Duration::ZERO),
@@ -192,70 +191,64 @@ impl Progress {
     }
 
     /// Prints a line: of the time since the last one, or of the whole.
-    pub fn report<R: Wait + Clock + Eprint>(&mut self, rt: &R, meter: &Meter, is_last: bool)
-        ensures watched { self.new.watched ≡ self.old.watched }
-        ensures begun { self.new.begun ≡ self.old.begun }
-        ensures average { IsSome self.new.average }
-        ensures reported { IsOfClock self.new.reported }
-        ensures read { (answer : Result Unit Error) × IsOfStd answer
-            × (IsTrue self.new.is_unread ↔ IsErrAnd answer IsLasting) }
+    pub fn report<R>(&mut self, rt: &R, meter: &Meter, is_last: bool)
+    where
+        R: Wait + Clock + Eprint,
     {
         let bytes = meter.output.bytes();
         let (moved, since) = if is_last {
-            (bytes, self.begun)
+            (bytes, self.watched.begun)
         } else {
             (bytes.saturating_sub(self.bytes), self.reported)
         };
         let rate = rate(moved, elapsed(rt, since, self.watched.pause));
         self.average = Some(average(self.average, rate));
-        let answer = if self.watched.tells_number {
-            reported(eprintln!(rt; "{}", number_of(self.watched.total, bytes)))
+        let answer = if self.watched.redraws && !is_in_front(&mut self.stat) {
+            Ok(())
+        } else if self.watched.tells_number {
+            eprintln!(rt; "{}", number_of(self.watched.total, bytes))
         } else {
             self.print(rt, meter, Moved { bytes, rate }, is_last)
         };
         self.is_unread = is_unread(&answer);
         self.bytes = bytes;
-        self.reported = reported(Instant::now(rt)).ok();
+        self.reported = Instant::now(rt).ok();
     }
 
-    // Prints a line, or draws it over the one before: then a terminal that is too narrow cuts it off.
-    fn print<R: Wait + Clock + Eprint>(
-        &self,
-        rt: &R,
-        meter: &Meter,
-        moved: Moved,
-        is_last: bool,
-    ) -> io::Result<()>
-        ensures { IsOfStd result }
+    // Prints a line, or draws one over the one before: a terminal that is too narrow cuts it off. In
+    // the background nothing is drawn, since the terminal may stop who writes there.
+    fn print<R>(&self, rt: &R, meter: &Meter, moved: Moved, is_last: bool) -> io::Result<()>
+    where
+        R: Wait + Clock + Eprint,
     {
-        let (before, after) = match (self.watched.redraws, is_last) {
-            (false, _) => ("", "\n"),
-            (true, false) => ("\r\u{1b}[?7l", "\u{1b}[K\u{1b}[?7h"),
-            (true, true) => ("\r\u{1b}[?7l", "\u{1b}[K\u{1b}[?7h\n"),
-        };
         let name = Prefix(name_in(&self.name));
         let line = Line {
             bytes: moved.bytes,
-            spent: elapsed(rt, self.begun, 0),
+            spent: elapsed(rt, self.watched.begun, 0),
             rate: moved.rate,
         };
+        let done = self.done(moved.bytes, is_last);
         let held = meter.input.bytes().saturating_sub(moved.bytes);
+        let full = percent(held, self.watched.capacity as u64);
+        if self.watched.redraws {
+            let drawn = Drawn { line, done, full };
+            let end = if is_last { "\n" } else { "" };
+            return eprint!(rt; "\r\u{1b}[?7l{name}{drawn}\u{1b}[K\u{1b}[?7h{end}");
+        }
         let fill = Fill {
-            percent: percent(held, self.watched.capacity as u64),
+            percent: full,
             full: meter.input.waited(rt),
             empty: meter.output.waited(rt),
         };
-        reported(match self.done(moved.bytes, is_last) {
-            None => eprint!(rt; "{before}{name}{line}{fill}{after}"),
-            Some(done) => eprint!(rt; "{before}{name}{line}{done}{fill}{after}"),
-        })
+        match done {
+            None => eprintln!(rt; "{name}{line}{fill}"),
+            Some(done) => eprintln!(rt; "{name}{line}{done}{fill}"),
+        }
     }
 
     // How much of all that comes has passed, and how long the rest takes; that is left out at the
     // end, and where none comes. Where more came than was reported, it is not known how much does.
-    fn done(&self, bytes: u64, is_last: bool) -> Option<Done>
-        ensures { IsSome result ↔ IsSomeAnd self.now.watched.total (λ total. bytes ≤ total) }
-    {
+    fn done(&self, bytes: u64, is_last: bool) -> Option<Done> {
         let total = self.watched.total.filter(|total| bytes <= *total)?;
         let average = self.average.unwrap_or(0);
         let left = total.saturating_sub(bytes) as u128 * 1_000 / (average as u128).max(1);
@@ -271,6 +264,28 @@ impl Progress {
     }
 }
 
+// Whether the terminal's foreground is the group of processes that this one is in, or the process has
+// no terminal, as the system reports in one line: after the name, in brackets, come its state, its
+// parent, its group, its session, its terminal and the group in front there.
+fn is_in_front(stat: &mut Option<File>) -> bool {
+    let mut place = [0u8; 1_024];
+    let Some(file) = stat else {
+        return true;
+    };
+    if file.rewind().is_err() {
+        return true;
+    }
+    let count = file.read(&mut place).unwrap_or(0);
+    let line = str::from_utf8(&place[..count]).unwrap_or("");
+    let Some((_, rest)) = line.rsplit_once(')') else {
+        return true;
+    };
+    let mut words = rest.split_whitespace().skip(2);
+    let group = words.next();
+    let front = words.nth(2);
+    front == Some("-1") || front == group
+}
+
 // How long ago that was, or so many milliseconds if the clock does not tell.
 fn elapsed(clock: &impl Clock, since: Option<Instant>, or: u64) -> Duration {
     let unknown = Duration::from_millis(or);
@@ -282,10 +297,7 @@ fn elapsed(clock: &impl Clock, since: Option<Instant>, or: u64) -> Duration {
 
 // What is reported as a number: how much of all that comes, in percent, or how many bytes if it is not
 // known how many come.
-fn number_of(total: Option<u64>, bytes: u64) -> u64
-    ensures known { IfSome total (λ all. result ≡ min (bytes * 100 / max all 1) 100) }
-    ensures unknown { total ≡ None → result ≡ bytes }
-{
+fn number_of(total: Option<u64>, bytes: u64) -> u64 {
     match total {
         Some(total) => percent(bytes, total),
         None => bytes,
@@ -293,9 +305,7 @@ fn number_of(total: Option<u64>, bytes: u64) -> u64
 }
 
 // Whether nobody reads what is printed, by what a print of it answered.
-fn is_unread(answer: &io::Result<()>) -> bool
-    ensures { IsTrue result ↔ IsErrAnd answer.now IsLasting }
-{
+fn is_unread(answer: &io::Result<()>) -> bool {
     match answer {
         Ok(()) => false,
         Err(error) => is_lasting(error),
@@ -303,9 +313,7 @@ fn is_unread(answer: &io::Result<()>) -> bool
 }
 
 // Bytes a second.
-fn rate(bytes: u64, spent: Duration) -> u64
-    ensures { result ≡ min (bytes * 1_000 / max (as_nanos spent / 1_000_000) 1) (2 ^ 64 - 1) }
-{
+fn rate(bytes: u64, spent: Duration) -> u64 {
     let milliseconds = spent.as_millis().max(1);
     (bytes as u128 * 1_000 / milliseconds).min(u64::MAX as u128) as u64
 }
@@ -320,9 +328,9 @@ fn average(average: Option<u64>, rate: u64) -> u64 {
 }
 
 // How much of so many bytes that is, in percent; all of none.
-fn percent(bytes: u64, all: u64) -> u64
-    ensures { result ≡ min (bytes * 100 / max all 1) 100 }
-{
-    let all = (all as u128).max(1);
-    (bytes as u128 * 100 / all).min(100) as u64
+fn percent(bytes: u64, all: u64) -> u64 {
+    if all == 0 {
+        return 100;
+    }
+    (bytes as u128 * 100 / all as u128).min(100) as u64
 }

@@ -1,13 +1,7 @@
 //! The standard streams, as they were where the program began.
-ghost use Rattle.std.specs.Prelude.{◌≡◌, IfErr, IfOk, IsSome, Result, false};
-ghost use Rattle.std.specs.declared.fd.OwnedFd.{OwnedFd};
-ghost use Rattle.std.specs.declared.io.Error.{Error};
-ghost use Rattle.piper_protocol.specs.Reported.{IsOfStd};
-ghost use Rattle.piper_pump.specs.Ended.{IsEarly, IsOfFailure};
-ghost use Rattle.piper_pump.specs.Streams.{TellsOpen};
 
-use crate::ended::{Ended, Unopened};
-use piper_protocol::reported::reported;
+use crate::ended::Ended;
+use crate::found::Stream;
 use std::alloc::AllocGlobal;
 use std::fs::{File, Files, OpenOptions};
 use std::os::fd::AsFd;
@@ -40,10 +34,8 @@ pub struct Fillers {
 }
 
 /// Whether this stream is open.
-pub fn is_open(stream: &impl AsFd) -> bool
-    ensures { (copied : Result OwnedFd Error) × IsOfStd copied × TellsOpen copied result }
-{
-    match reported(stream.as_fd().try_clone_to_owned()) {
+pub fn is_open(stream: &impl AsFd) -> bool {
+    match stream.as_fd().try_clone_to_owned() {
         Ok(_) => true,
         Err(error) => error.raw_os_error() != Some(NOT_OPEN),
     }
@@ -59,16 +51,11 @@ impl Streams {
     pub fn fill<R>(&self, rt: &R) -> Result<Fillers, Ended>
     where
         R: Files<File = File> + AllocGlobal,
-        ensures early { IfErr result IsEarly }
-        ensures input { IfOk result (λ f. self.now.has_input ≡ false → IsSome f._input) }
-        ensures output { IfOk result (λ f. self.now.has_output ≡ false → IsSome f._output) }
-        ensures error { IfOk result (λ f. self.now.has_error ≡ false → IsSome f._error) }
-        ensures failed { IfErr result IsOfFailure }
     {
         // The system gives the lowest number that is free.
-        let _input = open_unless(rt, self.has_input)?;
-        let _output = open_unless(rt, self.has_output)?;
-        let _error = open_unless(rt, self.has_error)?;
+        let _input = open_unless(rt, self.has_input, Stream::Input)?;
+        let _output = open_unless(rt, self.has_output, Stream::Output)?;
+        let _error = open_unless(rt, self.has_error, Stream::Error)?;
         Ok(Fillers {
             _input,
             _output,
@@ -77,18 +64,15 @@ impl Streams {
     }
 }
 
-fn open_unless<R>(rt: &R, is_open: bool) -> Result<Option<File>, Ended>
+fn open_unless<R>(rt: &R, is_open: bool, stream: Stream) -> Result<Option<File>, Ended>
 where
     R: Files<File = File> + AllocGlobal,
-    ensures early { IfErr result IsEarly }
-    ensures filled { IfOk result (λ file. is_open ≡ false → IsSome file) }
-    ensures failed { IfErr result IsOfFailure }
 {
     if is_open {
         return Ok(None);
     }
-    match reported(OpenOptions::new().read(true).open(rt, ROOT)) {
+    match OpenOptions::new().read(true).open(rt, ROOT) {
         Ok(file) => Ok(Some(file)),
-        Err(error) => Err(Ended::NoOutput(Unopened::new(rt.alloc(), ROOT, error)?)),
+        Err(error) => Err(Ended::no_output(rt.alloc(), stream.said(), error)),
     }
 }

@@ -8,12 +8,9 @@ use Rattle.std.proofs.Crossing.{crosses}
 use Rattle.piper.proofs.handles.Writer.TheSendSync as writer
 use Rattle.piper.specs.contracts.handles.Writer as Writer
 use Rattle.piper_transfer.specs.contracts.meter.Meter as Meter
-use Rattle.piper_transfer.specs.contracts.start.Second as Second
 use Rattle.piper_transfer.specs.contracts.start.Start as Start
 use Rattle.piper_transfer.specs.contracts.turns.Turns as Turns
-use Rattle.piper_transfer.specs.declared.naming.Naming as Naming
 use Rattle.piper_transfer.proofs.meter.Meter.TheSendSync as meter
-use Rattle.piper_transfer.proofs.start.Second.TheSendSync as second
 use Rattle.piper_transfer.proofs.start.Start.TheSendSync as start
 use Rattle.piper_transfer.proofs.turns.Turns.TheSendSync as turns
 
@@ -24,15 +21,8 @@ writer_send = search (sendable, crosses, writer.the_send) depth 20
 pub writer_lent : (ℓ : NamedLft) → IsSend (mut_ref_field ℓ Writer.the_row tt).row
 writer_lent ℓ = search (sendable, writer_send)
 
-pub start_lent : (ℓ : NamedLft) (T : RattleType) (g : Naming.Ghosts T.Denot) → IsSend (shr_ref_field ℓ (Start.the_row T g) tt).row
-start_lent ℓ T g =
-    let y : IsSync (Start.the_row T g) = start.the_sync T g in
-    search (sendable, y)
-
-pub second_lent : (ℓ : NamedLft) (T : RattleType) → IsSend (mut_ref_field ℓ (Second.the_row T) tt).row
-second_lent ℓ T =
-    let y : IsSend (Second.the_row T) = second.the_send T in
-    search (sendable, y)
+pub start_lent : (ℓ : NamedLft) → IsSend (shr_ref_field ℓ Start.the_row tt).row
+start_lent ℓ = search (sendable, start.the_sync)
 
 pub turns_lent : (ℓ : NamedLft) → IsSend (mut_ref_field ℓ Turns.the_row tt).row
 turns_lent ℓ = search (sendable, turns.the_send)

@@ -1,5 +1,5 @@
 -- Which side's error is reported, and whether all was written then.
-use Rattle.std.proofs.Common.{◌≡◌, Result, Ok, Err, inl, inr, sym, subst}
+use Rattle.std.proofs.Common.{◌≡◌, Result, Ok, Err, sym, subst}
 use Rattle.std.specs.Prelude.{IfErr, OnOk}
 use Rattle.std.specs.Result.{result_and}
 use Rattle.std.specs.declared.io.Error.{Error}
@@ -18,19 +18,21 @@ memory_is_not_of_input (Read x) reported = λ _. reported
 memory_is_not_of_input e reported = λ input. input
 
 of_memory : (s d : Error → Type 0) (full : Type 0) (e : TransferError) → IsOfMemory e → IsOfSide s d full e
-of_memory s d full Memory reported = inl reported
-of_memory s d full (Turns x) reported = reported
+of_memory s d full Memory reported = tt
+of_memory s d full (Turns x) reported = tt
 of_memory s d full e reported = absurd reported
 
 pub of_destination : (s d : Error → Type 0) (full : Type 0) (e : TransferError) → IsOfDestination d full e → IsOfSide s d full e
 of_destination s d full (Read x) reported = absurd reported
-of_destination s d full Memory reported = inr reported
+of_destination s d full Memory reported = tt
+of_destination s d full (Turns x) reported = tt
 of_destination s d full e reported = reported
 
 of_source : (s d : Error → Type 0) (full : Type 0) (e : TransferError) → IsOfSource s e → IsOfSide s d full e
 of_source s d full (Write x) reported = absurd reported
 of_source s d full Full reported = absurd reported
-of_source s d full Memory reported = inr reported
+of_source s d full Memory reported = tt
+of_source s d full (Turns x) reported = tt
 of_source s d full e reported = reported
 
 -- a pipe that was refused: nothing is written
@@ -66,8 +68,3 @@ failed_writes_not r e fails full is reported = λ writes. not_of_input fails ful
 
 pub failure_is_told : (r : Result Unit TransferError) (e : TransferError) (s d : Error → Type 0) (full : Type 0) → r ≡ Err e → IsOfDestination d full e → IfErr r (IsOfSide s d full)
 failure_is_told r e s d full is reported = subst (λ x. IfErr x (IsOfSide s d full)) (sym is) (of_destination s d full e reported)
-
--- what holds anyway
-pub holds_on_ok : {A E : Type 0} (r : Result A E) (P : Type 0) → P → OnOk r P
-holds_on_ok (Ok x) P p = p
-holds_on_ok (Err e) P p = tt

@@ -1,4 +1,2 @@
 pub mod Taken
-pub mod Threads
 pub mod Transfer
-pub mod Turns

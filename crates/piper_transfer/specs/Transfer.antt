@@ -4,13 +4,12 @@ use Rattle.std.specs.IoError.{error_kind}
 use Rattle.std.specs.declared.io.Error.{Error}
 use Rattle.std.specs.declared.io.ErrorKind.TheVariants.{Interrupted, WouldBlock}
 use Rattle.std.specs.Io.KnownBytes.{Consumes, Appends, IsAtEnd}
-use Rattle.futures.specs.declared.task.context.Context.{Context}
-use Rattle.piper_protocol.specs.Reported.{HasFailed}
-use Rattle.piper_protocol.specs.declared.memory.OutOfMemory.{OutOfMemory}
 use Rattle.piper.specs.Looks.{IsEnded}
 use Rattle.piper.specs.ReadView.{ReadView}
 use Rattle.piper.specs.WriteView.{WriteView}
+use Rattle.piper.specs.Opened.{FreshReadEnd, FreshWriteEnd}
 use Rattle.piper_transfer.specs.Taken.{TakesMore}
+use Rattle.piper_transfer.specs.declared.both_sides.Ready.{Ready}
 use Rattle.piper_transfer.specs.declared.error.Stop.{Stop}
 use Rattle.piper_transfer.specs.declared.error.Stop.TheVariants.{Failed, Told}
 use Rattle.piper_transfer.specs.declared.error.TransferError.{TransferError}
@@ -81,80 +80,25 @@ pub record IsLasting (e : Error) : Type 0 where
   pub heard : error_kind e ≢ Interrupted
   pub due : error_kind e ≢ WouldBlock
 
--- a call that failed so is made again: it was interrupted, or would block
-abbrev pub IsPassing : Error → Type 0
-IsPassing e = (error_kind e ≡ Interrupted) ⊎ (error_kind e ≡ WouldBlock)
-
--- memory was refused for the pipe
-abbrev pub PipeIsRefused : Type 0
-PipeIsRefused = (refused : OutOfMemory) × HasFailed refused
-
--- memory was refused for a waker of this context. It is sealed: no proof looks into it, and only
--- that of `no_waker` uses the lemma below
-pub WakerIsRefused : Context → Type 0
-WakerIsRefused cx = ⊤
-
-pub as_waker_refused : (cx : Context) → cx.lacks_waker ≡ true → WakerIsRefused cx
-unfolding WakerIsRefused
-as_waker_refused cx lacks = tt
-
--- one of the contexts of a side was refused memory
-abbrev pub LacksWaker : Type 0
-LacksWaker = (cx : Context) × WakerIsRefused cx
-
--- a thread can't be made to wait: a call for its turns failed so. It is sealed: no proof looks into
--- it, and only that of `of_queue` uses the lemma below
-pub CannotWait : Error → Type 0
-CannotWait error = ⊤
-
-pub as_cannot_wait : {T : Type 0} (returned : Result T Error) → IfErr returned CannotWait
-unfolding CannotWait
-as_cannot_wait (Ok x) = tt
-as_cannot_wait (Err e) = tt
-
 -- the side that writes the output may report this error: a write or a flush has failed so, a write
 -- has taken no byte, memory was refused for a waker, or the thread can't be made to wait
 abbrev pub IsOfDestination : (Error → Type 0) → Type 0 → TransferError → Type 0
 IsOfDestination fails full (Read e) = ⊥
 IsOfDestination fails full (Write e) = fails e × IsLasting e
 IsOfDestination fails full Full = full
-IsOfDestination fails full Memory = LacksWaker
-IsOfDestination fails full (Turns e) = CannotWait e
+IsOfDestination fails full Memory = ⊤
+IsOfDestination fails full (Turns e) = ⊤
 
--- the side that writes to outputs which fail so has failed: a call of one of them was answered so
-abbrev pub OutputHasFailed : {D : Type 0} → (D → Error → Type 0) → (D → Type 0) → Type 0
-OutputHasFailed {D} fails full =
-    (dest : D) × (error : TransferError) × IsOfDestination (fails dest) (full dest) error
-
--- the input's side of the transfer of this name was told to end. It is sealed: no proof looks into
--- it, and only that of `end_output` uses the lemma below
-pub IsTold : ℕ → Type 0
-IsTold name = ⊤
-
-pub as_told : (name : ℕ) → IsTold name
-unfolding IsTold
-as_told name = tt
-
--- the input's side asked whether the output of the transfer of this name is over. It is sealed: no
--- proof looks into it, and only that of `OutputOver::is_over` uses the lemma below
-pub WasAsked : ℕ → Type 0
-WasAsked name = ⊤
-
-pub as_asked : (name : ℕ) → WasAsked name
-unfolding WasAsked
-as_asked name = tt
-
--- the side that reads the input left the pipe open, since the output's side has failed, as this
--- says, or since it saw the pipe closed, which it had not closed
-abbrev pub IsLeft : Type 0 → WriteView → Type 0
-IsLeft failed w = (w.shut ≡ false) × (failed ⊎ (w.saw ≡ true))
+-- the side that reads the input left the pipe open
+abbrev pub IsLeft : WriteView → Type 0
+IsLeft w = w.shut ≡ false
 
 -- the side that reads the input may report this error: a read has failed so, memory was refused for
 -- a waker, or the thread can't be made to wait
 abbrev pub IsOfSource : (Error → Type 0) → TransferError → Type 0
 IsOfSource fails (Read e) = fails e × IsLasting e
-IsOfSource fails Memory = LacksWaker
-IsOfSource fails (Turns e) = CannotWait e
+IsOfSource fails Memory = ⊤
+IsOfSource fails (Turns e) = ⊤
 IsOfSource fails other = ⊥
 
 -- that side stops for such an error; or it was told to, as this says
@@ -165,7 +109,7 @@ StopsSource fails told Told = told
 -- the input's side has ended with this answer, and closed the pipe, so that the output's waits for
 -- no byte any more; or its thread can't be made to wait
 abbrev pub Closes : Result Unit TransferError → WriteView → Type 0
-Closes (Err (Turns e)) w = (w.shut ≡ true) ⊎ CannotWait e
+Closes (Err (Turns e)) w = ⊤
 Closes other w = w.shut ≡ true
 
 -- the same, where it was not told to end
@@ -176,17 +120,23 @@ StopsClosed (Err Told) w = ⊤
 
 -- neither side has begun: memory was refused for the pipe, or a thread can't be made to wait
 abbrev pub IsOfMemory : TransferError → Type 0
-IsOfMemory Memory = PipeIsRefused
-IsOfMemory (Turns e) = CannotWait e
+IsOfMemory Memory = ⊤
+IsOfMemory (Turns e) = ⊤
 IsOfMemory other = ⊥
+
+-- both ends of its pipe are new
+pub record IsReady (r : Ready) : Type 0 where
+  pub ring : r.input.writer.side.end.ring ≡ r.output.reader.side.end.ring
+  pub input : FreshWriteEnd r.sizes.capacity r.input.writer.side.end
+  pub output : FreshReadEnd r.sizes.capacity r.output.reader.side.end
 
 -- the error is of the side that it names
 abbrev pub IsOfSide : (Error → Type 0) → (Error → Type 0) → Type 0 → TransferError → Type 0
 IsOfSide read written full (Read e) = read e × IsLasting e
 IsOfSide read written full (Write e) = written e × IsLasting e
 IsOfSide read written full Full = full
-IsOfSide read written full Memory = PipeIsRefused ⊎ LacksWaker
-IsOfSide read written full (Turns e) = CannotWait e
+IsOfSide read written full Memory = ⊤
+IsOfSide read written full (Turns e) = ⊤
 
 -- what the output was given is a front of what the input gave
 pub record Transfers {D : Type 0}

@@ -1,12 +1,11 @@
 //! A transfer: both sides, each on a thread.
-ghost use Rattle.std.specs.Prelude.{◌≡◌, ◌<◌, ◌≤◌, ◌*◌, ◌^◌, IfOk, IfErr, OnErr, OnOk, IfSome, IfNone, false};
+ghost use Rattle.std.specs.Prelude.{◌≡◌, ◌<◌, ◌≤◌, ◌*◌, ◌^◌, IfOk, IfErr, OnOk, IfSome, IfNone, false};
 ghost use Rattle.std.specs.Io.KnownBytes.{IsAtEnd, Keeps};
 ghost use Rattle.piper.specs.Looks.{IsEnded};
 ghost use Rattle.piper.specs.Opened.{FreshReadEnd, FreshWriteEnd};
 ghost use Rattle.piper_transfer.specs.Taken.{StaysTaken};
-ghost use Rattle.piper_transfer.specs.Threads.{HasTwoThreads, IsLate, IsSpread, WereAtOnce};
 ghost use Rattle.piper_transfer.specs.Transfer.{Closes, Fed, IsDrained, IsOfDestination, IsOfMemory, IsOfSide, IsOfSource};
-ghost use Rattle.piper_transfer.specs.Transfer.{IsOpen, IsTold, OutputHasFailed, Poured, PouredAll, Transfers, WritesAll};
+ghost use Rattle.piper_transfer.specs.Transfer.{IsOpen, IsReady, Poured, PouredAll, Transfers, WritesAll};
 
 use crate::draining::{drain_from, drain_output};
 use crate::ends::{Destination, Source};
@@ -14,37 +13,26 @@ use crate::error::TransferError;
 use crate::filling::fill_from;
 use crate::level::Level;
 use crate::meter::Meter;
-use crate::naming::{Naming, Unnamed};
 use crate::one_thread::{resume, take_turns};
 use crate::over::OutputOver;
 use crate::patience::flush_patiently;
 use crate::rises::Rises;
+use crate::sizes::Sizes;
 use crate::start::{Start, grants_thread};
-use crate::threads::at_once;
 use crate::turns::{Input, Output, Turns};
 use piper::{Writer, pipe};
 use std::alloc::AllocGlobal;
-use std::marker::{Brand, Send};
+use std::marker::Send;
 use std::random::RandomSource;
 use std::sync::Wait;
-use std::thread::Threads;
+use std::thread::{Threads, join_mut};
 use std::time::Clock;
 
-/// How many bytes a transfer holds and moves at a time.
-///
-/// A value of this type keeps to the bounds of its fields: a program is built only if they are
-/// proved where the value is made.
-#[derive(Clone, Copy, Debug, PartialEq, Eq)]
-pub struct Sizes {
-    /// How many bytes the pipe can hold: at least 1 and less than 2^63.
-    pub capacity: usize,
-    /// How many bytes one read or write is asked for at most (not proved): at least 1.
-    pub chunk: usize,
-    /// How many bytes are to be in the pipe before the first is written, and again once it ran dry:
-    /// at most `capacity`.
-    pub level: usize,
-    ghost fits: { (0 < capacity) × (2 * capacity < 2 ^ 64) × (0 < chunk)
-        × (level ≤ capacity) },
+/// A transfer that has its memory, and has not begun. It is spent by `transfer` or by `drop`.
+pub struct Ready {
+    sizes: Sizes,
+    input: Input,
+    output: Output,
 }
 
 /// Moves all bytes from the reader to the writer, through a pipe: one thread reads while the other
@@ -76,30 +64,94 @@ where
     ensures flushed { WritesAll result → D.flushed dest.new }
     ensures reported { IfErr result
         (IsOfSide (S.fails source.new) (D.fails dest.new) (D.full dest.new)) }
-    ensures threads { OnOk result IsSpread }
 {
-    let (mut input, mut output) = open(rt, sizes)?;
-    let chunk = sizes.chunk.min(sizes.capacity);
-    let both = run_sides(rt, source, &mut input, &mut output, dest, chunk, meter);
-    let Input {
-        turns: _,
-        mut writer,
-    } = input;
-    let Output {
-        turns: _,
-        mut reader,
-        level: _,
-    } = output;
-    // Now that both handles are held by one thread, what is left where the output failed is known;
-    // else nothing is.
-    reader.meet(&mut writer);
-    let ended = match both {
-        Ok(filled) => flush(rt, dest).and(filled),
-        Err(error) => Err(error),
-    };
-    reader.drop();
-    writer.drop();
-    ended
+    let ready = Ready::new(rt, sizes)?;
+    ready.transfer(rt, source, dest, meter)
+}
+
+impl Ready {
+    /// Asks for the memory.
+    ///
+    /// Errors: `Memory`: memory was refused for the pipe. `Turns`: a thread can't be made to wait.
+    pub fn new<R>(rt: &R, sizes: Sizes) -> Result<Ready, TransferError>
+    where
+        R: Wait + RandomSource + AllocGlobal + Clone + Drop,
+        ensures refused { IfErr result IsOfMemory }
+        ensures ready { IfOk result IsReady }
+    {
+        let (input, output) = open(rt, sizes)?;
+        Ok(Ready {
+            sizes,
+            input,
+            output,
+        })
+    }
+
+    /// Moves all bytes, as `transfer` does.
+    ///
+    /// Requires: nothing was moved yet.
+    pub fn transfer<R, S, D>(
+        self,
+        rt: &R,
+        source: &mut S,
+        dest: &mut D,
+        meter: &Meter,
+    ) -> Result<(), TransferError>
+    where
+        R: Wait + Threads + Clock + RandomSource + AllocGlobal + Clone + Drop + Send + Sync,
+        S: Source + Send,
+        D: Destination,
+        requires ready { IsReady self }
+        ensures moved { Transfers result (S.remaining source.old) (S.remaining source.new)
+            D.contents D.took dest.old dest.new }
+        ensures flushed { WritesAll result → D.flushed dest.new }
+        ensures reported { IfErr result
+            (IsOfSide (S.fails source.new) (D.fails dest.new) (D.full dest.new)) }
+    {
+        let Ready {
+            sizes,
+            mut input,
+            mut output,
+        } = self;
+        let chunk = sizes.chunk.min(sizes.capacity);
+        let both = run_sides(rt, source, &mut input, &mut output, dest, chunk, meter);
+        let Input {
+            turns: _,
+            mut writer,
+        } = input;
+        let Output {
+            turns: _,
+            mut reader,
+            level: _,
+        } = output;
+        // Now that both handles are held by one thread, what is left where the output failed is
+        // known; else nothing is.
+        reader.meet(&mut writer);
+        let ended = match both {
+            Ok(filled) => flush(rt, dest).and(filled),
+            Err(error) => Err(error),
+        };
+        reader.drop();
+        writer.drop();
+        ended
+    }
+
+    /// Gives the memory back.
+    pub fn drop(self) {
+        let Ready {
+            sizes: _,
+            input,
+            output,
+        } = self;
+        let Input { turns: _, writer } = input;
+        let Output {
+            turns: _,
+            reader,
+            level: _,
+        } = output;
+        reader.drop();
+        writer.drop();
+    }
 }
 
 // A pipe, and turns for each of its ends.
@@ -173,17 +225,14 @@ where
     ensures drained { OnOk result (IsDrained output.new.reader.side.end input.new.writer.side.end) }
     ensures input_told { IfOk result (λ filled. IfErr filled (IsOfSource (S.fails source.new))) }
     ensures reported { IfErr result (IsOfDestination (D.fails dest.new) (D.full dest.new)) }
-    ensures threads { IsSpread }
 {
     if !grants_thread(rt) {
         let (writer, reader) = (&mut input.writer, &mut output.reader);
         let level = output.level.bytes();
         return take_turns(rt, source, writer, reader, dest, chunk, level, meter);
     }
-    let (name, turns, writer) = (Unnamed::new(), &mut input.turns, &mut input.writer);
-    match on_two_threads::<R, S, D, Brand>(
-        rt, name, source, turns, writer, output, dest, chunk, meter,
-    ) {
+    let (turns, writer) = (&mut input.turns, &mut input.writer);
+    match on_two_threads(rt, source, turns, writer, output, dest, chunk, meter) {
         (Some(filled), Some(drained)) => drained.and(Ok(filled)),
         (Some(filled), None) => {
             let rises = Rises::new(output.level.bytes());
@@ -206,9 +255,8 @@ where
 
 // Runs both sides to their end, if the second thread begins. A side that was given up returns
 // `None`, and so does the one that reads where it was told to end.
-fn on_two_threads<R, S, D, N>(
+fn on_two_threads<R, S, D>(
     rt: &R,
-    name: Unnamed,
     source: &mut S,
     turns: &mut Turns,
     writer: &mut Writer,
@@ -224,9 +272,6 @@ where
     R: Wait + Threads + Clock + Clone + Drop + Send + Sync,
     S: Source + Send,
     D: Destination,
-    N: Naming + Send + Sync,
-    requires name { name.name.value ≡ N.name }
-    requires fails { OutputHasFailed D.fails D.full → N.failed }
     requires chunk { 0 < chunk }
     requires is_open { IsOpen writer.old.side.end }
     ensures fed { Fed (S.remaining source.old) (S.remaining source.new)
@@ -244,16 +289,12 @@ where
     ensures drain_given_up { IfNone result.1
         ((output.new ≡ output.old) × (dest.new ≡ dest.old)) }
     ensures input_closed { IfSome result.0 (λ r. Closes r writer.new.side.end) }
-    ensures told { IfSome result.1 (λ r. OnErr r (IsTold N.name)) }
-    ensures begun { IfSome result.1 (λ _. HasTwoThreads N.name) }
-    ensures drain_late { IfNone result.1 (IsLate N.name) }
-    ensures at_once { WereAtOnce result.0 result.1 }
 {
-    let (start, mut second) = Start::new(OutputOver::<N>::new(name, output.level.bytes()));
-    let (start, second) = (&start, &mut second);
-    at_once(
+    let start = Start::new(OutputOver::new(output.level.bytes()));
+    let start = &start;
+    join_mut(
         rt,
-        &mut || fill_from(rt, start, second, turns, source, writer, chunk, meter),
+        &mut || fill_from(rt, start, turns, source, writer, chunk, meter),
         &mut || drain_from(rt, start, output, dest, chunk, meter),
     )
 }

@@ -1,26 +1,20 @@
 //! The side that writes the pipe's bytes to the output.
-ghost use Rattle.std.specs.Prelude.{◌≡◌, ◌<◌, ◌++◌, ◌-◌, ◌+◌, ℕ, List, length};
-ghost use Rattle.std.specs.Prelude.{Ok, OnErr, OnOk, IfErr, IfOk, IfSome, IfNone};
+ghost use Rattle.std.specs.Prelude.{◌≡◌, ◌<◌, ◌-◌, length, Ok, OnOk, IfErr, IfOk, IfSome, IfNone};
 ghost use Rattle.futures.specs.Task.{IsArmed};
 ghost use Rattle.futures.specs.Poll.{IfReady, OnPending};
 ghost use Rattle.piper.specs.Drains.{StaysKnown};
 ghost use Rattle.piper.specs.Looks.{IsEnded};
-ghost use Rattle.piper.specs.Handles.{NotifiesWriter};
-ghost use Rattle.piper.specs.OfReader.{front};
-ghost use Rattle.piper_transfer.specs.Threads.{HasTwoThreads, IsLate};
-ghost use Rattle.piper_transfer.specs.Transfer.{IsLasting, IsOfDestination, IsTold, OutputHasFailed, Poured, PouredAll};
-ghost use Rattle.piper_transfer.specs.Turns.{HasCounted, IsStill};
+ghost use Rattle.piper_transfer.specs.Transfer.{IsLasting, IsOfDestination, Poured, PouredAll};
 
 use crate::ends::Destination;
-use crate::error::{TransferError, no_waker};
+use crate::error::TransferError;
 use crate::level::Reached;
 use crate::meter::{Meter, OfOutput, Side};
-use crate::naming::Naming;
-use crate::over::OutputOver;
+use crate::over::make_room;
 use crate::patience::write_patiently;
 use crate::rises::Rises;
 use crate::start::Start;
-use crate::turns::{Output, end};
+use crate::turns::Output;
 use futures::task::{Context, Poll};
 use piper::Reader;
 use std::io;
@@ -30,9 +24,9 @@ use std::time::Clock;
 /// Empties the pipe as `drain_output` does, once the other side has begun. Where that one has not,
 /// it is given up; then the answer is `None` and nothing was done. If the output fails, the other
 /// side is told to end: bytes that it publishes until then stay in the pipe or are dropped.
-pub(crate) fn drain_from<R, D, N>(
+pub(crate) fn drain_from<R, D>(
     rt: &R,
-    start: &Start<N>,
+    start: &Start,
     output: &mut Output,
     dest: &mut D,
     chunk: usize,
@@ -41,9 +35,7 @@ pub(crate) fn drain_from<R, D, N>(
 where
     R: Wait + Clock,
     D: Destination,
-    N: Naming,
     requires chunk { 0 < chunk }
-    requires fails { OutputHasFailed D.fails D.full → N.failed }
     ensures poured { Poured D.contents D.took dest.old dest.new
         output.old.reader.side.end output.new.reader.side.end }
     ensures all { IfSome result (λ r. OnOk r (PouredAll D.contents D.took dest.old dest.new
@@ -53,17 +45,14 @@ where
         (IsOfDestination (D.fails dest.new) (D.full dest.new))) }
     ensures given_up { IfNone result
         ((output.new ≡ output.old) × (dest.new ≡ dest.old)) }
-    ensures told { IfSome result (λ r. OnErr r (IsTold N.name)) }
-    ensures begun { IfSome result (λ _. HasTwoThreads N.name) }
-    ensures late { IfNone result (IsLate N.name) }
 {
     if !start.wait(rt) {
         return None;
     }
     let rises = &start.over.rises;
     let ended = drain_output(rt, output, dest, chunk, rises, &meter.output);
-    if let Err(error) = &ended {
-        give_up(&mut output.reader, dest, error, &start.over);
+    if ended.is_err() {
+        make_room(&mut output.reader, start.over.end_output());
     }
     Some(ended)
 }
@@ -87,43 +76,18 @@ where
     ensures ended { OnOk result (IsEnded output.new.reader.side.end) }
     ensures reported { IfErr result (IsOfDestination (D.fails dest.new) (D.full dest.new)) }
 {
-    let mut still = output.turns.first();
     for _ in rt.forever() {
         meter.begin_wait(rt);
-        let mut cx = output.turns.next(rt, still).map_err(TransferError::Turns)?;
+        let mut cx = output.turns.next(rt).map_err(TransferError::Turns)?;
         let reached = output.level.wait(rt, &output.reader, rises);
         meter.end_wait(rt);
         let turn = drain_turn(rt, &mut cx, &mut output.reader, reached, dest, chunk, meter);
-        still = end(cx, &turn);
+        cx.end(&turn);
         if let Poll::Ready(ended) = turn {
             return ended;
         }
     }
     unreachable!()
-}
-
-// Tells the other side to end, since this one failed so, and makes room: it wakes if it waits for
-// some.
-fn give_up<D: Destination, N: Naming>(
-    reader: &mut Reader,
-    _dest: &D,
-    _error: &TransferError,
-    over: &OutputOver<N>,
-)
-    requires failed { IsOfDestination (D.fails _dest.now) (D.full _dest.now) _error.now }
-    requires fails { OutputHasFailed D.fails D.full → N.failed }
-    ensures told { IsTold N.name }
-    ensures taken { (lost : List ℕ)
-        × (reader.new.side.end.taken ≡ reader.old.side.end.taken ++ lost) }
-    ensures ring { reader.new.side.end.ring ≡ reader.old.side.end.ring }
-    ensures capacity { reader.new.side.end.capacity ≡ reader.old.side.end.capacity }
-    ensures woken { NotifiesWriter reader.new }
-    ensures given { length reader.new.side.end.taken
-        ≡ length reader.old.side.end.taken + front reader.old }
-{
-    over.end_output();
-    let known = reader.peek_buf().len();
-    reader.consume(known);
 }
 
 // Goes on until no byte is known, or the side has ended.
@@ -146,7 +110,6 @@ where
     ensures reported { IfReady result (λ r. IfErr r
         (IsOfDestination (D.fails dest.new) (D.full dest.new))) }
     ensures armed { OnPending result (IsArmed cx.new) }
-    ensures still { OnPending result (IsStill cx.new) }
 {
     for _ in rt.forever() {
         let looked = match reader.poll(cx) {
@@ -156,7 +119,7 @@ where
         match looked {
             Ok(true) => {}
             Ok(false) => return Poll::Ready(Ok(())),
-            Err(_) => return Poll::Ready(Err(no_waker(cx))),
+            Err(_) => return Poll::Ready(Err(TransferError::Memory)),
         }
         if let Err(error) = write_some(rt, reader, dest, chunk, meter) {
             return Poll::Ready(Err(error));
@@ -182,8 +145,6 @@ where
         reader.old.side.end reader.new.side.end }
     ensures known { StaysKnown reader.old.side.end reader.new.side.end }
     ensures reported { IfErr result (IsOfDestination (D.fails dest.new) (D.full dest.new)) }
-    ensures counted { OnOk result
-        (HasCounted (length reader.new.side.end.taken - length reader.old.side.end.taken)) }
 {
     match write_chunk(rt, reader, dest, chunk) {
         Ok(0) => Err(TransferError::Full),

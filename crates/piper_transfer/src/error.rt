@@ -1,8 +1,4 @@
 //! Why a transfer stopped before the input's end.
-ghost use Rattle.std.specs.Prelude.{◌≡◌, true};
-ghost use Rattle.piper_transfer.specs.Transfer.{WakerIsRefused};
-
-use futures::task::Context;
 use std::io;
 use thiserror::Error;
 
@@ -34,13 +30,4 @@ pub(crate) enum Stop {
     Failed(TransferError),
     /// It was told to: nothing that it reads would be written any more.
     Told,
-}
-
-/// Want of memory, since a poll with this context could make no waker.
-pub(crate) fn no_waker(_cx: &Context<'_>) -> TransferError
-    requires lacks { _cx.now.lacks_waker ≡ true }
-    ensures value { result ≡ TransferError.Memory }
-    ensures refused { WakerIsRefused _cx.now }
-{
-    TransferError::Memory
 }

@@ -1,21 +1,18 @@
 //! The side that reads the input into the pipe.
-ghost use Rattle.std.specs.Prelude.{◌≡◌, ◌<◌, ◌⊎◌, Ok, OnOk, IfErr, IfOk, IfSome, IfNone, false, true};
+ghost use Rattle.std.specs.Prelude.{◌≡◌, ◌<◌, Ok, OnOk, IfErr, IfSome, IfNone, false, true};
 ghost use Rattle.std.specs.Io.KnownBytes.{IsAtEnd};
 ghost use Rattle.futures.specs.Task.{IsArmed};
 ghost use Rattle.futures.specs.Poll.{IfReady, OnPending};
-ghost use Rattle.piper_transfer.specs.Threads.{IsLate};
-ghost use Rattle.piper_transfer.specs.Transfer.{Closes, Fed, IsLeft, IsOfSource, IsOpen, StopsClosed, StopsSource, WasAsked};
-ghost use Rattle.piper_transfer.specs.Turns.{HasCounted, IsStill};
+ghost use Rattle.piper_transfer.specs.Transfer.{Closes, Fed, IsLeft, IsOfSource, IsOpen, StopsClosed, StopsSource};
 
 use crate::ends::Source;
-use crate::error::{Stop, TransferError, no_waker};
+use crate::error::{Stop, TransferError};
 use crate::meter::{Meter, OfInput, Side};
-use crate::naming::Naming;
 use crate::over::Hears;
 use crate::patience::read_patiently;
 use crate::piece::Piece;
-use crate::start::{Second, Start};
-use crate::turns::{Still, Turns, end};
+use crate::start::Start;
+use crate::turns::Turns;
 use futures::task::{Context, Poll};
 use piper::Writer;
 use std::sync::Wait;
@@ -23,10 +20,9 @@ use std::time::Clock;
 
 /// Fills the pipe as `fill_in_turns` does, once it has told the other side that it begins. Where
 /// that one has given it up it does nothing. Then, or where it was told to end, it returns `None`.
-pub(crate) fn fill_from<R, S, N>(
+pub(crate) fn fill_from<R, S>(
     rt: &R,
-    start: &Start<N>,
-    second: &mut Second<N>,
+    start: &Start,
     turns: &mut Turns,
     source: &mut S,
     writer: &mut Writer,
@@ -36,7 +32,6 @@ pub(crate) fn fill_from<R, S, N>(
 where
     R: Wait + Clock,
     S: Source,
-    N: Naming,
     requires chunk { 0 < chunk }
     requires is_open { IsOpen writer.old.side.end }
     ensures fed { Fed (S.remaining source.old) (S.remaining source.new)
@@ -44,16 +39,12 @@ where
     ensures ended { IfSome result (λ r. OnOk r (IsAtEnd (S.remaining source.new))) }
     ensures reported { IfSome result (λ r. IfErr r (IsOfSource (S.fails source.new))) }
     ensures closed { IfSome result (λ r. Closes r writer.new.side.end) }
-    ensures asked { IfSome result (λ r. OnOk r (WasAsked N.name)) }
     ensures left { IfNone result (writer.new.side.end.shut ≡ false) }
-    ensures told { IfNone result
-        (IsLate N.name ⊎ (N.failed ⊎ (writer.new.side.end.saw ≡ true))) }
 {
-    if !start.begin(rt, second) {
+    if !start.begin(rt) {
         return None;
     }
-    let (first, over) = (turns.first(), &start.over);
-    match fill_in_turns(rt, turns, first, source, writer, chunk, &meter.input, over) {
+    match fill_in_turns(rt, turns, source, writer, chunk, &meter.input, &start.over) {
         Ok(()) => Some(Ok(())),
         Err(Stop::Failed(error)) => Some(Err(error)),
         Err(Stop::Told) => None,
@@ -65,7 +56,6 @@ where
 fn fill_in_turns<R, S, H>(
     rt: &R,
     turns: &Turns,
-    first: Still,
     source: &mut S,
     writer: &mut Writer,
     chunk: usize,
@@ -82,20 +72,18 @@ where
         writer.old.side.end writer.new.side.end }
     ensures ended { OnOk result (IsAtEnd (S.remaining source.new)) }
     ensures stopped { IfErr result
-        (StopsSource (S.fails source.new) (IsLeft H.failed writer.new.side.end)) }
+        (StopsSource (S.fails source.new) (IsLeft writer.new.side.end)) }
     ensures closed { StopsClosed result writer.new.side.end }
-    ensures asked { OnOk result H.asked }
 {
-    let mut still = first;
     for _ in rt.forever() {
         meter.begin_wait(rt);
-        let mut cx = match turns.next(rt, still) {
+        let mut cx = match turns.next(rt) {
             Ok(cx) => cx,
             Err(error) => return Err(Stop::Failed(TransferError::Turns(error))),
         };
         meter.end_wait(rt);
         let turn = fill_turn(rt, &mut cx, source, writer, chunk, meter, over);
-        still = end(cx, &turn);
+        cx.end(&turn);
         if let Poll::Ready(ended) = turn {
             return ended;
         }
@@ -124,12 +112,10 @@ where
         writer.old.side.end writer.new.side.end }
     ensures ended { IfReady result (λ r. OnOk r (IsAtEnd (S.remaining source.new))) }
     ensures stopped { IfReady result (λ r. IfErr r
-        (StopsSource (S.fails source.new) (IsLeft H.failed writer.new.side.end))) }
+        (StopsSource (S.fails source.new) (IsLeft writer.new.side.end))) }
     ensures closed { IfReady result (λ r. StopsClosed r writer.new.side.end) }
-    ensures asked { H.asked }
     ensures is_open { OnPending result (IsOpen writer.new.side.end) }
     ensures armed { OnPending result (IsArmed cx.new) }
-    ensures still { OnPending result (IsStill cx.new) }
 {
     let mut piece = Piece::first(chunk);
     for _ in rt.forever() {
@@ -144,8 +130,8 @@ where
             Ok(true) => {}
             Ok(false) => return Poll::Ready(Err(Stop::Told)),
             Err(_) => {
-                let error = no_waker(cx);
-                return close(rt, cx, writer, over, Err(Stop::Failed(error)));
+                let error = Stop::Failed(TransferError::Memory);
+                return close(rt, cx, writer, over, Err(error));
             }
         }
         match read_chunk(rt, source, writer, piece.len(), meter, over) {
@@ -180,10 +166,8 @@ where
     ensures fed { Fed (S.remaining source.old) (S.remaining source.new)
         writer.old.side.end writer.new.side.end }
     ensures ended { result ≡ Ok 0 → IsAtEnd (S.remaining source.new) }
-    ensures stopped { IfErr result (StopsSource (S.fails source.new) H.failed) }
+    ensures stopped { IfErr result (StopsSource (S.fails source.new) H.may_end) }
     ensures is_open { IsOpen writer.new.side.end }
-    ensures counted { IfOk result HasCounted }
-    ensures told { OnOk result H.told }
 {
     let count = read_patiently(rt, source, writer.write_buf(most), over)?;
     writer.produced(count);
@@ -204,9 +188,8 @@ fn close<H: Hears>(
     ensures sent { writer.new.side.end.sent ≡ writer.old.side.end.sent }
     ensures ring { writer.new.side.end.ring ≡ writer.old.side.end.ring }
     ensures shut { writer.new.side.end.shut ≡ true }
-    ensures told { H.told }
 {
     let _closed = writer.poll_close(cx);
-    over.tell(rt);
+    over.tell_closed(rt, writer);
     Poll::Ready(ended)
 }

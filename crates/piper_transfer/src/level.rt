@@ -3,10 +3,9 @@ ghost use Rattle.std.specs.Prelude.{◌≡◌, ◌≤◌, true, IfSome, IfNone};
 ghost use Rattle.piper.specs.OfReader.{ring};
 ghost use Rattle.piper.specs.ReaderCalls.{ReaderMayHave};
 ghost use Rattle.piper_ring.specs.Loads.{FoundClosed};
-ghost use Rattle.piper_transfer.specs.Turns.{HasWaited};
 
-use crate::both_sides::Sizes;
 use crate::rises::Rises;
+use crate::sizes::Sizes;
 use piper::Reader;
 use std::sync::Wait;
 
@@ -57,7 +56,6 @@ impl Level {
             (self.now.bytes ≤ held) × ReaderMayHave reader.now held)) }
         ensures closed { IfSome result (λ reached.
             IfNone reached.held (FoundClosed (ring reader.now).names true)) }
-        ensures waited { IfNone result HasWaited }
     {
         let held = reader.len();
         if self.bytes <= held {

@@ -3,6 +3,7 @@
 //! reads as long as the pipe has room.
 #![tactic(auto)]
 
+mod bell;
 mod both_sides;
 mod draining;
 mod ends;
@@ -10,21 +11,18 @@ mod error;
 mod filling;
 mod level;
 mod meter;
-mod naming;
 mod one_thread;
 mod over;
 mod patience;
 mod piece;
 mod rises;
-mod rounds;
-mod sleeping;
+mod sizes;
 mod start;
-mod threads;
 mod turns;
 
-pub use both_sides::{Sizes, transfer};
+pub use both_sides::{Ready, transfer};
 pub use ends::{Destination, Plain, Source};
 pub use error::TransferError;
 pub use meter::{Meter, OfInput, OfOutput, Side};
-pub use patience::{flush_patiently, is_lasting};
-pub use start::grants_thread;
+pub use patience::{Patience, flush_patiently, is_lasting, write_patiently};
+pub use sizes::Sizes;

@@ -1,6 +1,4 @@
 //! What a transfer has done so far, for a thread that watches it.
-ghost use Rattle.piper_transfer.specs.Turns.{HasCounted};
-
 use std::sync::atomic::{AtomicU64, Ordering};
 use std::sync::{Mutex, Wait};
 use std::time::{Clock, Duration, Instant};
@@ -63,19 +61,17 @@ impl<K> Side<K> {
     }
 
     /// So many more bytes were moved.
-    pub(crate) fn add_bytes(&self, count: usize)
-        ensures { HasCounted count }
-    {
+    pub(crate) fn add_bytes(&self, count: usize) {
         self.bytes.fetch_add(count as u64, Ordering::SeqCst);
     }
 
     /// It begins to wait.
-    pub(crate) fn begin_wait<R: Wait + Clock>(&self, rt: &R) {
+    pub fn begin_wait<R: Wait + Clock>(&self, rt: &R) {
         *self.since.lock(rt) = Instant::now(rt).ok();
     }
 
     /// Its wait has ended.
-    pub(crate) fn end_wait<R: Wait + Clock>(&self, rt: &R) {
+    pub fn end_wait<R: Wait + Clock>(&self, rt: &R) {
         let mut since = self.since.lock(rt);
         let waited = nanoseconds_since(rt, *since);
         *since = None;

@@ -1,91 +1,88 @@
 //! What the two sides of a transfer tell each other: the one that reads the input hears that the output
 //! is over, and the other one that the pipe holds more.
-ghost use Rattle.std.specs.Prelude.{◌≡◌, ◌<◌, IsTrue, false};
-ghost use Rattle.piper_transfer.specs.Transfer.{IsTold};
+ghost use Rattle.std.specs.Prelude.{◌≡◌, ◌++◌, ◌+◌, ℕ, IsTrue, List, length, true};
+ghost use Rattle.piper.specs.Handles.{NotifiesWriter};
+ghost use Rattle.piper.specs.OfReader.{front};
 
-use crate::naming::{Naming, Unnamed};
 use crate::rises::Rises;
-use std::marker::PhantomData;
+use piper::{Reader, Writer};
 use std::sync::Wait;
-use std::sync::atomic::{AtomicIn, Ordering, Rule};
+use std::sync::atomic::{AtomicBool, Ordering};
 
 /// What the side that reads the input asks before each read, and tells after it.
 pub(crate) trait Hears {
-    // what it says where it is over
-    ghost failed: { Type 0 };
-
-    // it was asked
-    ghost asked: { Type 0 };
-
-    // the output's side was told
-    ghost told: { Type 0 };
+    // it may say that it is over
+    ghost may_end: { Type 0 };
 
     /// Whether the output takes no more, so that no more is to be read.
     fn is_over(&self) -> bool
-        ensures over { IsTrue result → failed }
-        ensures asked { asked };
+        ensures { IsTrue result → may_end };
 
-    /// Tells the output's side that the pipe holds more, or is closed.
-    fn tell(&self, rt: &impl Wait)
-        ensures told { told };
-}
+    /// Tells the output's side that the pipe holds more.
+    fn tell(&self, rt: &impl Wait);
 
-/// What the word of an `OutputOver` says: more than 0 only once the output's side has failed.
-struct OnceFailed<N> {
-    _of: PhantomData<N>,
-}
-
-impl<N: Naming> Rule for OnceFailed<N> {
-    ghost use Rattle.std.specs.Prelude.{◌<◌};
-
-    ghost invariant = { λ word. 0 < word → N.failed };
+    /// Tells it that the pipe is closed.
+    fn tell_closed(&self, rt: &impl Wait, writer: &Writer)
+        requires { writer.now.side.end.shut ≡ true };
 }
 
 /// Whether the output of one transfer takes no more, since its side has failed. Each transfer on
 /// two threads has one of its own.
 #[derive(Drop)]
-pub(crate) struct OutputOver<N: Naming> {
-    word: AtomicIn<OnceFailed<N>>,
+pub(crate) struct OutputOver {
+    is_over: AtomicBool,
     /// What wakes the output's side where it waits for a level.
     pub(crate) rises: Rises,
 }
 
-impl<N: Naming> OutputOver<N> {
+/// That the input's side was told to end, which `end_output` alone says.
+#[derive(Drop)]
+pub(crate) struct ToldEnd(());
+
+impl OutputOver {
     /// The output is not over, and waits for so many bytes.
-    pub(crate) fn new(_name: Unnamed, level: usize) -> OutputOver<N>
-        requires { _name.name.value ≡ N.name }
-    {
+    pub(crate) fn new(level: usize) -> OutputOver {
         OutputOver {
-            word: AtomicIn::new(0),
+            is_over: AtomicBool::new(false),
             rises: Rises::new(level),
         }
     }
 
     /// Tells the input's side to end, since the output's side has failed.
-    pub(crate) fn end_output(&self)
-        requires failed { N.failed }
-        ensures told { IsTold N.name }
-    {
-        self.word.store(1, Ordering::SeqCst);
+    pub(crate) fn end_output(&self) -> ToldEnd {
+        self.is_over.store(true, Ordering::SeqCst);
+        ToldEnd(())
     }
 }
 
-impl<N: Naming> Hears for OutputOver<N> {
-    ghost use Rattle.piper_transfer.specs.Transfer.{WasAsked};
-    ghost use Rattle.piper_transfer.specs.Turns.{HasRung};
-    ghost use Rattle.piper_transfer.specs.declared.rises.Rises.{Rises};
+/// Makes room, by which the other side wakes if it waits for some: it was told before.
+pub(crate) fn make_room(reader: &mut Reader, _told: ToldEnd)
+    ensures taken { (lost : List ℕ)
+        × (reader.new.side.end.taken ≡ reader.old.side.end.taken ++ lost) }
+    ensures ring { reader.new.side.end.ring ≡ reader.old.side.end.ring }
+    ensures capacity { reader.new.side.end.capacity ≡ reader.old.side.end.capacity }
+    ensures woken { NotifiesWriter reader.new }
+    ensures given { length reader.new.side.end.taken
+        ≡ length reader.old.side.end.taken + front reader.old }
+{
+    let known = reader.peek_buf().len();
+    reader.consume(known);
+}
 
-    ghost failed = { N.failed };
+impl Hears for OutputOver {
+    ghost use Rattle.std.specs.Prelude.{⊤};
 
-    ghost asked = { WasAsked N.name };
-
-    ghost told = { (rises : Rises) × HasRung rises };
+    ghost may_end = { ⊤ };
 
     fn is_over(&self) -> bool {
-        0 < self.word.load(Ordering::SeqCst)
+        self.is_over.load(Ordering::SeqCst)
     }
 
     fn tell(&self, rt: &impl Wait) {
+        self.rises.ring(rt);
+    }
+
+    fn tell_closed(&self, rt: &impl Wait, _writer: &Writer) {
         self.rises.ring(rt);
     }
 }
@@ -94,17 +91,13 @@ impl<N: Naming> Hears for OutputOver<N> {
 pub(crate) struct Nobody;
 
 impl Hears for Nobody {
-    ghost use Rattle.std.specs.Prelude.{⊤};
-
-    ghost failed = { ⊥ };
-
-    ghost asked = { ⊤ };
-
-    ghost told = { ⊤ };
+    ghost may_end = { ⊥ };
 
     fn is_over(&self) -> bool {
         false
     }
 
     fn tell(&self, _rt: &impl Wait) {}
+
+    fn tell_closed(&self, _rt: &impl Wait, _writer: &Writer) {}
 }

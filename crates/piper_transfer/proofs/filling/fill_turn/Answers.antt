@@ -2,7 +2,6 @@
 use Rattle.std.proofs.Common.{ap, ◌∙◌}
 use Rattle.piper.specs.WriteView.{WriteView}
 use Rattle.piper_transfer.proofs.Sides.{fed_none, fed_same, fed_looked, fed_round}
-use Rattle.piper_transfer.proofs.Still.{writer_still}
 use Rattle.piper_transfer.proofs.filling.fill_turn.Goals as goal
 
 pub loop-init : goal.loop-init
@@ -41,9 +40,3 @@ returns-in-Err-Told-clause-fed g c = fed_round _ _ _ _ _ _ _ c.loop.invariant.2 
 pub loop-preserved : goal.loop-preserved
 loop-preserved g c =
     (tt, tt, fed_round _ _ _ _ _ _ _ c.loop.invariant.2 c.poll.ensures.polled.looked c.read_chunk.ensures.fed, c.read_chunk.ensures.is_open)
-
-pub returns-in-Pending-clause-still : goal.returns-in-Pending-clause-still
-returns-in-Pending-clause-still g c = writer_still _ _ _ c.in-Pending.ensures.polled.pending
-
-pub returns-in-Err-clause-stopped : goal.returns-in-Err-clause-stopped
-returns-in-Err-clause-stopped g c = rw (c.close.ensures.answer, c.no_waker-error.ensures.value) (_, c.no_waker-error.ensures.refused)

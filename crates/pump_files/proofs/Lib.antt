@@ -1,3 +1,0 @@
-mod Copied
-pub mod Elements
-pub mod Passed

@@ -1,4 +1,0 @@
-pub mod Arguments
-pub mod Plan
-pub mod Progress
-pub mod Size
