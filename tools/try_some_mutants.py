@@ -1,5 +1,5 @@
 #!/usr/bin/env python3
-"""Tries some mutants whose verdict is stale, over what `rt ci` has kept, and keeps what the prover says of them.
+"""Tries some mutants whose verdict is stale, and keeps what the prover says of them.
 
     tools/try_some_mutants.py [SECONDS]
 
@@ -34,17 +34,17 @@ def next_ones(stale, seconds):
     return crate, [edit for key, edit in sorted(stale.items()) if key[0] == crate][:MOST]
 
 
-def lines_of_gate(crate, copy, seconds):
-    """What `rt ci` prints of this crate, up to the end of the time."""
+def lines_of_prover(crate, copy, seconds):
+    """What `rt must-fail` prints of this crate, up to the end of the time."""
     said = copy / "said"
     with said.open("w") as out:
-        gate = subprocess.Popen(["rt", "ci", crate], cwd=copy, stdin=subprocess.DEVNULL, stdout=out, stderr=out,
-                                start_new_session=True)
+        prover = subprocess.Popen(["rt", "must-fail", crate], cwd=copy, stdin=subprocess.DEVNULL, stdout=out, stderr=out,
+                                  start_new_session=True)
         try:
-            gate.wait(seconds)
+            prover.wait(seconds)
         except subprocess.TimeoutExpired:
-            os.killpg(gate.pid, signal.SIGKILL)
-            gate.wait()
+            os.killpg(prover.pid, signal.SIGKILL)
+            prover.wait()
     return said.read_text(errors="replace").splitlines()
 
 
@@ -56,7 +56,7 @@ def tried(crate, mutants, seconds):
         (copy / "crates" / crate / "must-fail").mkdir(exist_ok=True)
         for edit in mutants:
             shutil.copy2(edit, copy / "crates" / crate / "must-fail" / edit.name)
-        found = dict(verdicts.verdict(line) for line in lines_of_gate(crate, copy, seconds))
+        found = dict(verdicts.verdict(line) for line in lines_of_prover(crate, copy, seconds))
         found = {key: what for key, what in found.items() if key in {(crate, edit.stem) for edit in mutants}}
         verdicts.keep(found, verdicts.TOP)
     return found
