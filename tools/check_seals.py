@@ -46,18 +46,16 @@ SEALS = {
         "piper_ring/specs/Loads",
         [f"piper_ring/proofs/ring/seats/{seat}/load_closed" for seat in ("ReadSeat", "WriteSeat")],
     ),
-    "as_flag": (
+    "as_own": (
         "piper_ring/specs/Loads",
-        [f"piper_ring/proofs/ring/slots/SlotWords/{load}" for load in ("is_registered", "cancel")],
+        [f"piper_ring/proofs/ring/slots/SlotWords/{access}" for access in ("load_own", "exchange_own")],
     ),
     "as_waiter": (
         "piper_ring/specs/Loads",
-        [f"piper_ring/proofs/ring/slots/SlotWords/{load}" for load in ("load_flag", "take_waker")],
+        [f"piper_ring/proofs/ring/slots/SlotWords/{access}" for access in ("load_other", "empty_other")],
     ),
-    "as_handed_back": ("piper_ring/specs/Loads", ["piper_ring/proofs/ring/slots/SlotWords/reclaim"]),
-    "as_back": ("piper_ring/specs/Loads", of_sides("reclaim_waker")),
-    "as_put": ("piper_ring/specs/Loads", of_sides("publish_waker")),
-    "as_taken_back": ("piper_ring/specs/Loads", of_sides("cancel", "reclaim_waker")),
+    "as_put": ("piper_ring/specs/Loads", of_sides("register")),
+    "as_taken_back": ("piper_ring/specs/Loads", of_sides("cancel", "register")),
     "as_taken": ("piper_ring/specs/Loads", of_sides("take") + FINISHES),
     "as_finished": ("piper_ring/specs/Log", FINISHES),
     "as_gone": (
@@ -67,7 +65,7 @@ SEALS = {
     "as_lying": ("piper_ring/specs/Loads", ["piper_ring/proofs/ring/remains/Remains/into_parts"]),
     "as_called": ("piper/specs/Called", ["piper/proofs/handles/waiting/call"]),
     "as_let_go": ("piper/specs/Called", ["piper/proofs/handles/waiting/let_go"]),
-    "just_registered": ("piper/specs/Contexts", ["piper/proofs/handles/waiting/grant"]),
+    "as_asked": ("piper/specs/Contexts", ["piper/proofs/handles/waiting/ask"]),
     "as_read": ("piper/specs/StdEnds", ["piper/proofs/like/std_ends/std_read"]),
     "as_written": ("piper/specs/StdEnds", ["piper/proofs/like/std_ends/std_write"]),
     "as_flushed": ("piper/specs/StdEnds", ["piper/proofs/like/std_ends/std_flush"]),

@@ -139,7 +139,7 @@ fn copied<E: SlotEnd>(
 
 #[inline]
 fn let_go<E: SlotEnd, T>(side: &mut Side<E, Waker>, polled: &Poll<T>) {
-    if polled.is_ready() && side.maybe_registered() {
+    if polled.is_ready() && side.is_waiting() {
         drop(side.cancel());
     }
 }

@@ -1,9 +1,8 @@
 //! A client that leaves both sides of a pipe pending, and proves of itself that one of them was
 //! woken: a pipe is not empty and full at once.
-ghost use Rattle.std.specs.Prelude.{◌≡◌, IfOk, IsTrue, true};
+ghost use Rattle.std.specs.Prelude.{IfOk, IsTrue};
 ghost use Rattle.piper.specs.Handles.{ArePair, NotifiesReader, NotifiesWriter};
-ghost use Rattle.piper.specs.OfReader.{slots};
-ghost use Rattle.piper.specs.OfWriter as of_writer;
+ghost use Rattle.piper.specs.Waits.{ReaderLeavesNone, WriterLeavesNone};
 ghost use Rattle.example_order.specs.Sleepers.{FilledAndPolled, IsAwake};
 
 use futures::task::{Context, Doorbell, Poll, Queue};
@@ -21,7 +20,7 @@ fn fill_while_pending(
     cx: &mut Context<'_>,
 ) -> bool
     requires pair { ArePair reader.old writer.old }
-    requires nobody { ((slots reader.old).owns ≡ true) × ((of_writer.slots writer.old).owns ≡ true) }
+    requires nobody { ReaderLeavesNone reader.old × WriterLeavesNone writer.old }
     requires woken { NotifiesWriter reader.old × NotifiesReader writer.old }
     ensures awake { IsTrue result → IsAwake reader.new writer.new }
     ensures calls { IsTrue result → FilledAndPolled writer.old writer.new }
@@ -46,7 +45,7 @@ pub(crate) fn leave_pending<H>(
 where
     H: Wait + RandomSource + AllocGlobal,
     requires pair { ArePair reader.old writer.old }
-    requires nobody { ((slots reader.old).owns ≡ true) × ((of_writer.slots writer.old).owns ≡ true) }
+    requires nobody { ReaderLeavesNone reader.old × WriterLeavesNone writer.old }
     requires woken { NotifiesWriter reader.old × NotifiesReader writer.old }
     ensures awake { IfOk result (λ both. IsTrue both → IsAwake reader.new writer.new) }
     ensures calls { IfOk result (λ both. IsTrue both → FilledAndPolled writer.old writer.new) }

@@ -16,7 +16,7 @@ use Rattle.piper.specs.declared.handles.Writer.{Writer}
 pub reads : (r : Poll (Result ℕ OutOfMemory)) (a b : Reader) (old new : List ℕ) (cx left : Context)
     → DrainRan (Polling false) (of_bytes r) a b → DrainsSlice r a b old new
     → DrainsWaiting (of_bytes r) a b cx left → DrainRest (of_bytes r) a b
-    → ReadsAsDrain a b (as_pipe r) old new left
+    → ReadsAsDrain a b (as_pipe r) old new cx left
 reads (Ready (Ok n)) a b old new cx left ran drained waits rest = record {
   drained = drained;
   end = record { end = rest.end.end; after = rest.end.after; all = rest.end.all };
@@ -51,7 +51,7 @@ reads Pending a b old new cx left ran drained waits rest = record {
 pub writes : (r : Poll (Result ℕ OutOfMemory)) (a b : Writer) (bytes : List ℕ) (cx left : Context)
     → FillRan (Polling false) (of_bytes r) a b → FillsSlice r a b bytes
     → FillsWaiting (of_bytes r) a b cx left → FillRest (of_bytes r) a b
-    → WritesAsFill a b (as_pipe r) bytes left
+    → WritesAsFill a b (as_pipe r) bytes cx left
 writes (Ready (Ok n)) a b bytes cx left ran filled waits rest = record {
   filled = filled;
   end = record { over = λ saw. ap as_pipe (rest.end.over saw); unseen = rest.end.unseen };

@@ -36,12 +36,11 @@ grants (Some waker) old new keeps (inl lacks) = inl lacks
 grants (Some waker) old new keeps (inr own) = inr (wakes_on waker old new keeps own)
 
 -- what came out of the own slot was dropped
-pub lets_go : (a b : SlotsView) (is_registered : Bool) (waker : Option Waker)
-    → b ≡ record a { maybe_registered = is_registered }
-    → WasTakenBack b.names b.owns b.tickets waker → (waker ≡ None → IsUnregistered b.names b.owns)
+pub lets_go : (a b : SlotsView) (waker : Option Waker) → b ≡ record a { waits = true } → a.waits ≡ true
+    → WasTakenBack b.names b.waits b.tickets waker → (waker ≡ None → IsUnregistered b.names b.waits)
     → IfSome waker WasLetGo → LetsOwnGo a
-lets_go a b is_registered None same out none gone = inr (rw same at none refl)
-lets_go a b is_registered (Some waker) same out none gone = inl (waker, rw same at out, gone)
+lets_go a b None same waits out none gone = inr (rw waits (rw same at none refl))
+lets_go a b (Some waker) same waits out none gone = inl (waker, rw waits (rw same at out), gone)
 
 -- a waker that was taken, or none, as the call that took it tells
 pub calls_one : (z : Names) (old new : ℕ) (taken : Option Waker) → WasTaken z old new taken

@@ -7,11 +7,11 @@ use Rattle.piper_protocol.specs.Table.{goes_on}
 use Rattle.piper_protocol.specs.declared.table.Found.TheVariants.{Nothing, Waker as found_waker}
 use Rattle.piper_protocol.specs.declared.table.Point.{Point}
 use Rattle.piper_ring.specs.Cells.{GetsLeft}
-use Rattle.piper_ring.specs.Loads.{IsAway, IsUnregistered, WasPut, WasTaken, WasTakenBack}
+use Rattle.piper_ring.specs.Loads.{IsUnregistered, WasPut, WasTaken, WasTakenBack}
 use Rattle.piper_ring.specs.Log.{HasLeft, Log, Opened, then}
 use Rattle.piper_ring.specs.Shared.{Names}
-use Rattle.piper_ring.specs.SlotsView.{Registers, SlotsView}
-use Rattle.piper.specs.Contexts.{AsksAgain, IsCalm}
+use Rattle.piper_ring.specs.SlotsView.{SlotsView}
+use Rattle.piper.specs.Contexts.{WasAsked}
 use Rattle.piper_ring.specs.declared.ends.cells.LeftWakers.{LeftWakers}
 
 -- The toolchain states nothing of a waker that is called or dropped. So these two are sealed: no proof
@@ -49,31 +49,28 @@ CallsTaken a b = (wakers : List Waker) × AreCalled a.names wakers a.taken b.tak
 -- the side's own waker came out of its slot, and was called; or none was registered there
 abbrev pub CallsOwn : SlotsView → Type 0
 CallsOwn a =
-    ((waker : Waker) × WasTakenBack a.names a.owns a.tickets (Some waker) × WasCalled waker)
-    ⊎ IsUnregistered a.names a.owns
+    ((waker : Waker) × WasTakenBack a.names a.waits a.tickets (Some waker) × WasCalled waker)
+    ⊎ IsUnregistered a.names a.waits
 
 -- the side's own waker came out of its slot, and was dropped; or none was registered there
 abbrev pub LetsOwnGo : SlotsView → Type 0
 LetsOwnGo a =
-    ((waker : Waker) × WasTakenBack a.names a.owns a.tickets (Some waker) × WasLetGo waker)
-    ⊎ IsUnregistered a.names a.owns
+    ((waker : Waker) × WasTakenBack a.names a.waits a.tickets (Some waker) × WasLetGo waker)
+    ⊎ IsUnregistered a.names a.waits
 
--- the waker that the side registered last is one of the polled task; or none could be made, and the
--- task asked for another poll
-abbrev pub RegistersTask : SlotsView → Context → Type 0
-RegistersTask b cx =
-    (waker : Waker) × WasPut b.names b.tickets waker × ((cx.lacks_waker ≡ true) ⊎ Wakes waker cx)
-
--- a side was granted what it asked for: it is registered with a waker of the polled task, which didn't
--- ask for another poll itself, unless none could be made; or the other side has the place of its
--- waker, and the task asked
-abbrev pub IsGranted : SlotsView → SlotsView → Context → Type 0
-IsGranted a b cx =
-    (Registers a b × IsCalm a.owns cx × RegistersTask b cx)
-    ⊎ (AsksAgain cx × (a.owns ≡ false) × (b.owns ≡ false) × IsAway a.names)
+-- a side registered with a waker of the polled task: it asked the context for one, with what its slot
+-- still held in hand, and for nothing else; and it put what it got into the slot. If none of the task
+-- could be made, that is another's, and the task has asked for another poll
+pub record RegistersTask (a b : SlotsView) (old left : Context) : Type 0 where
+  pub held : Option Waker
+  pub waker : Waker
+  pub back : WasTakenBack a.names a.waits a.tickets held
+  pub asked : WasAsked held (Some waker) old left
+  pub put : WasPut b.names b.tickets waker
+  pub task : (left.lacks_waker ≡ true) ⊎ Wakes waker left
 
 -- a side left the ring with these names. Its last call began at this point: it closed, and checked the
--- other's slot after that. Whoever was registered there was called, and what lay in the places, if the
+-- other's slot after that. Whoever was registered there was called, and what lay in the slots, if the
 -- other had left before, was dropped
 pub record HasDropped (names : Names) (start : Point) (before : Log) : Type 0 where
   pub taken : Option Waker

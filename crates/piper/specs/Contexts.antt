@@ -1,9 +1,8 @@
 -- The context that a copy is handed, and what it is left as.
-use Rattle.std.specs.Prelude.{◌≡◌, Bool, true, Option, ⊤}
+use Rattle.std.specs.Prelude.{◌≡◌, true, Option, None, ⊤}
 use Rattle.futures.specs.Task.{Covers}
 use Rattle.futures.specs.declared.task.context.Context.{Context}
 use Rattle.futures.specs.declared.task.waker.Waker.{Waker}
-use Rattle.piper_ring.specs.Loads.{CameBack}
 use Rattle.piper.specs.declared.error.PipeError.{PipeError}
 use Rattle.piper.specs.declared.error.PipeError.TheVariants.{Memory}
 
@@ -11,20 +10,20 @@ use Rattle.piper.specs.declared.error.PipeError.TheVariants.{Memory}
 abbrev pub AsksAgain : Context → Type 0
 AsksAgain cx = Covers cx (λ _. ⊤)
 
--- the task was registered with this waker, which lay in its place before, or a new one, and nothing
--- was asked of its context since. It is sealed: no proof looks into it, and only that of `Slot::grant`
--- uses the lemma below
-pub JustRegistered : Option Waker → Context → Type 0
-JustRegistered held cx = ⊤
+-- a context was asked for a waker, with this one in hand or none, and gave this one or none; and it was
+-- asked for nothing else. It is sealed: no proof looks into it, and only that of `ask` uses the lemma
+-- below
+pub WasAsked : Option Waker → Option Waker → Context → Context → Type 0
+WasAsked held given old left = ⊤
 
-pub just_registered : (held : Option Waker) (cx : Context) → JustRegistered held cx
-unfolding JustRegistered
-just_registered held cx = tt
+pub as_asked : (held given : Option Waker) (old left : Context) → WasAsked held given old left
+unfolding WasAsked
+as_asked held given old left = tt
 
--- the task was registered, with the waker that lay in its place before if one did: so it wasn't woken
--- by that, and didn't ask for another poll after it. `had` says whether the place was at hand
-abbrev pub IsCalm : Bool → Context → Type 0
-IsCalm had cx = (held : Option Waker) × CameBack had held × JustRegistered held cx
+-- the waker that a call asked its context for could not be made
+abbrev pub LacksWaker : Context → Context → Type 0
+LacksWaker old left =
+    ((held : Option Waker) × WasAsked held None old left) × (left.lacks_waker ≡ true)
 
 -- want of memory, since no waker could be made
 abbrev pub WantsWaker : Context → PipeError → Type 0

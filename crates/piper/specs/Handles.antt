@@ -1,5 +1,5 @@
 -- The two handles of a pipe.
-use Rattle.std.specs.Prelude.{◌≡◌, ℕ, true, List, bit_xor}
+use Rattle.std.specs.Prelude.{◌≡◌, ℕ, false, List, bit_xor}
 use Rattle.std.specs.Borrow.{Fml, MutBor, Array, Lends}
 use denote.Builtin.{u8}
 use Rattle.piper_ring.specs.LendsBuffer.{with_lent}
@@ -37,14 +37,14 @@ pub record AreFresh (cap : ℕ) (r : Reader) (w : Writer) : Type 0 where
   pub reader : FreshReadEnd cap r.side.end
   pub writer : FreshWriteEnd cap w.side.end
   pub woken : NotifiesWriter r × NotifiesReader w
-  pub nobody : (r.side.slots.owns ≡ true) × (w.side.slots.owns ≡ true)
+  pub nobody : (r.side.slots.waits ≡ false) × (w.side.slots.waits ≡ false)
 
 -- the generators of the handles, before their first draw
 pub record DrawFrom (seed : ℕ) (r : Reader) (w : Writer) : Type 0 where
   pub reader : r.rng ≡ generator seed
   pub writer : w.rng ≡ generator (bit_xor seed 1)
 
--- the same reader: its waker has the same place, its task the same source, and its generator draws
+-- the same reader: its cells are the same, its task has the same source, and its generator draws
 -- the same numbers next. What happened at its slots is said by the first argument
 pub record SameReader (did : SlotsView → SlotsView → Type 0) (a b : Reader) : Type 0 where
   pub cells : b.side.cells ≡ a.side.cells

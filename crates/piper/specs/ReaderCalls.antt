@@ -23,7 +23,7 @@ use Rattle.piper_ring.specs.Looks.{IsEnded, ReaderIsUpToDate, ReaderLooked}
 use Rattle.piper.specs.Looks.{OnRefused, ReaderFound}
 use Rattle.piper.specs.Polls.{After, Count, IfReadyErr, IfReadyOk, TakesNone}
 use Rattle.piper.specs.Runs.{DrainRan, ReaderRan, piece_answer, reader_looks}
-use Rattle.piper.specs.Waits.{ReaderIsRefused, ReaderIsRemembered, ReaderPends, WriterIsRemembered, ReaderLeavesNone, ReaderRegistered}
+use Rattle.piper.specs.Waits.{ReaderIsRefused, ReaderIsRemembered, ReaderPends, WriterIsRemembered, ReaderLeavesNone, ReaderWaits}
 use Rattle.piper.specs.declared.error.CopyError.{CopyError}
 use Rattle.piper.specs.declared.error.PipeError.{PipeError}
 use Rattle.piper_ring.specs.Streams.{either}
@@ -67,18 +67,18 @@ pub record ReaderPolled {E : Type 0} (r : Poll (Result Bool E))
   pub looked : ReaderLooked a.side.end b.side.end
   pub leaves : IfReadyOk r (λ some. some ≡ true → ReaderLeavesNone b)
   pub end : PollsEnd r a b
-  pub pending : OnPending r (ReaderPends a b left)
-  pub memory : OnRefused r (ReaderIsRefused b left)
+  pub pending : OnPending r (ReaderPends a b old left)
+  pub memory : OnRefused r (ReaderIsRefused b old left)
   pub context : Keeps old left
   pub rest : SameReader OnlyWaits a b
 
 -- a poll that lends is one as `poll`, and no other call
-pub record PollsPiece (r : Poll (Result (Bor (List ℕ)) PipeError)) (a b : Reader) (cx : Context)
-    : Type 0 where
+pub record PollsPiece (r : Poll (Result (Bor (List ℕ)) PipeError)) (a b : Reader)
+    (old left : Context) : Type 0 where
   pub looked : ReaderLooked a.side.end b.side.end
   pub leaves : IfReadyOk r (λ lent. 0 < length lent.now → ReaderLeavesNone b)
-  pub pending : OnPending r (ReaderPends a b cx)
-  pub memory : OnRefused r (ReaderIsRefused b cx)
+  pub pending : OnPending r (ReaderPends a b old left)
+  pub memory : OnRefused r (ReaderIsRefused b old left)
   pub all : KeepsAll a.side.end b.side.end
   pub rest : SameReader OnlyWaits a b
   pub ran : ReaderRan (reader_looks a purpose.Poll) (piece_answer r) a b
@@ -127,12 +127,12 @@ pub record DrainsEnd {E : Type 0} (r : Poll (Result ℕ E)) (a b : Reader) : Typ
 
 -- a drain that is pending: it found no byte, neither saw the pipe closed nor was told so, and waits
 -- as a poll does; or it found one and asked for another poll itself
-pub record DrainPends (a b : Reader) (cx : Context) : Type 0 where
+pub record DrainPends (a b : Reader) (old left : Context) : Type 0 where
   pub unseen : found_len a.side.end b.side.end ≡ 0
       → (b.side.end.saw ≡ false) × (b.side.end.observed_shut ≡ false)
-  pub yields : 0 < found_len a.side.end b.side.end → AsksAgain cx
-  pub covered : Covers cx (λ s. s ≡ read_source a)
-  pub registered : found_len a.side.end b.side.end ≡ 0 → ReaderRegistered a b cx
+  pub yields : 0 < found_len a.side.end b.side.end → AsksAgain left
+  pub covered : Covers left (λ s. s ≡ read_source a)
+  pub waits : found_len a.side.end b.side.end ≡ 0 → ReaderWaits a b old left
 
 -- a drain draws from the reader's generator exactly if it found a byte, and yields by that draw
 abbrev pub DrainDraws : {E : Type 0} → Poll (Result ℕ E) → Reader → Reader → Type 0
@@ -143,8 +143,8 @@ DrainDraws r a b = Draws (0 < found_len a.side.end b.side.end) r a.rng b.rng
 pub record DrainsWaiting {E : Type 0} (r : Poll (Result ℕ (CopyError E)))
     (a b : Reader) (old left : Context) : Type 0 where
   pub draws : DrainDraws r a b
-  pub pending : OnPending r (DrainPends a b left)
-  pub memory : OnMemory r (ReaderIsRefused b left × (b.side.end.known ≡ []))
+  pub pending : OnPending r (DrainPends a b old left)
+  pub memory : OnMemory r (ReaderIsRefused b old left × (b.side.end.known ≡ []))
   pub context : Keeps old left
 
 -- without one it doesn't draw, is pending only if it found no byte and the pipe open, is refused
@@ -184,15 +184,15 @@ pub record ReaderTried (n : ℕ) (a b : Reader) (old new : List ℕ) : Type 0 wh
   pub copied : ReaderCopied a.side.end b.side.end
   pub same : SameReader WaitsAsBefore a b
 
--- all that a read says of a handle, its answer, the slice and the context: it is one drain. A `&mut`
+-- all that a read says of a handle, its answer, the slice and its context: it is one drain. A `&mut`
 -- to the handle and its owner say the same
-pub record ReadsAsDrain (a b : Reader) (r : Count) (old new : List ℕ)
-    (cx : Context) : Type 0 where
-  pub drained : DrainsSlice r a b old new
+pub record ReadsAsDrain (a b : Reader) (r : Count) (before after : List ℕ)
+    (old left : Context) : Type 0 where
+  pub drained : DrainsSlice r a b before after
   pub end : DrainsEnd r a b
   pub draws : DrainDraws r a b
-  pub pending : OnPending r (DrainPends a b cx)
-  pub refused : IfReadyErr r (λ _. ReaderIsRefused b cx × (b.side.end.known ≡ []))
+  pub pending : OnPending r (DrainPends a b old left)
+  pub refused : IfReadyErr r (λ _. ReaderIsRefused b old left × (b.side.end.known ≡ []))
   pub woken : WakesWriter a b
   pub rest : SameReaderButMoved a b
   pub ran : DrainRan (Polling false) (of_std r) a b

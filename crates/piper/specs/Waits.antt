@@ -6,10 +6,9 @@ use Rattle.piper_protocol.specs.declared.table.AfterWrite.TheVariants.{Drop}
 use Rattle.piper_protocol.specs.declared.table.Point.TheVariants as of
 use Rattle.piper_protocol.specs.declared.table.ReadPoint.TheVariants as reads
 use Rattle.piper_protocol.specs.declared.table.WritePoint.TheVariants as writes
-use Rattle.piper_ring.specs.Loads.{IsAway}
 use Rattle.piper_ring.specs.SlotsView.{IsReaderPending, IsWriterPending}
 use Rattle.piper.specs.Called.{CallsTaken, HasDropped, RegistersTask}
-use Rattle.piper.specs.Contexts.{AsksAgain, IsCalm}
+use Rattle.piper.specs.Contexts.{AsksAgain, LacksWaker}
 use Rattle.piper.specs.Handles.{read_source, write_source}
 use Rattle.piper_ring.specs.Looks.{NothingYet}
 use Rattle.piper.specs.declared.handles.Reader.{Reader}
@@ -18,64 +17,43 @@ use Rattle.piper_ring.specs.declared.ends.finished.FinishedReader.{FinishedReade
 use Rattle.piper_ring.specs.declared.ends.finished.FinishedWriter.{FinishedWriter}
 
 -- the reader waits: since a it has registered in its slot, under a new ticket, and its look after
--- that found nothing to do; its task didn't ask for another poll itself, unless none of its wakers
--- could be made
-pub record ReaderWaits (a b : Reader) (cx : Context) : Type 0 where
+-- that found nothing to do; the call asked for a waker of its task, and not for another poll
+pub record ReaderWaits (a b : Reader) (old left : Context) : Type 0 where
   pub ticket : b.side.slots.tickets ≡ a.side.slots.tickets + 1
   pub pending : IsReaderPending b.side.end b.side.slots
-  pub calm : IsCalm a.side.slots.owns cx
-  pub task : RegistersTask b.side.slots cx
+  pub task : RegistersTask a.side.slots b.side.slots old left
 
 -- the writer waits
-pub record WriterWaits (a b : Writer) (cx : Context) : Type 0 where
+pub record WriterWaits (a b : Writer) (old left : Context) : Type 0 where
   pub ticket : b.side.slots.tickets ≡ a.side.slots.tickets + 1
   pub pending : IsWriterPending b.side.end b.side.slots
-  pub calm : IsCalm a.side.slots.owns cx
-  pub task : RegistersTask b.side.slots cx
-
--- the place of the side's waker is with the other side, or on its way back, before and after the
--- call, which looked for it: so no waker could be left there
-abbrev pub ReaderIsAway : Reader → Reader → Type 0
-ReaderIsAway a b =
-    (a.side.slots.owns ≡ false) × (b.side.slots.owns ≡ false) × IsAway a.side.slots.names
-
-abbrev pub WriterIsAway : Writer → Writer → Type 0
-WriterIsAway a b =
-    (a.side.slots.owns ≡ false) × (b.side.slots.owns ≡ false) × IsAway a.side.slots.names
+  pub task : RegistersTask a.side.slots b.side.slots old left
 
 -- no waker of the side's is left in its slot: none was registered, or it was taken back, or found to
 -- be gone
 abbrev pub ReaderLeavesNone : Reader → Type 0
-ReaderLeavesNone reader = reader.side.slots.maybe_registered ≡ false
+ReaderLeavesNone reader = reader.side.slots.waits ≡ false
 
 abbrev pub WriterLeavesNone : Writer → Type 0
-WriterLeavesNone writer = writer.side.slots.maybe_registered ≡ false
+WriterLeavesNone writer = writer.side.slots.waits ≡ false
 
--- a reader that has nothing to do waits in its slot; only if its place is away its task asked for
--- another poll itself
-abbrev pub ReaderRegistered : Reader → Reader → Context → Type 0
-ReaderRegistered a b cx = ReaderWaits a b cx ⊎ (AsksAgain cx × ReaderIsAway a b)
+-- the call was refused a waker for the reader, and none of its own is left in its slot
+abbrev pub ReaderIsRefused : Reader → Context → Context → Type 0
+ReaderIsRefused reader old left = LacksWaker old left × ReaderLeavesNone reader
 
-abbrev pub WriterRegistered : Writer → Writer → Context → Type 0
-WriterRegistered a b cx = WriterWaits a b cx ⊎ (AsksAgain cx × WriterIsAway a b)
+abbrev pub WriterIsRefused : Writer → Context → Context → Type 0
+WriterIsRefused writer old left = LacksWaker old left × WriterLeavesNone writer
 
--- the reader was refused a waker, and none of its own is left in its slot
-abbrev pub ReaderIsRefused : Reader → Context → Type 0
-ReaderIsRefused reader cx = (cx.lacks_waker ≡ true) × ReaderLeavesNone reader
-
-abbrev pub WriterIsRefused : Writer → Context → Type 0
-WriterIsRefused writer cx = (cx.lacks_waker ≡ true) × WriterLeavesNone writer
-
--- a reader whose poll is pending: there is nothing to do yet; its task is armed at the reader's
--- source, and is registered there, or asked for another poll itself since its place is away
-pub record ReaderPends (a b : Reader) (cx : Context) : Type 0 where
+-- a reader whose poll is pending: there is nothing to do yet, and its task is armed at the reader's
+-- source, and is registered there
+pub record ReaderPends (a b : Reader) (old left : Context) : Type 0 where
   pub nothing : NothingYet b.side.end
-  pub covered : Covers cx (λ s. s ≡ read_source a)
-  pub registered : ReaderRegistered a b cx
+  pub covered : Covers left (λ s. s ≡ read_source a)
+  pub waits : ReaderWaits a b old left
 
-pub record WriterPends (a b : Writer) (cx : Context) : Type 0 where
-  pub covered : Covers cx (λ s. s ≡ write_source a)
-  pub registered : WriterRegistered a b cx
+pub record WriterPends (a b : Writer) (old left : Context) : Type 0 where
+  pub covered : Covers left (λ s. s ≡ write_source a)
+  pub waits : WriterWaits a b old left
 
 -- why a call of a trait is pending: the reader is registered and has nothing to do, or its task asked
 -- for another poll itself
@@ -109,7 +87,7 @@ WriterHasDropped writer =
     HasDropped writer.side.end.ring.names (of.Writer (writes.StoreClosed Drop)) writer.side.log
 
 -- after the close by which it left, the reader checked the writer's slot, and called whom it took; and
--- it dropped what lay in the places, if the writer had left before
+-- it dropped what lay in the slots, if the writer had left before
 pub record ReaderWokeLast (reader : Reader) (left : FinishedReader) : Type 0 where
   pub count : left.slots.stored.count ≡ length reader.side.end.taken
   pub over : left.slots.stored.closed ≡ true

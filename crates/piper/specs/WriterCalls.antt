@@ -22,7 +22,7 @@ use Rattle.piper_ring.specs.Looks.{WriterIsUpToDate, WriterLooked}
 use Rattle.piper.specs.Looks.{OnRefused, WriterFound}
 use Rattle.piper.specs.Polls.{Count, IfReadyErr, IfReadyOk}
 use Rattle.piper.specs.Runs.{FillRan}
-use Rattle.piper.specs.Waits.{WriterIsRefused, WriterLeavesNone, WriterPends, WriterRegistered}
+use Rattle.piper.specs.Waits.{WriterIsRefused, WriterLeavesNone, WriterPends, WriterWaits}
 use Rattle.piper.specs.declared.error.CopyError.{CopyError}
 use Rattle.piper_ring.specs.declared.ends.finished.FinishedReader.{FinishedReader}
 use Rattle.piper.specs.declared.handles.Writer.{Writer}
@@ -68,8 +68,8 @@ pub record WriterPolled {E : Type 0} (r : Poll (Result Bool E))
   pub found : WriterFound r b.side.end
   pub looked : WriterLooked a.side.end b.side.end
   pub leaves : IfReadyOk r (λ some. some ≡ true → WriterLeavesNone b)
-  pub pending : OnPending r (WriterPends a b left)
-  pub memory : OnRefused r (WriterIsRefused b left)
+  pub pending : OnPending r (WriterPends a b old left)
+  pub memory : OnRefused r (WriterIsRefused b old left)
   pub context : Keeps old left
   pub rest : SameWriter OnlyWaits a b
 
@@ -124,10 +124,10 @@ pub record FillsEnd {E : Type 0} (r : Poll (Result ℕ E)) (a b : Writer) : Type
 
 -- a fill that is pending: it waits as a poll does; or there is room, and it asked for another poll
 -- itself
-pub record FillPends (a b : Writer) (cx : Context) : Type 0 where
-  pub yields : 0 < b.side.end.room → AsksAgain cx
-  pub covered : Covers cx (λ s. s ≡ write_source a)
-  pub registered : b.side.end.room ≡ 0 → WriterRegistered a b cx
+pub record FillPends (a b : Writer) (old left : Context) : Type 0 where
+  pub yields : 0 < b.side.end.room → AsksAgain left
+  pub covered : Covers left (λ s. s ≡ write_source a)
+  pub waits : b.side.end.room ≡ 0 → WriterWaits a b old left
 
 -- a fill draws from the writer's generator exactly if it found room, and yields by that draw
 abbrev pub FillDraws : {E : Type 0} → Poll (Result ℕ (CopyError E)) → Writer → Writer → Type 0
@@ -138,8 +138,8 @@ FillDraws r a b = Draws (FoundRoom r b.side.end) r a.rng b.rng
 pub record FillsWaiting {E : Type 0} (r : Poll (Result ℕ (CopyError E)))
     (a b : Writer) (old left : Context) : Type 0 where
   pub draws : FillDraws r a b
-  pub pending : OnPending r (FillPends a b left)
-  pub memory : OnMemory r (WriterIsRefused b left × (b.side.end.room ≡ 0))
+  pub pending : OnPending r (FillPends a b old left)
+  pub memory : OnMemory r (WriterIsRefused b old left × (b.side.end.room ≡ 0))
   pub context : Keeps old left
 
 -- without one it doesn't draw, is pending only if it found no room, is refused no memory, and
@@ -178,15 +178,15 @@ pub record WriterTried (n : ℕ) (a b : Writer) (bytes : List ℕ) : Type 0 wher
   pub copied : WriterCopied a.side.end b.side.end
   pub same : SameWriter WaitsAsBefore a b
 
--- all that a write says of a handle, its answer, the slice and the context: it is one fill. A `&mut`
+-- all that a write says of a handle, its answer, the slice and its context: it is one fill. A `&mut`
 -- to the handle and its owner say the same
 pub record WritesAsFill (a b : Writer) (r : Count) (bytes : List ℕ)
-    (cx : Context) : Type 0 where
+    (old left : Context) : Type 0 where
   pub filled : FillsSlice r a b bytes
   pub end : FillsEnd r a b
   pub draws : FillDraws (of_std r) a b
-  pub pending : OnPending r (FillPends a b cx)
-  pub refused : IfReadyErr r (λ _. WriterIsRefused b cx × (b.side.end.room ≡ 0))
+  pub pending : OnPending r (FillPends a b old left)
+  pub refused : IfReadyErr r (λ _. WriterIsRefused b old left × (b.side.end.room ≡ 0))
   pub woken : WakesReader a b
   pub rest : SameWriterButMoved a b
   pub ran : FillRan (Polling false) (of_std r) a b
@@ -194,5 +194,5 @@ pub record WritesAsFill (a b : Writer) (r : Count) (bytes : List ℕ)
 -- the writer, which has closed the pipe for good: it lends nothing any more
 pub record SameWriterButShut (a b : Writer) : Type 0 where
   pub handle : SameWriter (λ s t. t ≡ record s
-      { owns = t.owns; maybe_registered = false; taken = t.taken; stored = t.stored }) a b
+      { waits = false; taken = t.taken; stored = t.stored }) a b
   pub end : b.side.end ≡ record a.side.end { shut = true; saw = true; lent = [] }

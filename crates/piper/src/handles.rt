@@ -16,7 +16,7 @@ use rand_pcg::Pcg32;
 /// In clauses, functions of the reader say what it knows: `taken`, `known`, `capacity` and others.
 pub struct Reader {
     pub(crate) side: ReadSide<Waker>,
-    /// What its task waits at. A waker of it is called when it lies in its place no more.
+    /// What its task waits at. A waker of it is called when it lies in the slot no more.
     pub(crate) source: Source,
     pub(crate) rng: Pcg32,
 }
@@ -28,7 +28,7 @@ pub struct Reader {
 /// In clauses, functions of the writer say what it knows: `sent`, `room`, `capacity` and others.
 pub struct Writer {
     pub(crate) side: WriteSide<Waker>,
-    /// What its task waits at. A waker of it is called when it lies in its place no more.
+    /// What its task waits at. A waker of it is called when it lies in the slot no more.
     pub(crate) source: Source,
     pub(crate) rng: Pcg32,
 }

@@ -44,9 +44,9 @@ pub trait AsyncRead {
     // the other side was woken after all that this side stored
     ghost woken: { Self → Type 0 } = { λ _. ⊤ };
 
-    // what a read says besides, of the reader before and after it, the answer, the slice before and
-    // after, and the context: how many bytes it takes, for one
-    ghost says: { Self → Self → Count → List ℕ → List ℕ → Context → Type 0 } = { λ _ _ _ _ _ _. ⊤ };
+    // what a read says besides, of the reader before and after it, the answer, and the slice and the
+    // context before and after: how many bytes it takes, for one
+    ghost says: { Self → Self → Count → List ℕ → List ℕ → Context → Context → Type 0 } = { λ _ _ _ _ _ _ _. ⊤ };
 
     /// Takes bytes, and puts them at the front of `dest`.
     ///
@@ -61,7 +61,7 @@ pub trait AsyncRead {
         ensures end { (result ≡ Poll.Ready (Ok 0) → 0 < length dest.old → ended self.new)
             × (ended self.old →
             TakesNone result (ended self.new) (taken self.old) (taken self.new)) }
-        ensures says { says self.old self.new result dest.old dest.new cx.new }
+        ensures says { says self.old self.new result dest.old dest.new cx.old cx.new }
         ensures stays { (knows_end self.new ≡ knows_end self.old)
             × (saw self.old ≡ true → saw self.new ≡ true) × (woken self.old → woken self.new) }
         ensures pending { OnPending result (Covers cx.new (needs self.new)
@@ -106,8 +106,8 @@ pub trait AsyncBufRead {
     ghost woken: { Self → Type 0 } = { λ _. ⊤ };
 
     // what a poll says besides, of the reader before it and once the slice is given back, the
-    // answer, and the context
-    ghost lends: { Self → Self → Piece → Context → Type 0 } = { λ _ _ _ _. ⊤ };
+    // answer, and the context before and after
+    ghost lends: { Self → Self → Piece → Context → Context → Type 0 } = { λ _ _ _ _ _. ⊤ };
 
     // what a consume says besides, of the reader before and after it, and of how many bytes
     ghost consumes: { Self → Self → ℕ → Type 0 } = { λ _ _ _. ⊤ };
@@ -131,7 +131,7 @@ pub trait AsyncBufRead {
             × OnPending result ((knows_end new ≡ false) × waits new cx.new)
             × OnPending result (Covers cx.new (needs new))
             × (woken self.old → woken new)
-            × lends self.old new result cx.new)) }
+            × lends self.old new result cx.old cx.new)) }
         ensures kept { Keeps cx.old cx.new };
 
     /// Takes the first `amt` bytes of the piece.
@@ -174,8 +174,8 @@ pub trait AsyncWrite {
     ghost flushed: { Self → Type 0 } = { λ _. ⊤ };
 
     // what a write says besides, of the writer before and after it, the answer, the slice, and the
-    // context: how many bytes it publishes, for one
-    ghost says: { Self → Self → Count → List ℕ → Context → Type 0 } = { λ _ _ _ _ _. ⊤ };
+    // context before and after: how many bytes it publishes, for one
+    ghost says: { Self → Self → Count → List ℕ → Context → Context → Type 0 } = { λ _ _ _ _ _ _. ⊤ };
 
     // what a flush says besides, of the writer before and after it, the answer, and the context
     // before and after
@@ -193,7 +193,7 @@ pub trait AsyncWrite {
     /// Errors: those of the type. Nothing was published.
     fn poll_write(&mut self, cx: &mut Context<'_>, source: &[u8]) -> Poll<PipeResult<usize>>
         ensures written { Writes result source.now (sent self.old) (sent self.new) (saw self.new) }
-        ensures says { says self.old self.new result source.now cx.new }
+        ensures says { says self.old self.new result source.now cx.old cx.new }
         ensures error { IfReadyErr result (fails self.new cx.new) }
         ensures over { saw self.old ≡ true → (result ≡ Poll.Ready (Ok 0)) × (saw self.new ≡ true) }
         ensures pending { OnPending result

@@ -110,8 +110,8 @@ impl AsyncRead for OwnedEnd {
 
     ghost woken = { λ e. NotifiesWriter (reading e) };
 
-    ghost says = { λ a b r old new cx.
-        ReadsAsDrain (reading a) (reading b) r old new cx × (writing b ≡ writing a) };
+    ghost says = { λ a b r before after old left.
+        ReadsAsDrain (reading a) (reading b) r before after old left × (writing b ≡ writing a) };
 
     fn poll_read(
         &mut self,
@@ -143,8 +143,8 @@ impl AsyncBufRead for OwnedEnd {
 
     ghost woken = { λ e. NotifiesWriter (reading e) };
 
-    ghost lends = { λ a b r cx.
-        PollsPiece r (reading a) (reading b) cx × (writing b ≡ writing a) };
+    ghost lends = { λ a b r old left.
+        PollsPiece r (reading a) (reading b) old left × (writing b ≡ writing a) };
 
     ghost consumes = { λ a b n.
         Consumes (reading a) (reading b) n × (writing b ≡ writing a) };
@@ -171,8 +171,8 @@ impl AsyncWrite for OwnedEnd {
 
     ghost woken = { λ e. NotifiesReader (writing e) };
 
-    ghost says = { λ a b r bytes cx.
-        WritesAsFill (writing a) (writing b) r bytes cx × (reading b ≡ reading a) };
+    ghost says = { λ a b r bytes old left.
+        WritesAsFill (writing a) (writing b) r bytes old left × (reading b ≡ reading a) };
 
     ghost flushes = { λ a b r old left.
         Flushes (writing a) (writing b) r old left × (reading b ≡ reading a) };

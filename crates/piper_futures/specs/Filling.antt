@@ -37,11 +37,11 @@ FillWaits sent saw waits a b cx =
 -- a fill through a handle leaves it the same, and doesn't close the pipe itself. Where it is
 -- pending it published bytes, or saw the pipe closed meanwhile; or it waits as `poll_fill` does,
 -- and where there is room its generator drew a yield
-pub record FillsHandle {A : Type 0} (r : Poll A) (a b : Writer) (cx : Context) : Type 0 where
+pub record FillsHandle {A : Type 0} (r : Poll A) (a b : Writer) (old left : Context) : Type 0 where
   pub same : SameWriterButMoved a b
   pub pends : OnPending r
       (((length a.side.end.sent < length b.side.end.sent) ⊎ (b.side.end.saw ≡ true))
-      ⊎ (FillPends a b cx × (0 < b.side.end.room → DrawsYield a.rng)))
+      ⊎ (FillPends a b old left × (0 < b.side.end.room → DrawsYield a.rng)))
 
 -- the front of what the source gave was published, and all of it unless the pipe
 -- was seen closed; where it was seen closed before, the source gave none

@@ -66,7 +66,7 @@ impl AsyncFill for Writer {
         ensures error { IfReadyErr result (λ e. WantsWaker cx.new e ⊎ IsIo e) }
         ensures pending { OnPending result (Covers cx.new (λ s. s ≡ write_source self.new)
             × FillWaits sent saw WriterIsWaiting self.old self.new cx.new) }
-        ensures handle { FillsHandle result self.old self.new cx.new }
+        ensures handle { FillsHandle result self.old self.new cx.old cx.new }
         ensures woken { NotifiesReader self.old → NotifiesReader self.new }
         ensures kept { Keeps cx.old cx.new }
     {
@@ -114,7 +114,7 @@ impl AsyncFill for OwnedWriter {
         ensures error { IfReadyErr result (λ e. WantsWaker cx.new e ⊎ IsIo e) }
         ensures pending { OnPending result (Covers cx.new (λ s. s ≡ write_source self.new)
             × FillWaits sent saw WriterIsWaiting self.old self.new cx.new) }
-        ensures handle { FillsHandle result self.old self.new cx.new }
+        ensures handle { FillsHandle result self.old self.new cx.old cx.new }
         ensures woken { NotifiesReader self.old → NotifiesReader self.new }
         ensures kept { Keeps cx.old cx.new }
     {

@@ -1,11 +1,12 @@
 -- The seats may cross threads and be shared by them. Assumes nothing.
-use Rattle.piper_ring.proofs.Kit.{ℕ, Bool, true, false, List, ◌+◌, ◌-◌, length, Share, Fml, latest, at_least, Ptr, u8, IsSend, Common, sendable, slots, deeds, Names, State, flag, gone, where_gone, until_both, writer_knows, reader_knows, arrived_first, ends, blanks, memory, Inner, common, reader_owns, reader_lends, writer_owns, writer_lends, held_at, drop_list}
+use Rattle.piper_ring.proofs.Kit.{ℕ, Bool, true, false, List, ◌+◌, ◌-◌, length, Share, Fml, latest, at_least, Ptr, u8, IsSend, Common, sendable, slots, deeds, Names, State, flag, gone, where_gone, until_both, writer_knows, reader_knows, arrived_first, ends, blanks, memory, Inner, common, reader_owns, reader_lends, writer_owns, writer_lends, drop_list}
 use base.Shift.{Keyless}
 use Rattle.std.proofs.Crossing.{frees}
 use Rattle.piper_ring.specs.Block.{purpose, size_of_block}
 use Rattle.piper_cells.specs.Space.{lease}
-use Rattle.piper_ring.specs.Shared.{rights, spare}
-use Rattle.piper_ring.proofs.Evidence.{announced-Keyless, took-Keyless, raised-Keyless}
+use Rattle.piper_ring.specs.Shared.{rights, slot_of, spare}
+use Rattle.std.proofs.Common.{slice_index}
+use Rattle.piper_ring.proofs.Evidence.{evidence-Keyless}
 use Rattle.piper_cells.proofs.CellCrosses.{right-Keyless}
 use Rattle.piper_ring.proofs.PlacesLaws.{run-Keyless, span-Keyless}
 
@@ -26,17 +27,17 @@ module _ (w p : Ptr) (z : Names) where
   unfolding latest
   ends-Keyless b = tt
 
+  slot-Keyless : (r : Bool) → Keyless (slot_of w p z r)
+  slot-Keyless r s = ((λ _. tt), (tt, (right-Keyless true (slice_index z.cells s.0) s.1, λ b. ((λ _. tt), (evidence-Keyless z r b.1.1, (tt, tt))))))
+
   slots-Keyless : Keyless (slots w p z)
-  slots-Keyless = (
-    λ s. ((λ _. tt), ((tt, tt), ((tt, tt), (announced-Keyless z s.1.0.1.1.bytes s.1.0.1.1.closed, right-Keyless (held_at s.1.1).0 z.reader_place (held_at s.1.1).1)))),
-    λ s. ((λ _. tt), ((tt, tt), ((tt, tt), ((took-Keyless z s.1.0.1.1.count, raised-Keyless z.closed s.1.0.1.1.closed), right-Keyless (held_at s.1.1).0 z.writer_place (held_at s.1.1).1)))),
-  )
+  slots-Keyless = (slot-Keyless true, slot-Keyless false)
 
   rights-Keyless : Keyless (rights w p z)
   rights-Keyless = (frees.frees (record { memory = record { seal = tt } }) (purpose (size_of_block z.capacity)) w, ((λ _. tt), tt))
 
   deeds-Keyless : (u : State) → Keyless (deeds w p z u)
-  deeds-Keyless u = ((((((((tt, (tt, (tt, tt))), (tt, (tt, (tt, tt)))), tt), tt), tt), rights-Keyless), (where-Keyless (gone u.reader_stage) (lease z.life true) tt, where-Keyless (gone u.writer_stage) (lease z.life false) tt)), slots-Keyless)
+  deeds-Keyless u = ((((((((tt, (tt, (tt, tt))), (tt, tt)), tt), tt), tt), rights-Keyless), (where-Keyless (gone u.reader_stage) (lease z.life true) tt, where-Keyless (gone u.writer_stage) (lease z.life false) tt)), slots-Keyless)
 
   spare-Keyless : IsSend u8 → (k n : ℕ) → Keyless (spare w p z k n)
   spare-Keyless s k n xs = ((λ _. tt), run-Keyless p z.capacity s k xs)

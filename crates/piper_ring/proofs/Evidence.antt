@@ -1,6 +1,6 @@
--- What a mark reports can be had twice, and two marks give one that says what either says. Assumes
--- `Logic`.
-use Rattle.piper_ring.proofs.Kit.{◌≡◌, ℕ, ◌<◌, ◌≤◌, ◌⊎◌, inl, inr, Bool, true, false, List, [], ◌∷◌, max, leb, arith, Ura, numbers, at_least, SProp, ent, sep, ex, guard, emp, emp∗, Fml, Logic, sem, ‵, ◌⊛◌, some, given, ◌$◌, ◌∵◌, !, qed, by, move, split, pick, learn, check, show, use1, use2, done, drop as forget, Names, took, raised, announced, Stream, Reaches, streams, reaches_same}
+-- What a mark reports, and what a side has stored, can be had twice, and two marks give one that says
+-- what either says. Assumes `Logic`.
+use Rattle.piper_ring.proofs.Kit.{◌≡◌, ℕ, ◌<◌, ◌≤◌, ◌⊎◌, inl, inr, Bool, true, false, List, [], ◌∷◌, max, leb, arith, Ura, numbers, at_least, SProp, ent, sep, ex, guard, emp, emp∗, Fml, Logic, sem, ‵, ◌⊛◌, some, given, ◌$◌, ◌∵◌, !, qed, by, move, split, pick, learn, check, show, use1, use2, done, drop as forget, Names, took, raised, announced, evidence, Stored, fsplit, fjoin, Stream, Reaches, streams, reaches_same}
 use Rattle.std.proofs.lemmas.Bool.Decides.{leb_tells}
 use base.Growing.{Least}
 use base.Shift.{Keyless}
@@ -45,6 +45,12 @@ module _ {M : Type 1} {𝓤 : Ura M} (𝓛 : Logic 𝓤) (z : Names) where
       use2 𝓛 (some (λ (c : Stream). given (Least Reaches a b c) (‵ (at_least streams z.sent c)))) (at_least_join streams 𝓛 z.sent a b) $ pick ! (λ c. learn ! (λ least. forget ! $ move ! (1 ∷ 0 ∷ []) $
       by ! (chosen a b (in_line a.0 a.1 b.0 b.1 c least.0 least.1))))
 
+module _ {M : Type 1} {𝓤 : Ura M} (𝓛 : Logic 𝓤) (z : Names) where
+  pub evidence_twice : (r : Bool) (x : Stored) → ent 𝓤 (sem 𝓛 (evidence z r x)) (sep 𝓤 (sem 𝓛 (evidence z r x)) (sem 𝓛 (evidence z r x)))
+  evidence_twice true x = announced_twice 𝓛 z x.bytes x.closed
+  evidence_twice false x = let T : Fml = took z x.count in let S : Fml = raised z.closed x.closed in qed 𝓛 (‵ (evidence z false x) ∷ []) ∵ fsplit ! $ use1 𝓛 (‵ T ⊛ ‵ T) (took_twice 𝓛 z x.count) $ split ! $ move ! (2 ∷ []) $
+      use1 𝓛 (‵ S ⊛ ‵ S) (raised_twice 𝓛 z.closed x.closed) $ split ! $ move ! (2 ∷ 0 ∷ []) $ fjoin ! $ move ! (2 ∷ 1 ∷ []) $ fjoin ! $ done !
+
 pub took-Keyless : (z : Names) (n : ℕ) → Keyless (took z n)
 unfolding at_least
 took-Keyless z n = tt
@@ -57,3 +63,7 @@ raised-Keyless γ true = tt
 pub announced-Keyless : (z : Names) (xs : List ℕ) (b : Bool) → Keyless (announced z xs b)
 unfolding at_least
 announced-Keyless z xs b = tt
+
+pub evidence-Keyless : (z : Names) (r : Bool) (x : Stored) → Keyless (evidence z r x)
+evidence-Keyless z true x = announced-Keyless z x.bytes x.closed
+evidence-Keyless z false x = (took-Keyless z x.count, raised-Keyless z.closed x.closed)

@@ -1,6 +1,6 @@
 -- An end leaves: it closes the ring, and then gives up its places; the second one to leave gets all
 -- of the memory. Assumes `Logic`.
-use Rattle.piper_ring.proofs.Kit.{held_at, with_waiter, fwand, ◌≡◌, ℕ, zero, suc, ◌+◌, ◌-◌, ◌*◌, ◌≤◌, Bool, true, false, List, [], ◌∷◌, length, sym, refl, ap, ◌∙◌, subst, arith, Ura, numbers, latest, SProp, ent, sep, upd, ex, via, upd_i, Share, Fml, ftrue, fsep, Logic, sem, latest_grows, latest_shows, ‵, raw, ◌⊛◌, some, given, ◌$◌, ◌∵◌, !, qed, by, move, keep, split, split3, fsplit, fsplit3, fjoin, fjoin3, fpick, fpack, pick, learn, show, frame, assume, settle, suffices, rewrite, use1, use2, use3, done, drop as forget, Ptr, block_ptr, block_of, count_of, nothing, asks, always, Lies, length-drop, span_join, span_map, span, array_of, Ty, w64, ty_int, lone, apply∗, id⊢, froom, fex, unset, full_share, u8, slot_of as offset_of, Names, State, Holds, half, other, flag, gone, until_both, where_gone, word, word_room, all_rooms, slots, blanks, memory, writer_knows, reader_knows, ends, raised, state_holds, Inner, common, drop_list}
+use Rattle.piper_ring.proofs.Kit.{fwand, ◌<◌, Lying, slot_word, slot_rooms, ◌≡◌, ℕ, zero, suc, ◌+◌, ◌-◌, ◌*◌, ◌≤◌, Bool, true, false, List, [], ◌∷◌, length, sym, refl, ap, ◌∙◌, subst, arith, Ura, numbers, latest, SProp, ent, sep, upd, ex, via, upd_i, Share, Fml, ftrue, fsep, Logic, sem, latest_grows, latest_shows, ‵, raw, ◌⊛◌, some, given, ◌$◌, ◌∵◌, !, qed, by, move, keep, split, split3, fsplit, fsplit3, fjoin, fjoin3, fpick, fpack, pick, learn, show, frame, assume, settle, suffices, rewrite, use1, use2, use3, done, drop as forget, Ptr, block_ptr, block_of, count_of, nothing, asks, always, Lies, length-drop, span_join, span_map, span, array_of, Ty, w64, ty_int, lone, apply∗, id⊢, froom, fex, unset, full_share, u8, slot_of as offset_of, Names, State, Holds, half, other, flag, gone, until_both, where_gone, word, word_room, all_rooms, slots, blanks, memory, writer_knows, reader_knows, ends, raised, state_holds, Inner, common, drop_list}
 use Rattle.rtrb.proofs.Spans.{ring_in}
 use Rattle.piper_ring.proofs.PlacesParts.{forgets}
 use mir.Raw.{raw as bare}
@@ -8,10 +8,7 @@ use Rattle.piper_ring.specs.Places.{fact}
 use Rattle.piper_ring.proofs.Steps.{flag_small, Rest, OneStays, ReaderSees, WriterSees, reader_opens, writer_opens, closes, inside, raise}
 use Rattle.piper_cells.specs.Space.{lease}
 use Rattle.piper_ring.specs.Block.{space_room}
-use types.Kit.{group}
-use Rattle.piper_ring.specs.Shared.{block_room, bytes_room, found_left, four_rooms, frame as frame_of, leases, left_in, one_gone, titles, wakers_left, whole}
-use Rattle.piper_ring.specs.Slot.{Where, flag_of, held}
-use Rattle.piper_ring.specs.Slot.Where.{in_slot, with_taker, handed_back}
+use Rattle.piper_ring.specs.Shared.{block_room, bytes_room, found_left, four_rooms, frame as frame_of, leases, left_in, one_gone, slot_of as slot_in, titles, wakers_left, whole}
 
 pub here : (i : ℕ) → i ≤ 1 → gone i ≡ false
 here zero le = refl
@@ -82,32 +79,24 @@ module _ {M : Type 1} {𝓤 : Ura M} (𝓛 : Logic 𝓤) (w p : Ptr) (z : Names)
   abbrev u : Ty
   u = ty_int w64
 
-  -- a slot's flag says whether a waker lies in its place
-  left_of : (far place : ℕ) (v : Where) → ⟦ word w far (flag_of v) ⟧ ∗ ⟦ held place (held_at v) ⟧ ⊢ ⟦ left_in w p z far place ⟧
-  left_of far place in_slot = qed 𝓛 (‵ (word w far 1) ∷ ‵ (held place (true, true)) ∷ []) ∵ fjoin ! $ fpack ! Bool (found_left w p z far place) true $ done !
-  left_of far place with_waiter = qed 𝓛 (‵ (word w far 0) ∷ ‵ (held place (false, false)) ∷ []) ∵ fjoin ! $ fpack ! Bool (found_left w p z far place) false $ done !
-  left_of far place with_taker = qed 𝓛 (‵ (word w far 0) ∷ ‵ (held place (false, false)) ∷ []) ∵ fjoin ! $ fpack ! Bool (found_left w p z far place) false $ done !
-  left_of far place handed_back = qed 𝓛 (‵ (word w far 0) ∷ ‵ (held place (true, false)) ∷ []) ∵ keep ! (0 ∷ []) $ nothing ! $ move ! (1 ∷ 0 ∷ []) $ fjoin ! $ fpack ! Bool (found_left w p z far place) false $ done !
+  -- a slot's word says which cell lies there
+  left_of : (r : Bool) → ⟦ slot_in w p z r ⟧ ⊢ ⟦ left_in w p z (slot_word r * 8) ⟧
+  left_of r = qed 𝓛 (‵ (slot_in w p z r) ∷ []) ∵ fpick ! (λ s. fsplit3 ! $ fpick ! (λ there. forget ! $ move ! (1 ∷ []) $ fsplit ! $ move ! (1 ∷ []) $ forget ! $ move ! (1 ∷ 0 ∷ []) $ fjoin ! $
+      nothing ! $ fpack ! (s.0 < 4) (λ _. ftrue) there $ fjoin ! $ fpack ! Lying (found_left w p z (slot_word r * 8)) s $ done !))
 
-  -- of the slots' words the flags are kept, and the others are room again
-  slots_end : ⟦ slots w p z ⟧ ⊢ ⟦ wakers_left w p z ⟧ ∗ ⟦ word_room w 152 ⟧ ∗ ⟦ word_room w 80 ⟧
-  slots_end = let b : ℕ = block_of w in let o : ℕ = count_of w in qed 𝓛 (‵ (slots w p z) ∷ []) ∵ fsplit ! $
-      fpick ! (λ s. fsplit3 ! $ forget ! $ fsplit ! $ move ! (2 ∷ []) $ fsplit3 ! $ forget ! $ forget ! $ move ! (1 ∷ 0 ∷ []) $ use2 𝓛 (‵ (left_in w p z 144 z.reader_place)) (left_of 144 z.reader_place s.1.1) $
-      move ! (2 ∷ []) $ fpick ! (λ t. fsplit3 ! $ forget ! $ fsplit ! $ move ! (2 ∷ []) $ fsplit3 ! $ forget ! $ forget ! $ move ! (1 ∷ 0 ∷ []) $ use2 𝓛 (‵ (left_in w p z 72 z.writer_place)) (left_of 72 z.writer_place t.1.1) $
-      move ! (2 ∷ 0 ∷ []) $ fjoin ! $ frame ! $ use1 𝓛 (‵ (word_room w 80)) (𝓛.laws.at_room u b (80 + o) _) $ move ! (1 ∷ []) $ use1 𝓛 (‵ (word_room w 152)) (𝓛.laws.at_room u b (152 + o) _) $ done !))
+  slots_end : ⟦ slots w p z ⟧ ⊢ ⟦ wakers_left w p z ⟧
+  slots_end = qed 𝓛 (‵ (slots w p z) ∷ []) ∵ fsplit ! $ use1 𝓛 (‵ (left_in w p z 144)) (left_of true) $ move ! (1 ∷ []) $ use1 𝓛 (‵ (left_in w p z 112)) (left_of false) $ move ! (1 ∷ 0 ∷ []) $ fjoin ! $ done !
 
-  -- the words and the bytes make the block, but for the space and the flags
-  frames : ⟦ four_rooms w ⟧ ∗ ⟦ fsep (word_room w 152) (word_room w 80) ⟧ ∗ ⟦ fwand (fsep (fsep (all_rooms w) (space_room w)) (bytes_room w p z)) (block_room w p z) ⟧ ∗ ⟦ bytes_room w p z ⟧ ⊢ ⟦ frame_of w p z ⟧
+  -- the words and the bytes make the block, but for the space and the slots' words
+  frames : ⟦ four_rooms w ⟧ ∗ ⟦ fwand (fsep (fsep (all_rooms w) (space_room w)) (bytes_room w p z)) (block_room w p z) ⟧ ∗ ⟦ bytes_room w p z ⟧ ⊢ ⟦ frame_of w p z ⟧
   frames = let Used : Fml = fsep (fsep (all_rooms w) (space_room w)) (bytes_room w p z) in
-      qed 𝓛 (‵ (four_rooms w) ∷ ‵ (fsep (word_room w 152) (word_room w 80)) ∷ ‵ (fwand Used (block_room w p z)) ∷ ‵ (bytes_room w p z) ∷ []) ∵ assume ! (‵ (fsep (space_room w) (fsep (word_room w 144) (word_room w 72)))) $ fsplit3 ! $
-      -- [the space; the flags; four words; the other words of the slots; the way back; the bytes]
-      move ! (4 ∷ []) $ fsplit ! $ move ! (4 ∷ 1 ∷ []) $ fjoin ! $ move ! (3 ∷ 1 ∷ 0 ∷ []) $ fjoin3 ! $ move ! (2 ∷ 0 ∷ []) $ fjoin ! $ move ! (0 ∷ 1 ∷ []) $ fjoin ! $ move ! (0 ∷ 2 ∷ []) $ fjoin ! $
-      by ! (apply∗ 𝓤 ⟦ Used ⟧ ⟦ block_room w p z ⟧)
+      qed 𝓛 (‵ (four_rooms w) ∷ ‵ (fwand Used (block_room w p z)) ∷ ‵ (bytes_room w p z) ∷ []) ∵ assume ! (‵ (fsep (space_room w) (slot_rooms w))) $ fsplit ! $
+      -- [the space; the slots' words; four words; the way back; the bytes]
+      move ! (2 ∷ 1 ∷ []) $ fjoin ! $ fjoin ! $ move ! (0 ∷ 2 ∷ []) $ fjoin ! $ by ! (apply∗ 𝓤 ⟦ Used ⟧ ⟦ block_room w p z ⟧)
 
-  -- with the room of the flags, the frame lacks the space alone
-  pub frame_rejoins : ⟦ fsep (word_room w 144) (word_room w 72) ⟧ ∗ ⟦ frame_of w p z ⟧ ⊢ ⟦ fwand (space_room w) (block_room w p z) ⟧
-  frame_rejoins = let Flags : Fml = fsep (word_room w 144) (word_room w 72) in
-      qed 𝓛 (‵ Flags ∷ ‵ (frame_of w p z) ∷ []) ∵ assume ! (‵ (space_room w)) $ move ! (0 ∷ 1 ∷ []) $ fjoin ! $ by ! (apply∗ 𝓤 ⟦ fsep (space_room w) Flags ⟧ ⟦ block_room w p z ⟧)
+  -- with the room of the slots' words, the frame lacks the space alone
+  pub frame_rejoins : ⟦ slot_rooms w ⟧ ∗ ⟦ frame_of w p z ⟧ ⊢ ⟦ fwand (space_room w) (block_room w p z) ⟧
+  frame_rejoins = qed 𝓛 (‵ (slot_rooms w) ∷ ‵ (frame_of w p z) ∷ []) ∵ assume ! (‵ (space_room w)) $ fjoin ! $ by ! (apply∗ 𝓤 ⟦ fsep (space_room w) (slot_rooms w) ⟧ ⟦ block_room w p z ⟧)
 
   -- once both ends are gone, the words and the places that each gave up are all of the memory
   gathers : (s : State) → Holds cap s → gone s.reader_stage ≡ true → gone s.writer_stage ≡ true → ⟦ memory w p z s ⟧ ⊢ ⟦ whole w p z ⟧
@@ -124,9 +113,9 @@ module _ {M : Type 1} {𝓤 : Ura M} (𝓛 : Logic 𝓤) (w p : Ptr) (z : Names)
       use2 𝓛 (‵ (span U s.head cap)) (span_join 𝓛 U (s.limit - s.head) s.head s.limit (length ys) cap (omega arith) (omega arith)) $
       use1 𝓛 (‵ (froom (array_of u8 cap) (block_of p) (count_of p))) (as_array s.head) $ move ! (1 ∷ []) $ fsplit ! $ fsplit ! $ fsplit ! $ move ! (2 ∷ []) $
       rewrite ! 0 (λ (c : Bool × Bool). ‵ (leases w p z c.0 c.1)) {x = (true, true)} {y = (gone s.reader_stage, gone s.writer_stage)} (λ j. (gr j, gw j)) refl $
-      move ! (3 ∷ []) $ use1 𝓛 (‵ (wakers_left w p z) ⊛ ‵ (word_room w 152) ⊛ ‵ (word_room w 80)) slots_end $ split3 ! $ move ! (1 ∷ 2 ∷ []) $ fjoin ! $
-      -- [the other words; the wakers that are left; the leases; the way back; the rights; the bytes; four words]
-      move ! (6 ∷ 0 ∷ 3 ∷ 5 ∷ []) $ group ! 4 $ use1 𝓛 (‵ (frame_of w p z)) frames $ fjoin ! $ move ! (0 ∷ 2 ∷ 1 ∷ []) $ fjoin3 ! $ done !))
+      move ! (3 ∷ []) $ use1 𝓛 (‵ (wakers_left w p z)) slots_end $
+      -- [the wakers that are left; the leases; the way back; the rights; the bytes; four words]
+      move ! (5 ∷ 2 ∷ 4 ∷ []) $ use3 𝓛 (‵ (frame_of w p z)) frames $ fjoin ! $ move ! (0 ∷ 2 ∷ 1 ∷ []) $ fjoin3 ! $ done !))
 
   abbrev one : ℕ → ℕ
   one _ = 1

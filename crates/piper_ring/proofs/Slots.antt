@@ -1,126 +1,86 @@
 -- The steps of both sides on a slot. Assumes `Logic`.
-use Rattle.piper_ring.proofs.Kit.{◌*◌, ◌^◌, ◌<◌, lit<, flag, ◌≡◌, ℕ, ◌+◌, ◌≤◌, ◌⊎◌, inl, inr, Bool, true, false, List, [], ◌∷◌, sym, refl, ◌∙◌, subst, arith, Ura, SProp, ent, sep, upd, ex, guard, upd_i, apply∗, Share, Fml, ftrue, fsep, fex, fwand, fobs, Logic, sem, ‵, raw, ◌⊛◌, some, given, ◌$◌, ◌∵◌, !, qed, by, move, keep, split, split3, fsplit, fsplit3, fjoin, fjoin3, fpick, fpack, pick, learn, check, show, frame, assume, settle, suffices, rewrite, use1, use2, done, drop as forget, Ptr, block_ptr, block_of, count_of, nothing, asks, always, Lies, with_waiter, held_at, Waits, Wakes, IsWhere, Slot, code_of, slot, slot_at, Looks, Takes, GivesBack, PublishesWaker, Reclaims, IsRemembered, Names, State, Holds, other, word, reader_knows, writer_knows, slots, Inner, common, Order, numbers, latest, latest_shows, Stream, streams, reaches_same, took, raised, Stored, as_stored, stored_code, Known, by_reader, by_writer, knows, evidence, flag_word, waker_place, waits_in, wakes_in}
+use Rattle.piper_ring.proofs.Kit.{◌*◌, ◌^◌, ◌<◌, lit<, flag, ◌≡◌, ℕ, ◌+◌, ◌≤◌, ◌⊎◌, inl, inr, Bool, true, false, List, [], ◌∷◌, sym, refl, subst, arith, Ura, SProp, ent, sep, upd, ex, guard, upd_i, apply∗, Share, Fml, ftrue, fsep, fex, fwand, fobs, Logic, sem, ‵, raw, ◌⊛◌, some, given, ◌$◌, ◌∵◌, !, qed, by, move, keep, split, split3, fsplit, fsplit3, fjoin, fjoin3, fpick, fpack, pick, learn, check, show, frame, assume, settle, suffices, rewrite, use1, use2, done, drop as forget, Ptr, block_ptr, block_of, count_of, nothing, asks, always, Lies, Lying, number, is_odd, Waits, Wakes, AreAt, Exchanges, IsTicket, waits_code, wakes_code, both_at, both, cell, slot_at, slot, IsRemembered, Names, State, Holds, other, word, reader_knows, writer_knows, slots, Inner, common, Order, numbers, latest, latest_shows, Stream, streams, reaches_same, took, raised, Stored, as_stored, stored_code, Known, by_reader, by_writer, knows, evidence, slot_word, waits_in, wakes_in}
+use Rattle.std.proofs.Common.{◌%◌, ◌==◌, ap}
 use Rattle.std.proofs.lemmas.Bool.{false≢true}
-use base.Stored.{Gv}
 use base.Fml.{fauth}
 use types.Tokens.{name_agree}
 use Rattle.std.specs.Coded.{Coded}
 use Rattle.piper_ring.specs.Places.{fact}
-use Rattle.piper_ring.specs.Slot.{Where, in_slot, with_taker, handed_back, Held, held, flag_of, back_of}
 use Rattle.piper_ring.specs.Shared.{slot_of, waiter, waker}
-use Rattle.piper_ring.proofs.Evidence.{announced_twice, took_twice, raised_twice}
+use Rattle.piper_ring.proofs.Evidence.{evidence_twice}
 use Rattle.piper_ring.proofs.Steps.{flag_small, inside, Rest, OneStays, ReaderSees, WriterSees, reader_opens, writer_opens, closes}
 
-pub flag_fits : (r : Bool) → flag_word r * 8 < 2 ^ 64
-flag_fits true = lit< tt
-flag_fits false = lit< tt
+pub word_fits : (r : Bool) → slot_word r * 8 < 2 ^ 64
+word_fits true = lit< tt
+word_fits false = lit< tt
 
-pub back_fits : (r : Bool) → 8 + flag_word r * 8 < 2 ^ 64
-back_fits true = lit< tt
-back_fits false = lit< tt
-
--- a step on a word makes f of what is there, and leaves the other word
-abbrev pub OnFlag : (ℕ → ℕ) → Where → Where → Type 0
-OnFlag f at at' = (f (flag_of at) ≡ flag_of at') × (back_of at ≡ back_of at')
-
-abbrev pub OnBack : (ℕ → ℕ) → Where → Where → Type 0
-OnBack f at at' = (f (back_of at) ≡ back_of at') × (flag_of at ≡ flag_of at')
-
--- what two hands hold stays where it is, or changes hands
-abbrev pub Passes : Held → Held → Held → Held → Type 0
-Passes u v u' v' = ((u ≡ u') × (v ≡ v')) ⊎ ((u ≡ v') × (v ≡ u'))
-
-abbrev none : Held
-none = (false, false)
-
-abbrev pub filled : Held
-filled = (true, true)
-
-abbrev pub emptied : Held
-emptied = (true, false)
-
-one_bit : (at : Where) → flag_of at ≤ 1
-one_bit with_waiter = omega arith
-one_bit in_slot = omega arith
-one_bit with_taker = omega arith
-one_bit handed_back = omega arith
-
--- nothing is held, as the side's own state says
-holds_none : (y : Bool) → y ≡ false → none ≡ (y, y)
-holds_none y e i = (sym e i, sym e i)
+-- the word says by its lowest bit whether a waker is there
+pub odd_number : (s : Lying) → is_odd (number s) ≡ s.1
+odd_number (i, true) = let e : (2 * i + 1) % 2 ≡ 1 = omega arith in ap (λ (m : ℕ). m == 1) e
+odd_number (i, false) = let e : (2 * i + 0) % 2 ≡ 0 = omega arith in ap (λ (m : ℕ). m == 1) e
 
 module _ {X : Type 0} where
-  -- it wakes: b becomes b', what it had stored at its last check is x or what it was, and it holds
-  -- u' and no longer u
-  abbrev pub WakesTo : (Where → Where → Type 0) → (ℕ → Wakes X → Held → Type 0) → ℕ → X → Held → Waits X → Wakes X → Where → Type 0
-  WakesTo on then n x u a b at =
-      (b' : Wakes X) × (at' : Where) × (u' : Held) × on at at' × IsWhere X at' a b' × ((b'.1.1 ≡ x) ⊎ (b'.1.1 ≡ b.1.1)) × then n b' u'
-      × Passes u (held_at at) u' (held_at at')
+  -- what the side that waits becomes when a cell goes into its slot, if the other had stored x
+  abbrev after : Bool → Waits X → X → Waits X
+  after true a x = (true, (a.1.0 + 1, x))
+  after false a x = (false, a.1)
 
-  abbrev pub WaitsTo : (Where → Where → Type 0) → (ℕ → X → Waits X → Held → Type 0) → ℕ → Held → Waits X → Wakes X → Where → Type 0
-  WaitsTo on then n u a b at = (a' : Waits X) × (at' : Where) × (u' : Held) × on at at' × IsWhere X at' a' b × then n b.1.1 a' u'
-      × Passes u (held_at at) u' (held_at at')
+  goes_in : (filled full : Bool) (a : Waits X) (b : Wakes X) → AreAt X full a b → AreAt X filled (after filled a b.1) b
+  goes_in true true a b h = let lt = h.2 in (refl, refl, omega arith)
+  goes_in true false a b h = let le = h.0 in (refl, refl, omega arith)
+  goes_in false true a b h = let lt = h.2 in (omega arith, λ no. absurd (false≢true no))
+  goes_in false false a b h = (h.0, λ no. absurd (false≢true no))
 
-  -- it took the waker, and with it the place where it lies; or it took nothing
-  abbrev pub TakesHeld : Wakes X → X → ℕ → Wakes X → Held → Type 0
-  TakesHeld b x n b' u = Takes X b x n b' × (u ≡ (b'.0, b'.0))
+  exchanges : (filled : Bool) (a : Waits X) (x : X) → Exchanges X filled a (after filled a x)
+  exchanges true a x = refl
+  exchanges false a x = refl
 
-  -- the waker came back with its place, or nothing did
-  abbrev pub Cancels : Waits X → ℕ → X → Waits X → Held → Type 0
-  Cancels a n x a' u = Reclaims X a x n a' × (u ≡ (a'.0, a'.0))
+  waited : (full : Bool) (a : Waits X) (b : Wakes X) → AreAt X full a b → full ≡ true → a.0 ≡ true
+  waited true a b h e = h.0
+  waited false a b h e = absurd (false≢true e)
 
-  -- the place came back, with nothing in it, or it did not
-  abbrev pub ReclaimsHeld : Waits X → ℕ → X → Waits X → Held → Type 0
-  ReclaimsHeld a n x a' u = Reclaims X a x n a' × (u ≡ (a'.0, false))
+  -- what the side that waits is after a load of its slot
+  abbrev pub seen_own : Bool → Waits X → Waits X
+  seen_own true a = a
+  seen_own false a = (false, a.1)
 
-  -- a load of the flag leaves the side that waits as it was
-  abbrev pub StaysSo : Waits X → ℕ → X → Waits X → Held → Type 0
-  StaysSo a n x a' u = (n ≤ 1) × (a' ≡ a)
+  own_seen : (full : Bool) (a : Waits X) (b : Wakes X) → AreAt X full a b → AreAt X full (seen_own full a) b
+  own_seen true a b h = h
+  own_seen false a b h = (h.0, λ no. absurd (false≢true no))
 
-  stays_so : (a : Waits X) (b : Wakes X) (at : Where) → IsWhere X at a b → WaitsTo (OnFlag (λ n. n)) (StaysSo a) (flag_of at) none a b at
-  stays_so a b at h = (a, at, none, (refl, refl), h, (one_bit at, refl), inl (refl, refl))
+  -- what the side that wakes is after a load of the slot, if it has stored x
+  abbrev pub seen_other : Bool → Wakes X → X → Wakes X
+  seen_other true b x = b
+  seen_other false b x = (b.0, x)
 
-  looks : (b : Wakes X) (x : X) → b.0 ≡ false → (a : Waits X) (at : Where) → IsWhere X at a b → WakesTo (OnFlag (λ n. n)) (λ n b' _. Looks X b x n b') (flag_of at) x none a b at
-  looks b x rests a with_waiter h = ((b.0, (b.1.0, x)), with_waiter, none, (refl, refl), h, inl refl, (omega arith, (λ _. refl), λ n. absurd (n refl)), inl (refl, refl))
-  looks b x rests a in_slot h = (b, in_slot, none, (refl, refl), h, inr refl, (omega arith, (λ (e : 1 ≡ 0). absurd (omega arith)), λ _. refl), inl (refl, refl))
-  looks b x rests a with_taker h = absurd (false≢true (sym rests ∙ h.1))
-  looks b x rests a handed_back h = ((b.0, (b.1.0, x)), handed_back, none, (refl, refl), h, inl refl, (omega arith, (λ _. refl), λ n. absurd (n refl)), inl (refl, refl))
+  other_seen : (full : Bool) (a : Waits X) (b : Wakes X) (x : X) → AreAt X full a b → AreAt X full a (seen_other full b x)
+  other_seen true a b x h = h
+  other_seen false a b x h = h
 
-  takes : (b : Wakes X) (x : X) → b.0 ≡ false → (a : Waits X) (at : Where) → IsWhere X at a b → WakesTo (OnFlag (λ _. 0)) (TakesHeld b x) (flag_of at) x none a b at
-  takes b x rests a with_waiter h = ((b.0, (b.1.0, x)), with_waiter, none, (refl, refl), h, inl refl, ((omega arith, (λ _. refl), λ n. absurd (n refl)), holds_none b.0 rests), inl (refl, refl))
-  takes b x rests a in_slot h = ((true, (a.1.0, x)), with_taker, filled, (refl, refl), (h.0, refl, refl), inl refl, ((omega arith, (λ (e : 1 ≡ 0). absurd (omega arith)), λ _. (a.1.0, h.3, refl)), refl), inr (refl, refl))
-  takes b x rests a with_taker h = absurd (false≢true (sym rests ∙ h.1))
-  takes b x rests a handed_back h = ((b.0, (b.1.0, x)), handed_back, none, (refl, refl), h, inl refl, ((omega arith, (λ _. refl), λ n. absurd (n refl)), holds_none b.0 rests), inl (refl, refl))
+  pub own_stays : (full : Bool) (a v : Waits X) → v ≡ seen_own full a → full ≡ true → v ≡ a
+  own_stays true a v e is = e
+  own_stays false a v e is = absurd (false≢true is)
 
-  gives_back : (b : Wakes X) (x : X) → b.0 ≡ true → (a : Waits X) (at : Where) → IsWhere X at a b → WakesTo (OnBack (λ _. 1)) (λ n b' _. GivesBack X b x n b') (back_of at) x emptied a b at
-  gives_back b x holds a with_waiter h = absurd (false≢true (sym h.1 ∙ holds))
-  gives_back b x holds a in_slot h = absurd (false≢true (sym h.1 ∙ holds))
-  gives_back b x holds a with_taker h = ((false, b.1), handed_back, none, (refl, refl), (h.0, refl, h.2), inr refl, refl, inr (refl, refl))
-  gives_back b x holds a handed_back h = absurd (false≢true (sym h.1 ∙ holds))
+  pub own_gone : (full : Bool) (a v : Waits X) → v ≡ seen_own full a → full ≡ false → v ≡ (false, a.1)
+  own_gone true a v e is = absurd (false≢true (sym is))
+  own_gone false a v e is = e
 
-  publishes_waker : (a : Waits X) → a.0 ≡ true → (b : Wakes X) (at : Where) → IsWhere X at a b → WaitsTo (OnFlag (λ _. 1)) (λ n x a' _. PublishesWaker X a x n a') (flag_of at) filled a b at
-  publishes_waker a owns b with_waiter h = let le = h.2 in ((false, (a.1.0 + 1, b.1.1)), in_slot, none, (refl, refl), (refl, h.1, refl, omega arith), refl, inr (refl, refl))
-  publishes_waker a owns b in_slot h = absurd (false≢true (sym h.0 ∙ owns))
-  publishes_waker a owns b with_taker h = absurd (false≢true (sym h.0 ∙ owns))
-  publishes_waker a owns b handed_back h = absurd (false≢true (sym h.0 ∙ owns))
+  pub other_stays : (full : Bool) (b v : Wakes X) (x : X) → v ≡ seen_other full b x → full ≡ true → v ≡ b
+  other_stays true b v x e is = e
+  other_stays false b v x e is = absurd (false≢true is)
 
-  cancels : (a : Waits X) → a.0 ≡ false → (b : Wakes X) (at : Where) → IsWhere X at a b → WaitsTo (OnFlag (λ _. 0)) (Cancels a) (flag_of at) none a b at
-  cancels a gave b with_waiter h = absurd (false≢true (sym gave ∙ h.0))
-  cancels a gave b in_slot h = let lt = h.3 in ((true, a.1), with_waiter, filled, (refl, refl), (refl, h.1, omega arith), ((omega arith, (λ (e : 1 ≡ 0). absurd (omega arith)), λ _. refl), refl), inr (refl, refl))
-  cancels a gave b with_taker h = (a, with_taker, none, (refl, refl), h, ((omega arith, (λ _. refl), λ n. absurd (n refl)), holds_none a.0 gave), inl (refl, refl))
-  cancels a gave b handed_back h = (a, handed_back, none, (refl, refl), h, ((omega arith, (λ _. refl), λ n. absurd (n refl)), holds_none a.0 gave), inl (refl, refl))
+  pub other_gone : (full : Bool) (b v : Wakes X) (x : X) → v ≡ seen_other full b x → full ≡ false → v ≡ (b.0, x)
+  other_gone true b v x e is = absurd (false≢true (sym is))
+  other_gone false b v x e is = e
 
-  reclaims : (a : Waits X) → a.0 ≡ false → (b : Wakes X) (at : Where) → IsWhere X at a b → WaitsTo (OnBack (λ _. 0)) (ReclaimsHeld a) (back_of at) none a b at
-  reclaims a gave b with_waiter h = absurd (false≢true (sym gave ∙ h.0))
-  reclaims a gave b in_slot h = (a, in_slot, none, (refl, refl), h, ((omega arith, (λ _. refl), λ n. absurd (n refl)), λ i. (sym gave i, false)), inl (refl, refl))
-  reclaims a gave b with_taker h = (a, with_taker, none, (refl, refl), h, ((omega arith, (λ _. refl), λ n. absurd (n refl)), λ i. (sym gave i, false)), inl (refl, refl))
-  reclaims a gave b handed_back h = let same = h.2 in ((true, a.1), with_waiter, emptied, (refl, refl), (refl, h.1, omega arith), ((omega arith, (λ (e : 1 ≡ 0). absurd (omega arith)), λ _. refl), refl), inr (refl, refl))
+  -- it empties the slot, and takes the last ticket, or none was there
+  comes_out : (full : Bool) (a : Waits X) (b : Wakes X) (x : X) → AreAt X full a b → (t : ℕ) × IsTicket full b.0 t × AreAt X false a (t, x)
+  comes_out true a b x h = (a.1.0, h.2, (omega arith, λ _. refl))
+  comes_out false a b x h = (b.0, refl, h)
 
-  pub remembers : (a : Waits X) (b : Wakes X) (at : Where) → IsWhere X at a b → IsRemembered X a b
-  remembers a b with_waiter h gave rests new = absurd (false≢true (sym gave ∙ h.0))
-  remembers a b in_slot h gave rests new = absurd (new h.2)
-  remembers a b with_taker h gave rests new = absurd (false≢true (sym rests ∙ h.1))
-  remembers a b handed_back h gave rests new = h.2
+  pub remembers : (full : Bool) (a : Waits X) (b : Wakes X) → AreAt X full a b → IsRemembered X a b
+  remembers true a b h waits new = absurd (new h.1)
+  remembers false a b h waits new = h.1 waits
 
 module _ {M : Type 1} {𝓤 : Ura M} (𝓛 : Logic 𝓤) (w p : Ptr) (z : Names) where
   open 𝓛 use {H, A}
@@ -187,118 +147,184 @@ module _ {M : Type 1} {𝓤 : Ura M} (𝓛 : Logic 𝓤) (w p : Ptr) (z : Names)
   writers_own K h = let F : Fml = slot_of w p z false in let S : Fml = slots w p z in qed 𝓛 (‵ I ∷ ‵ K ∷ []) ∵ use2 𝓛 (‵ K ⊛ ‵ S ⊛ ‵ (fwand S I)) h $ split3 ! $ frame ! $
       fsplit ! $ move ! (1 ∷ []) $ frame ! $ assume ! (‵ F) $ move ! (1 ∷ 0 ∷ []) $ fjoin ! $ by ! (apply∗ 𝓤 ⟦ S ⟧ ⟦ I ⟧)
 
-  -- what is in one of two hands stays there or goes to the other
-  passes : (ι : ℕ) (u v u' v' : Held) → Passes u v u' v' → ⟦ held ι v ⟧ ∗ ⟦ held ι u ⟧ ⊢ ⟦ held ι v' ⟧ ∗ ⟦ held ι u' ⟧
-  passes ι u v u' v' (inl e) = qed 𝓛 (‵ (held ι v) ∷ ‵ (held ι u) ∷ []) ∵ rewrite ! 0 (λ (w : Held). ‵ (held ι w)) e.1 refl $ rewrite ! 1 (λ (w : Held). ‵ (held ι w)) e.0 refl $ done !
-  passes ι u v u' v' (inr e) = qed 𝓛 (‵ (held ι v) ∷ ‵ (held ι u) ∷ []) ∵ rewrite ! 0 (λ (w : Held). ‵ (held ι w)) e.1 refl $ rewrite ! 1 (λ (w : Held). ‵ (held ι w)) e.0 refl $ move ! (1 ∷ 0 ∷ []) $ done !
-
-  module _ {X : Type 0} (far γ δ ι : ℕ) (c : Coded X) (shows : X → Fml) (K : Fml) where
+  module _ {X : Type 0} (far : ℕ) (γ δ : ℕ) (c : Coded X) (shows : X → Fml) (K : Fml) where
     abbrev F : Fml
-    F = slot w far γ δ ι c shows
+    F = slot w far z.cells γ δ c shows
 
-    -- the right to the place, where it is there
-    abbrev Token : Held → Fml
-    Token u = held ι u
+    abbrev B : Bool → Fml
+    B = both w far z.cells γ δ c shows
 
-    abbrev code : Bool × (ℕ × X) → Gv
-    code = (code_of X c).code
+    abbrev Cell : Lying → Fml
+    Cell = cell w far z.cells γ δ c shows
 
-    abbrev OneAfter : (ℕ → Wakes X → Held → Type 0) → ℕ → Wakes X × Held → Fml
-    OneAfter then n r = fsep (fact (then n r.0 r.1)) (fsep (fsep (fobs δ (code r.0)) (Token r.1)) K)
+    -- what the side has that waits, and the one that wakes
+    abbrev Waiting : Waits X → Fml
+    Waiting a = fsep (fobs γ ((waits_code X c).code a)) (shows a.1.1)
 
-    -- what the side that wakes has after its step
-    abbrev pub WakeAfter : (ℕ → Wakes X → Held → Type 0) → ℕ → Fml
-    WakeAfter then n = fex (Wakes X × Held) (OneAfter then n)
+    abbrev Waking : Wakes X → Fml
+    Waking b = fobs δ ((wakes_code X c).code b)
 
-    abbrev TwoAfter : (ℕ → X → Waits X → Held → Type 0) → ℕ → X × (Waits X × Held) → Fml
-    TwoAfter then n r = fsep (fact (then n r.0 r.1.0 r.1.1)) (fsep (shows r.0) (fsep (fsep (fobs γ (code r.1.0)) (Token r.1.1)) K))
+    -- the cell that came out, of which the number that was found speaks, and what the side has then
+    abbrev out_at : (Bool → Fml) → ℕ → Lying → Fml
+    out_at Y n s = fsep (fact ((s.0 < 4) × (n ≡ number s))) (fsep (Cell s) (Y s.1))
 
-    -- what the side that waits has, with evidence of what the other had stored when it last checked
-    abbrev pub WaitAfter : (ℕ → X → Waits X → Held → Type 0) → ℕ → Fml
-    WaitAfter then n = fex (X × (Waits X × Held)) (TwoAfter then n)
+    abbrev pub Swapped : (Bool → Fml) → ℕ → Fml
+    Swapped Y n = fsep K (fex Lying (out_at Y n))
 
-    one_shows : (y x o : X) → (y ≡ x) ⊎ (y ≡ o) → ⟦ shows x ⟧ ∗ ⟦ shows o ⟧ ⊢ ⟦ shows y ⟧
-    one_shows y x o (inl e) = qed 𝓛 (‵ (shows x) ∷ ‵ (shows o) ∷ []) ∵ rewrite ! 0 (λ (u : X). ‵ (shows u)) {x = y} {y = x} (sym e) refl $ keep ! (0 ∷ []) $ done !
-    one_shows y x o (inr e) = qed 𝓛 (‵ (shows x) ∷ ‵ (shows o) ∷ []) ∵ rewrite ! 1 (λ (u : X). ‵ (shows u)) {x = y} {y = o} (sym e) refl $ keep ! (1 ∷ []) $ done !
+    -- one swap: the own cell goes in, and another comes out, whatever else the step does to both sides
+    trades : Lent K F → (own : Lying) → own.0 < 4 → (Z : Fml) (Y : Bool → Fml) → ((full : Bool) → ⟦ B full ⟧ ∗ ⟦ Z ⟧ ⊢ upd 𝓤 (⟦ B own.1 ⟧ ∗ ⟦ Y full ⟧))
+        → ⟦ C ⟧ ∗ ⟦ K ⟧ ∗ ⟦ fsep (Cell own) Z ⟧ ⊢ access far (λ _. number own) (Swapped Y)
+    trades lends own small Z Y can = let f : ℕ → ℕ = λ _. number own in let then : ℕ → Fml = Swapped Y in let G : Pr = ex 𝓤 (Holding far f then) in
+        inside 𝓛 w p z far f then (⟦ K ⟧ ∗ ⟦ fsep (Cell own) Z ⟧) (qed 𝓛 (‵ I ∷ ‵ K ∷ ‵ (fsep (Cell own) Z) ∷ []) ∵ use2 𝓛 (‵ K ⊛ ‵ F ⊛ ‵ (fwand F I)) lends $ split3 ! $ move ! (1 ∷ []) $
+        fpick ! (λ s. fsplit3 ! $ fpick ! (λ there. forget ! $ move ! (1 ∷ []) $ fsplit ! $ move ! (5 ∷ []) $ fsplit ! $
+        -- [the own right; Z; the right that lay there; both sides; the word; K; the way back]
+        move ! (3 ∷ 1 ∷ []) $ use2 𝓛 (raw (upd 𝓤 (⟦ B own.1 ⟧ ∗ ⟦ Y s.1 ⟧))) (can s.1) $ settle 𝓛 G (‵ (B own.1) ⊛ ‵ (Y s.1)) $ suffices ! _ (upd_i 𝓤 G) $ split ! $
+        -- [both sides; Y; the own right; the right that lay there; the word; K; the way back]
+        move ! (4 ∷ []) $ show ! (Holding far f then) (number s) $ frame ! $ assume ! (‵ (word w far (number own))) $ suffices ! _ (upd_i 𝓤 (⟦ I ⟧ ∗ ⟦ then (number s) ⟧)) $
+        move ! (3 ∷ 1 ∷ []) $ fjoin ! $ move ! (1 ∷ 0 ∷ []) $ fjoin ! $ nothing ! $ fpack ! (own.0 < 4) (λ _. ftrue) small $ fjoin ! $ fpack ! Lying (slot_at w far z.cells γ δ c shows) own $
+        -- [the slot; Y; the right that lay there; K; the way back]
+        move ! (0 ∷ 4 ∷ []) $ use2 𝓛 (‵ I) (apply∗ 𝓤 ⟦ F ⟧ ⟦ I ⟧) $ frame ! $ move ! (1 ∷ 0 ∷ []) $ fjoin ! $
+        nothing ! $ fpack ! ((s.0 < 4) × (number s ≡ number s)) (λ _. ftrue) (there, refl) $ fjoin ! $ fpack ! Lying (out_at Y (number s)) s $ move ! (1 ∷ 0 ∷ []) $ fjoin ! $ done !)))
 
-    wakes_flag : Lent K F → (u : Held) (b : Wakes X) (x : X) (f : ℕ → ℕ) (then : ℕ → Wakes X → Held → Type 0) → ((a : Waits X) (at : Where) → IsWhere X at a b → WakesTo (OnFlag f) then (flag_of at) x u a b at)
-        → ⟦ C ⟧ ∗ ⟦ K ⟧ ∗ ⟦ fsep (fobs δ (code b)) (Token u) ⟧ ∗ ⟦ shows x ⟧ ⊢ access far f (WakeAfter then)
-    wakes_flag lends u b x f then can = let after : ℕ → Fml = WakeAfter then in let Z : Pr = ex 𝓤 (Holding far f after) in
-        inside 𝓛 w p z far f after (⟦ K ⟧ ∗ ⟦ fsep (fobs δ (code b)) (Token u) ⟧ ∗ ⟦ shows x ⟧) (qed 𝓛 (‵ I ∷ ‵ K ∷ ‵ (fsep (fobs δ (code b)) (Token u)) ∷ ‵ (shows x) ∷ []) ∵ move ! (2 ∷ []) $ fsplit ! $ move ! (2 ∷ 3 ∷ 0 ∷ 4 ∷ []) $ use2 𝓛 (‵ K ⊛ ‵ F ⊛ ‵ (fwand F I)) lends $ split3 ! $ move ! (1 ∷ []) $
-        fpick ! (λ s. fsplit3 ! $ fpick ! (λ is_registered. forget ! $ move ! (1 ∷ []) $ fsplit ! $ fsplit ! $ move ! (6 ∷ 1 ∷ []) $ name_agree ! (code_of X c) (λ e.
-        let a : Waits X = s.0 in let at : Where = s.1.1 in let r = can a at (subst (λ (y : Wakes X). IsWhere X at a y) (sym e) is_registered) in let b' : Wakes X = r.0 in let at' : Where = r.1 in let u' : Held = r.2 in let n : ℕ = flag_of at in
-        use2 𝓛 (raw (upd 𝓤 (⟦ fobs δ (code b') ⟧ ∗ ⟦ fauth δ (code b') ⟧))) (𝓛.names.name_set_upd δ (code b) (code s.1.0) (code b')) $ settle 𝓛 Z (‵ (fobs δ (code b')) ⊛ ‵ (fauth δ (code b'))) $ suffices ! _ (upd_i 𝓤 Z) $ split ! $
-        move ! (3 ∷ []) $ fsplit ! $ rewrite ! 0 (λ (y : Wakes X). ‵ (shows y.1.1)) {x = b} {y = s.1.0} (sym e) refl $ move ! (8 ∷ 0 ∷ []) $ use2 𝓛 (‵ (shows b'.1.1)) (one_shows b'.1.1 x b.1.1 r.5) $
-        move ! (1 ∷ 8 ∷ []) $ use2 𝓛 (‵ (Token (held_at at')) ⊛ ‵ (Token u')) (passes ι u (held_at at) u' (held_at at') r.7) $ split ! $ move ! (2 ∷ 0 ∷ []) $ fjoin ! $ move ! (2 ∷ 1 ∷ []) $ fjoin ! $ move ! (1 ∷ 0 ∷ []) $
-        move ! (4 ∷ []) $ fsplit ! $ show ! (Holding far f after) n $ frame ! $ assume ! (‵ (word w far (f n))) $ suffices ! _ (upd_i 𝓤 (⟦ I ⟧ ∗ ⟦ after n ⟧)) $
-        rewrite ! 0 (λ (m : ℕ). ‵ (word w far m)) {x = flag_of at'} {y = f n} r.3.0 refl $ rewrite ! 1 (λ (m : ℕ). ‵ (word w (8 + far) m)) {x = back_of at'} {y = back_of at} r.3.1 refl $ fjoin ! $
-        move ! (4 ∷ 3 ∷ []) $ fjoin ! $ move ! (1 ∷ 0 ∷ 2 ∷ []) $ fjoin3 ! $ nothing ! $ fpack ! (IsWhere X at' a b') (λ _. ftrue) r.4 $ fjoin ! $ fpack ! (Slot X) (slot_at w far γ δ ι c shows) (a, (b', at')) $
-        move ! (0 ∷ 3 ∷ []) $ use2 𝓛 (‵ I) (apply∗ 𝓤 ⟦ F ⟧ ⟦ I ⟧) $ frame ! $ fjoin ! $ nothing ! $ fpack ! (then n b' u') (λ _. ftrue) r.6 $ fjoin ! $ fpack ! (Wakes X × Held) (OneAfter then n) (b', u') $ done !))))
+    abbrev loaded_at : (Bool → Fml) → ℕ → Lying → Fml
+    loaded_at Y n s = fsep (fact (n ≡ number s)) (Y s.1)
 
-    wakes_back : Lent K F → (u : Held) (b : Wakes X) (x : X) (f : ℕ → ℕ) (then : ℕ → Wakes X → Held → Type 0) → ((a : Waits X) (at : Where) → IsWhere X at a b → WakesTo (OnBack f) then (back_of at) x u a b at)
-        → ⟦ C ⟧ ∗ ⟦ K ⟧ ∗ ⟦ fsep (fobs δ (code b)) (Token u) ⟧ ∗ ⟦ shows x ⟧ ⊢ access (8 + far) f (WakeAfter then)
-    wakes_back lends u b x f then can = let after : ℕ → Fml = WakeAfter then in let Z : Pr = ex 𝓤 (Holding (8 + far) f after) in
-        inside 𝓛 w p z (8 + far) f after (⟦ K ⟧ ∗ ⟦ fsep (fobs δ (code b)) (Token u) ⟧ ∗ ⟦ shows x ⟧) (qed 𝓛 (‵ I ∷ ‵ K ∷ ‵ (fsep (fobs δ (code b)) (Token u)) ∷ ‵ (shows x) ∷ []) ∵ move ! (2 ∷ []) $ fsplit ! $ move ! (2 ∷ 3 ∷ 0 ∷ 4 ∷ []) $ use2 𝓛 (‵ K ⊛ ‵ F ⊛ ‵ (fwand F I)) lends $ split3 ! $ move ! (1 ∷ []) $
-        fpick ! (λ s. fsplit3 ! $ fpick ! (λ is_registered. forget ! $ move ! (1 ∷ []) $ fsplit ! $ fsplit ! $ move ! (6 ∷ 1 ∷ []) $ name_agree ! (code_of X c) (λ e.
-        let a : Waits X = s.0 in let at : Where = s.1.1 in let r = can a at (subst (λ (y : Wakes X). IsWhere X at a y) (sym e) is_registered) in let b' : Wakes X = r.0 in let at' : Where = r.1 in let u' : Held = r.2 in let n : ℕ = back_of at in
-        use2 𝓛 (raw (upd 𝓤 (⟦ fobs δ (code b') ⟧ ∗ ⟦ fauth δ (code b') ⟧))) (𝓛.names.name_set_upd δ (code b) (code s.1.0) (code b')) $ settle 𝓛 Z (‵ (fobs δ (code b')) ⊛ ‵ (fauth δ (code b'))) $ suffices ! _ (upd_i 𝓤 Z) $ split ! $
-        move ! (3 ∷ []) $ fsplit ! $ rewrite ! 0 (λ (y : Wakes X). ‵ (shows y.1.1)) {x = b} {y = s.1.0} (sym e) refl $ move ! (8 ∷ 0 ∷ []) $ use2 𝓛 (‵ (shows b'.1.1)) (one_shows b'.1.1 x b.1.1 r.5) $
-        move ! (1 ∷ 8 ∷ []) $ use2 𝓛 (‵ (Token (held_at at')) ⊛ ‵ (Token u')) (passes ι u (held_at at) u' (held_at at') r.7) $ split ! $ move ! (2 ∷ 0 ∷ []) $ fjoin ! $ move ! (2 ∷ 1 ∷ []) $ fjoin ! $ move ! (1 ∷ 0 ∷ []) $
-        move ! (4 ∷ []) $ fsplit ! $ move ! (1 ∷ []) $ show ! (Holding (8 + far) f after) n $ frame ! $ assume ! (‵ (word w (8 + far) (f n))) $ suffices ! _ (upd_i 𝓤 (⟦ I ⟧ ∗ ⟦ after n ⟧)) $ move ! (1 ∷ 0 ∷ []) $
-        rewrite ! 0 (λ (m : ℕ). ‵ (word w far m)) {x = flag_of at'} {y = flag_of at} r.3.1 refl $ rewrite ! 1 (λ (m : ℕ). ‵ (word w (8 + far) m)) {x = back_of at'} {y = f n} r.3.0 refl $ fjoin ! $
-        move ! (4 ∷ 3 ∷ []) $ fjoin ! $ move ! (1 ∷ 0 ∷ 2 ∷ []) $ fjoin3 ! $ nothing ! $ fpack ! (IsWhere X at' a b') (λ _. ftrue) r.4 $ fjoin ! $ fpack ! (Slot X) (slot_at w far γ δ ι c shows) (a, (b', at')) $
-        move ! (0 ∷ 3 ∷ []) $ use2 𝓛 (‵ I) (apply∗ 𝓤 ⟦ F ⟧ ⟦ I ⟧) $ frame ! $ fjoin ! $ nothing ! $ fpack ! (then n b' u') (λ _. ftrue) r.6 $ fjoin ! $ fpack ! (Wakes X × Held) (OneAfter then n) (b', u') $ done !))))
+    abbrev pub Loaded : (Bool → Fml) → ℕ → Fml
+    Loaded Y n = fsep K (fex Lying (loaded_at Y n))
+
+    -- one load, which leaves the word
+    looks : Lent K F → (Z : Fml) (Y : Bool → Fml) → ((full : Bool) → ⟦ B full ⟧ ∗ ⟦ Z ⟧ ⊢ upd 𝓤 (⟦ B full ⟧ ∗ ⟦ Y full ⟧))
+        → ⟦ C ⟧ ∗ ⟦ K ⟧ ∗ ⟦ Z ⟧ ⊢ access far (λ n. n) (Loaded Y)
+    looks lends Z Y can = let f : ℕ → ℕ = λ n. n in let then : ℕ → Fml = Loaded Y in let G : Pr = ex 𝓤 (Holding far f then) in
+        inside 𝓛 w p z far f then (⟦ K ⟧ ∗ ⟦ Z ⟧) (qed 𝓛 (‵ I ∷ ‵ K ∷ ‵ Z ∷ []) ∵ use2 𝓛 (‵ K ⊛ ‵ F ⊛ ‵ (fwand F I)) lends $ split3 ! $ move ! (1 ∷ []) $
+        fpick ! (λ s. fsplit3 ! $ fpick ! (λ there. forget ! $ move ! (1 ∷ []) $ fsplit ! $
+        -- [the right that lies there; both sides; the word; K; the way back; Z]
+        move ! (1 ∷ 5 ∷ []) $ use2 𝓛 (raw (upd 𝓤 (⟦ B s.1 ⟧ ∗ ⟦ Y s.1 ⟧))) (can s.1) $ settle 𝓛 G (‵ (B s.1) ⊛ ‵ (Y s.1)) $ suffices ! _ (upd_i 𝓤 G) $ split ! $
+        -- [both sides; Y; the right; the word; K; the way back]
+        move ! (3 ∷ []) $ show ! (Holding far f then) (number s) $ frame ! $ assume ! (‵ (word w far (number s))) $ suffices ! _ (upd_i 𝓤 (⟦ I ⟧ ∗ ⟦ then (number s) ⟧)) $
+        move ! (3 ∷ 1 ∷ []) $ fjoin ! $ move ! (1 ∷ 0 ∷ []) $ fjoin ! $ nothing ! $ fpack ! (s.0 < 4) (λ _. ftrue) there $ fjoin ! $ fpack ! Lying (slot_at w far z.cells γ δ c shows) s $
+        -- [the slot; Y; K; the way back]
+        move ! (0 ∷ 3 ∷ []) $ use2 𝓛 (‵ I) (apply∗ 𝓤 ⟦ F ⟧ ⟦ I ⟧) $ frame ! $ nothing ! $ fpack ! (number s ≡ number s) (λ _. ftrue) refl $ fjoin ! $ fpack ! Lying (loaded_at Y (number s)) s $ move ! (1 ∷ 0 ∷ []) $ fjoin ! $ done !)))
+
+    -- the side that waits becomes a'
+    waits_on : (full filled : Bool) (a : Waits X) (change : Wakes X → Waits X) → ((b : Wakes X) → AreAt X full a b → AreAt X filled (change b) b)
+        → (Q : Waits X → Type 0) → ((b : Wakes X) → AreAt X full a b → Q (change b)) → ((b : Wakes X) → ⟦ shows a.1.1 ⟧ ∗ ⟦ shows b.1 ⟧ ⊢ ⟦ shows b.1 ⟧ ∗ ⟦ shows (change b).1.1 ⟧)
+        → ⟦ B full ⟧ ∗ ⟦ Waiting a ⟧ ⊢ upd 𝓤 (⟦ B filled ⟧ ∗ ⟦ fex (Waits X) (λ a'. fsep (fact (Q a')) (Waiting a')) ⟧)
+    waits_on full filled a change keeps Q tells hears = let End : Fml = fex (Waits X) (λ a'. fsep (fact (Q a')) (Waiting a')) in let G : Pr = ⟦ B filled ⟧ ∗ ⟦ End ⟧ in let k : Coded (Waits X) = waits_code X c in
+        qed 𝓛 (‵ (B full) ∷ ‵ (Waiting a) ∷ []) ∵ fpick ! (λ s. fsplit3 ! $ fpick ! (λ so. forget ! $ move ! (1 ∷ []) $ fsplit ! $ move ! (3 ∷ []) $ fsplit ! $
+        -- [the own; its evidence; what the waiter is; what the waker is; the evidence]
+        let b : Wakes X = s.1 in let new : Waits X = change b in
+        move ! (0 ∷ 2 ∷ []) $ name_agree ! k (λ e. let so' : AreAt X full a b = subst (λ (y : Waits X). AreAt X full y b) (sym e) so in
+        use2 𝓛 (raw (upd 𝓤 (⟦ fobs γ (k.code new) ⟧ ∗ ⟦ fauth γ (k.code new) ⟧))) (𝓛.names.name_set_upd γ (k.code a) (k.code s.0) (k.code new)) $ settle 𝓛 G (‵ (fobs γ (k.code new)) ⊛ ‵ (fauth γ (k.code new))) $ suffices ! _ (upd_i 𝓤 G) $ split ! $
+        -- [the own; what the waiter is; its evidence; what the waker is; the evidence]
+        move ! (2 ∷ 4 ∷ []) $ use2 𝓛 (‵ (shows b.1) ⊛ ‵ (shows new.1.1)) (hears b) $ split ! $
+        -- [the evidence; that of the own; the own; what the waiter is; what the waker is]
+        move ! (3 ∷ 4 ∷ []) $ fjoin ! $ move ! (1 ∷ 0 ∷ []) $ fjoin ! $ nothing ! $ fpack ! (AreAt X filled new b) (λ _. ftrue) (keeps b so') $ fjoin ! $ fpack ! (Waits X × Wakes X) (both_at w far z.cells γ δ c shows filled) (new, b) $ frame ! $
+        move ! (1 ∷ 0 ∷ []) $ fjoin ! $ nothing ! $ fpack ! (Q new) (λ _. ftrue) (tells b so') $ fjoin ! $ fpack ! (Waits X) (λ a'. fsep (fact (Q a')) (Waiting a')) new $ done !)))
 
     -- evidence can be had twice
     abbrev pub Twice : Type 1
     Twice = (x : X) → ⟦ shows x ⟧ ⊢ ⟦ shows x ⟧ ∗ ⟦ shows x ⟧
 
-    waits_flag : Lent K F → Twice → (u : Held) (a : Waits X) (f : ℕ → ℕ) (then : ℕ → X → Waits X → Held → Type 0) → ((b : Wakes X) (at : Where) → IsWhere X at a b → WaitsTo (OnFlag f) then (flag_of at) u a b at)
-        → ⟦ C ⟧ ∗ ⟦ K ⟧ ∗ ⟦ fsep (fobs γ (code a)) (Token u) ⟧ ⊢ access far f (WaitAfter then)
-    waits_flag lends twice u a f then can = let after : ℕ → Fml = WaitAfter then in let Z : Pr = ex 𝓤 (Holding far f after) in
-        inside 𝓛 w p z far f after (⟦ K ⟧ ∗ ⟦ fsep (fobs γ (code a)) (Token u) ⟧) (qed 𝓛 (‵ I ∷ ‵ K ∷ ‵ (fsep (fobs γ (code a)) (Token u)) ∷ []) ∵ move ! (2 ∷ []) $ fsplit ! $ move ! (2 ∷ 3 ∷ 0 ∷ []) $ use2 𝓛 (‵ K ⊛ ‵ F ⊛ ‵ (fwand F I)) lends $ split3 ! $ move ! (1 ∷ []) $
-        fpick ! (λ s. fsplit3 ! $ fpick ! (λ is_registered. forget ! $ move ! (1 ∷ []) $ fsplit ! $ fsplit ! $ move ! (6 ∷ 0 ∷ []) $ name_agree ! (code_of X c) (λ e.
-        let b : Wakes X = s.1.0 in let at : Where = s.1.1 in let r = can b at (subst (λ (y : Waits X). IsWhere X at y b) (sym e) is_registered) in let a' : Waits X = r.0 in let at' : Where = r.1 in let u' : Held = r.2 in let n : ℕ = flag_of at in let x : X = b.1.1 in
-        use2 𝓛 (raw (upd 𝓤 (⟦ fobs γ (code a') ⟧ ∗ ⟦ fauth γ (code a') ⟧))) (𝓛.names.name_set_upd γ (code a) (code s.0) (code a')) $ settle 𝓛 Z (‵ (fobs γ (code a')) ⊛ ‵ (fauth γ (code a'))) $ suffices ! _ (upd_i 𝓤 Z) $ split ! $
-        move ! (3 ∷ []) $ fsplit ! $ use1 𝓛 (‵ (shows x) ⊛ ‵ (shows x)) (twice x) $ split ! $
-        move ! (2 ∷ 9 ∷ []) $ use2 𝓛 (‵ (Token (held_at at')) ⊛ ‵ (Token u')) (passes ι u (held_at at) u' (held_at at') r.6) $ split ! $ move ! (2 ∷ 0 ∷ []) $ fjoin ! $ move ! (3 ∷ 1 ∷ []) $ fjoin ! $ move ! (1 ∷ 2 ∷ 0 ∷ []) $
-        move ! (5 ∷ []) $ fsplit ! $ show ! (Holding far f after) n $ frame ! $ assume ! (‵ (word w far (f n))) $ suffices ! _ (upd_i 𝓤 (⟦ I ⟧ ∗ ⟦ after n ⟧)) $
-        rewrite ! 0 (λ (m : ℕ). ‵ (word w far m)) {x = flag_of at'} {y = f n} r.3.0 refl $ rewrite ! 1 (λ (m : ℕ). ‵ (word w (8 + far) m)) {x = back_of at'} {y = back_of at} r.3.1 refl $ fjoin ! $
-        move ! (4 ∷ 5 ∷ []) $ fjoin ! $ move ! (1 ∷ 0 ∷ 2 ∷ []) $ fjoin3 ! $ nothing ! $ fpack ! (IsWhere X at' a' b) (λ _. ftrue) r.4 $ fjoin ! $ fpack ! (Slot X) (slot_at w far γ δ ι c shows) (a', (b, at')) $
-        move ! (0 ∷ 4 ∷ []) $ use2 𝓛 (‵ I) (apply∗ 𝓤 ⟦ F ⟧ ⟦ I ⟧) $ frame ! $ fjoin3 ! $ nothing ! $ fpack ! (then n x a' u') (λ _. ftrue) r.5 $ fjoin ! $ fpack ! (X × (Waits X × Held)) (TwoAfter then n) (x, (a', u')) $ done !))))
+    -- who registers hears what the other had stored
+    hears_new : Twice → (x y : X) → ⟦ shows x ⟧ ∗ ⟦ shows y ⟧ ⊢ ⟦ shows y ⟧ ∗ ⟦ shows y ⟧
+    hears_new twice x y = qed 𝓛 (‵ (shows x) ∷ ‵ (shows y) ∷ []) ∵ forget ! $ by ! (twice y)
 
-    waits_back : Lent K F → Twice → (u : Held) (a : Waits X) (f : ℕ → ℕ) (then : ℕ → X → Waits X → Held → Type 0) → ((b : Wakes X) (at : Where) → IsWhere X at a b → WaitsTo (OnBack f) then (back_of at) u a b at)
-        → ⟦ C ⟧ ∗ ⟦ K ⟧ ∗ ⟦ fsep (fobs γ (code a)) (Token u) ⟧ ⊢ access (8 + far) f (WaitAfter then)
-    waits_back lends twice u a f then can = let after : ℕ → Fml = WaitAfter then in let Z : Pr = ex 𝓤 (Holding (8 + far) f after) in
-        inside 𝓛 w p z (8 + far) f after (⟦ K ⟧ ∗ ⟦ fsep (fobs γ (code a)) (Token u) ⟧) (qed 𝓛 (‵ I ∷ ‵ K ∷ ‵ (fsep (fobs γ (code a)) (Token u)) ∷ []) ∵ move ! (2 ∷ []) $ fsplit ! $ move ! (2 ∷ 3 ∷ 0 ∷ []) $ use2 𝓛 (‵ K ⊛ ‵ F ⊛ ‵ (fwand F I)) lends $ split3 ! $ move ! (1 ∷ []) $
-        fpick ! (λ s. fsplit3 ! $ fpick ! (λ is_registered. forget ! $ move ! (1 ∷ []) $ fsplit ! $ fsplit ! $ move ! (6 ∷ 0 ∷ []) $ name_agree ! (code_of X c) (λ e.
-        let b : Wakes X = s.1.0 in let at : Where = s.1.1 in let r = can b at (subst (λ (y : Waits X). IsWhere X at y b) (sym e) is_registered) in let a' : Waits X = r.0 in let at' : Where = r.1 in let u' : Held = r.2 in let n : ℕ = back_of at in let x : X = b.1.1 in
-        use2 𝓛 (raw (upd 𝓤 (⟦ fobs γ (code a') ⟧ ∗ ⟦ fauth γ (code a') ⟧))) (𝓛.names.name_set_upd γ (code a) (code s.0) (code a')) $ settle 𝓛 Z (‵ (fobs γ (code a')) ⊛ ‵ (fauth γ (code a'))) $ suffices ! _ (upd_i 𝓤 Z) $ split ! $
-        move ! (3 ∷ []) $ fsplit ! $ use1 𝓛 (‵ (shows x) ⊛ ‵ (shows x)) (twice x) $ split ! $
-        move ! (2 ∷ 9 ∷ []) $ use2 𝓛 (‵ (Token (held_at at')) ⊛ ‵ (Token u')) (passes ι u (held_at at) u' (held_at at') r.6) $ split ! $ move ! (2 ∷ 0 ∷ []) $ fjoin ! $ move ! (3 ∷ 1 ∷ []) $ fjoin ! $ move ! (1 ∷ 2 ∷ 0 ∷ []) $
-        move ! (5 ∷ []) $ fsplit ! $ move ! (1 ∷ []) $ show ! (Holding (8 + far) f after) n $ frame ! $ assume ! (‵ (word w (8 + far) (f n))) $ suffices ! _ (upd_i 𝓤 (⟦ I ⟧ ∗ ⟦ after n ⟧)) $ move ! (1 ∷ 0 ∷ []) $
-        rewrite ! 0 (λ (m : ℕ). ‵ (word w far m)) {x = flag_of at'} {y = flag_of at} r.3.1 refl $ rewrite ! 1 (λ (m : ℕ). ‵ (word w (8 + far) m)) {x = back_of at'} {y = f n} r.3.0 refl $ fjoin ! $
-        move ! (4 ∷ 5 ∷ []) $ fjoin ! $ move ! (1 ∷ 0 ∷ 2 ∷ []) $ fjoin3 ! $ nothing ! $ fpack ! (IsWhere X at' a' b) (λ _. ftrue) r.4 $ fjoin ! $ fpack ! (Slot X) (slot_at w far γ δ ι c shows) (a', (b, at')) $
-        move ! (0 ∷ 4 ∷ []) $ use2 𝓛 (‵ I) (apply∗ 𝓤 ⟦ F ⟧ ⟦ I ⟧) $ frame ! $ fjoin3 ! $ nothing ! $ fpack ! (then n x a' u') (λ _. ftrue) r.5 $ fjoin ! $ fpack ! (X × (Waits X × Held)) (TwoAfter then n) (x, (a', u')) $ done !))))
+    hears_old : (x y : X) → ⟦ shows x ⟧ ∗ ⟦ shows y ⟧ ⊢ ⟦ shows y ⟧ ∗ ⟦ shows x ⟧
+    hears_old x y = qed 𝓛 (‵ (shows x) ∷ ‵ (shows y) ∷ []) ∵ move ! (1 ∷ 0 ∷ []) $ done !
+
+    -- what the side is that put a cell into its own slot, if that held a waker before or not
+    abbrev pub IsExchanged : Waits X → Bool → Bool → Waits X → Type 0
+    IsExchanged a filled full a' = Exchanges X filled a a' × (full ≡ true → a.0 ≡ true)
+
+    abbrev exchanged_as : Waits X → Bool → Bool → Waits X → Fml
+    exchanged_as a filled full a' = fsep (fact (IsExchanged a filled full a')) (Waiting a')
+
+    abbrev pub Exchanged : Waits X → Bool → Bool → Fml
+    Exchanged a filled full = fex (Waits X) (exchanged_as a filled full)
+
+    hears : Twice → (filled : Bool) (a : Waits X) (b : Wakes X) → ⟦ shows a.1.1 ⟧ ∗ ⟦ shows b.1 ⟧ ⊢ ⟦ shows b.1 ⟧ ∗ ⟦ shows (after filled a b.1).1.1 ⟧
+    hears twice true a b = hears_new twice a.1.1 b.1
+    hears twice false a b = hears_old a.1.1 b.1
+
+    exchange : Lent K F → Twice → (a : Waits X) (own : Lying) → own.0 < 4 → ⟦ C ⟧ ∗ ⟦ K ⟧ ∗ ⟦ fsep (Cell own) (Waiting a) ⟧ ⊢ access far (λ _. number own) (Swapped (Exchanged a own.1))
+    exchange lends twice a own small = let filled : Bool = own.1 in trades lends own small (Waiting a) (Exchanged a filled) (λ full.
+        waits_on full filled a (λ b. after filled a b.1) (λ b h. goes_in filled full a b h) (IsExchanged a filled full) (λ b h. (exchanges filled a b.1, waited full a b h)) (hears twice filled a))
+
+    -- what the side is that loaded its own slot
+    abbrev pub IsSeen : Waits X → Bool → Waits X → Type 0
+    IsSeen a full a' = (a' ≡ seen_own full a) × (full ≡ true → a.0 ≡ true)
+
+    abbrev seen_as : Waits X → Bool → Waits X → Fml
+    seen_as a full a' = fsep (fact (IsSeen a full a')) (Waiting a')
+
+    abbrev pub Seen : Waits X → Bool → Fml
+    Seen a full = fex (Waits X) (seen_as a full)
+
+    keeps_old : (full : Bool) (a : Waits X) (b : Wakes X) → ⟦ shows a.1.1 ⟧ ∗ ⟦ shows b.1 ⟧ ⊢ ⟦ shows b.1 ⟧ ∗ ⟦ shows (seen_own full a).1.1 ⟧
+    keeps_old true a b = hears_old a.1.1 b.1
+    keeps_old false a b = hears_old a.1.1 b.1
+
+    load_own_slot : Lent K F → (a : Waits X) → ⟦ C ⟧ ∗ ⟦ K ⟧ ∗ ⟦ Waiting a ⟧ ⊢ access far (λ n. n) (Loaded (Seen a))
+    load_own_slot lends a = looks lends (Waiting a) (Seen a) (λ full. waits_on full full a (λ _. seen_own full a) (λ b h. own_seen full a b h) (IsSeen a full) (λ b h. (refl, waited full a b h)) (keeps_old full a))
+
+    one_shows : (y x o : X) → (y ≡ x) ⊎ (y ≡ o) → ⟦ shows x ⟧ ∗ ⟦ shows o ⟧ ⊢ ⟦ shows y ⟧
+    one_shows y x o (inl e) = qed 𝓛 (‵ (shows x) ∷ ‵ (shows o) ∷ []) ∵ rewrite ! 0 (λ (u : X). ‵ (shows u)) {x = y} {y = x} (sym e) refl $ keep ! (0 ∷ []) $ done !
+    one_shows y x o (inr e) = qed 𝓛 (‵ (shows x) ∷ ‵ (shows o) ∷ []) ∵ rewrite ! 1 (λ (u : X). ‵ (shows u)) {x = y} {y = o} (sym e) refl $ keep ! (1 ∷ []) $ done !
+
+    -- the side that wakes becomes b', with evidence of what it has stored
+    wakes_on : (full filled : Bool) (b : Wakes X) (x : X) (Q : Wakes X → Type 0) → ((a : Waits X) → AreAt X full a b → (b' : Wakes X) × AreAt X filled a b' × Q b' × ((b'.1 ≡ x) ⊎ (b'.1 ≡ b.1)))
+        → ⟦ B full ⟧ ∗ ⟦ fsep (Waking b) (shows x) ⟧ ⊢ upd 𝓤 (⟦ B filled ⟧ ∗ ⟦ fex (Wakes X) (λ b'. fsep (fact (Q b')) (Waking b')) ⟧)
+    wakes_on full filled b x Q can = let End : Fml = fex (Wakes X) (λ b'. fsep (fact (Q b')) (Waking b')) in let G : Pr = ⟦ B filled ⟧ ∗ ⟦ End ⟧ in let k : Coded (Wakes X) = wakes_code X c in
+        qed 𝓛 (‵ (B full) ∷ ‵ (fsep (Waking b) (shows x)) ∷ []) ∵ fpick ! (λ s. fsplit3 ! $ fpick ! (λ so. forget ! $ move ! (1 ∷ []) $ fsplit ! $ move ! (3 ∷ []) $ fsplit ! $
+        -- [the own; its evidence; what the waiter is; what the waker is; the evidence that lay there]
+        let a : Waits X = s.0 in
+        move ! (0 ∷ 3 ∷ []) $ name_agree ! k (λ e. let r = can a (subst (λ (y : Wakes X). AreAt X full a y) (sym e) so) in let new : Wakes X = r.0 in
+        use2 𝓛 (raw (upd 𝓤 (⟦ fobs δ (k.code new) ⟧ ∗ ⟦ fauth δ (k.code new) ⟧))) (𝓛.names.name_set_upd δ (k.code b) (k.code s.1) (k.code new)) $ settle 𝓛 G (‵ (fobs δ (k.code new)) ⊛ ‵ (fauth δ (k.code new))) $ suffices ! _ (upd_i 𝓤 G) $ split ! $
+        -- [the own; what the waker is; its evidence; what the waiter is; the evidence that lay there]
+        rewrite ! 4 (λ (y : Wakes X). ‵ (shows y.1)) {x = b} {y = s.1} (sym e) refl $ move ! (2 ∷ 4 ∷ []) $ use2 𝓛 (‵ (shows new.1)) (one_shows new.1 x b.1 r.3) $
+        -- [the evidence; the own; what the waker is; what the waiter is]
+        move ! (3 ∷ 2 ∷ []) $ fjoin ! $ move ! (1 ∷ 0 ∷ []) $ fjoin ! $ nothing ! $ fpack ! (AreAt X filled a new) (λ _. ftrue) r.1 $ fjoin ! $ fpack ! (Waits X × Wakes X) (both_at w far z.cells γ δ c shows filled) (a, new) $ frame ! $
+        nothing ! $ fpack ! (Q new) (λ _. ftrue) r.2 $ fjoin ! $ fpack ! (Wakes X) (λ b'. fsep (fact (Q b')) (Waking b')) new $ done !)))
+
+    -- what the side is that emptied the other's slot
+    abbrev pub IsTaken : Wakes X → X → Bool → Wakes X → Type 0
+    IsTaken b x full b' = IsTicket full b.0 b'.0 × (b'.1 ≡ x)
+
+    abbrev pub Taken : Wakes X → X → Bool → Fml
+    Taken b x full = fex (Wakes X) (λ b'. fsep (fact (IsTaken b x full b')) (Waking b'))
+
+    empty : Lent K F → (b : Wakes X) (x : X) (i : ℕ) → i < 4 → ⟦ C ⟧ ∗ ⟦ K ⟧ ∗ ⟦ fsep (Cell (i, false)) (fsep (Waking b) (shows x)) ⟧ ⊢ access far (λ _. number (i, false)) (Swapped (Taken b x))
+    empty lends b x i small = trades lends (i, false) small (fsep (Waking b) (shows x)) (Taken b x) (λ full. wakes_on full false b x (IsTaken b x full) (λ a h. let r = comes_out full a b x h in ((r.0, x), r.2, (r.1, refl), inl refl)))
+
+    -- what the side is that loaded the other's slot
+    abbrev pub Looked : Wakes X → X → Bool → Fml
+    Looked b x full = fex (Wakes X) (λ b'. fsep (fact (b' ≡ seen_other full b x)) (Waking b'))
+
+    sees : (full : Bool) (b : Wakes X) (x : X) → ((seen_other full b x).1 ≡ x) ⊎ ((seen_other full b x).1 ≡ b.1)
+    sees true b x = inr refl
+    sees false b x = inl refl
+
+    load_other_slot : Lent K F → (b : Wakes X) (x : X) → ⟦ C ⟧ ∗ ⟦ K ⟧ ∗ ⟦ fsep (Waking b) (shows x) ⟧ ⊢ access far (λ n. n) (Loaded (Looked b x))
+    load_other_slot lends b x = looks lends (fsep (Waking b) (shows x)) (Looked b x) (λ full. wakes_on full full b x (λ b'. b' ≡ seen_other full b x) (λ a h. (seen_other full b x, other_seen full a b x h, refl, sees full b x)))
 
     abbrev pub Met : Waits X → Wakes X → Pr
-    Met a b = guard 𝓤 (IsRemembered X a b) (⟦ K ⟧ ∗ ⟦ fobs γ (code a) ⟧ ∗ ⟦ fobs δ (code b) ⟧)
+    Met a b = guard 𝓤 (IsRemembered X a b) (⟦ K ⟧ ∗ ⟦ Waiting a ⟧ ∗ ⟦ Waking b ⟧)
 
     -- both sides held by one thread: it is no step
-    meets : Lent K F → (a : Waits X) (b : Wakes X) → ⟦ C ⟧ ∗ ⟦ K ⟧ ∗ ⟦ fobs γ (code a) ⟧ ∗ ⟦ fobs δ (code b) ⟧ ⊢ H.⇛ (Met a b)
+    meets : Lent K F → (a : Waits X) (b : Wakes X) → ⟦ C ⟧ ∗ ⟦ K ⟧ ∗ ⟦ Waiting a ⟧ ∗ ⟦ Waking b ⟧ ⊢ H.⇛ (Met a b)
     meets lends a b = let Q : Pr = Met a b in let Z : Pr = ⟦ I ⟧ ∗ Q in
-        qed 𝓛 (‵ C ∷ ‵ K ∷ ‵ (fobs γ (code a)) ∷ ‵ (fobs δ (code b)) ∷ []) ∵ fsplit ! $ forget ! $ suffices ! _ (𝓛.invs.inv_acc I Q) $ frame ! $ assume ! (‵ I) $
-        use2 𝓛 (‵ K ⊛ ‵ F ⊛ ‵ (fwand F I)) lends $ split3 ! $ move ! (1 ∷ []) $ fpick ! (λ s. fsplit3 ! $ fpick ! (λ is_registered. forget ! $ move ! (1 ∷ []) $ fsplit ! $ fsplit ! $
-        move ! (6 ∷ 0 ∷ []) $ name_agree ! (code_of X c) (λ ea. move ! (7 ∷ 2 ∷ []) $ name_agree ! (code_of X c) (λ eb.
-        move ! (3 ∷ 1 ∷ []) $ fjoin ! $ move ! (4 ∷ 0 ∷ 3 ∷ []) $ fjoin3 ! $ nothing ! $ fpack ! (IsWhere X s.1.1 s.0 s.1.0) (λ _. ftrue) is_registered $ fjoin ! $ fpack ! (Slot X) (slot_at w far γ δ ι c shows) s $
-        move ! (0 ∷ 4 ∷ []) $ use2 𝓛 (‵ I) (apply∗ 𝓤 ⟦ F ⟧ ⟦ I ⟧) $ suffices ! _ (upd_i 𝓤 Z) $ frame ! $
-        check ! (subst (λ (r : Waits X × Wakes X). IsRemembered X r.0 r.1) (λ j. (sym ea j, sym eb j)) (remembers s.0 s.1.0 s.1.1 is_registered)) $ move ! (2 ∷ 1 ∷ 0 ∷ []) $ done !))))
-
-  -- evidence can be had twice
-  evidence_twice : (r : Bool) (x : Stored) → ⟦ evidence z r x ⟧ ⊢ ⟦ evidence z r x ⟧ ∗ ⟦ evidence z r x ⟧
-  evidence_twice true x = announced_twice 𝓛 z x.bytes x.closed
-  evidence_twice false x = let T : Fml = took z x.count in let S : Fml = raised z.closed x.closed in qed 𝓛 (‵ (evidence z false x) ∷ []) ∵ fsplit ! $ use1 𝓛 (‵ T ⊛ ‵ T) (took_twice 𝓛 z x.count) $ split ! $ move ! (2 ∷ []) $
-      use1 𝓛 (‵ S ⊛ ‵ S) (raised_twice 𝓛 z.closed x.closed) $ split ! $ move ! (2 ∷ 0 ∷ []) $ fjoin ! $ move ! (2 ∷ 1 ∷ []) $ fjoin ! $ done !
+        qed 𝓛 (‵ C ∷ ‵ K ∷ ‵ (Waiting a) ∷ ‵ (Waking b) ∷ []) ∵ fsplit ! $ forget ! $ suffices ! _ (𝓛.invs.inv_acc I Q) $ frame ! $ assume ! (‵ I) $
+        use2 𝓛 (‵ K ⊛ ‵ F ⊛ ‵ (fwand F I)) lends $ split3 ! $ move ! (1 ∷ []) $ fpick ! (λ s. fsplit3 ! $ fpick ! (λ there. forget ! $ move ! (1 ∷ []) $ fsplit ! $ move ! (1 ∷ []) $ fpick ! (λ r. fsplit3 ! $ fpick ! (λ so. forget ! $ move ! (1 ∷ []) $ fsplit ! $
+        -- [what the waiter is; what the waker is; the evidence; the right; the word; K; the way back; a; b]
+        move ! (7 ∷ []) $ fsplit ! $ move ! (0 ∷ 2 ∷ []) $ name_agree ! (waits_code X c) (λ ea. move ! (9 ∷ 3 ∷ []) $ name_agree ! (wakes_code X c) (λ eb.
+        -- [b; what the waker is; a; what the waiter is; a's evidence; the evidence; the right; the word; K; the way back]
+        move ! (3 ∷ 1 ∷ []) $ fjoin ! $ move ! (4 ∷ 0 ∷ []) $ fjoin ! $ nothing ! $ fpack ! (AreAt X s.1 r.0 r.1) (λ _. ftrue) so $ fjoin ! $ fpack ! (Waits X × Wakes X) (both_at w far z.cells γ δ c shows s.1) r $
+        -- [both sides; b; a; a's evidence; the right; the word; K; the way back]
+        move ! (4 ∷ 0 ∷ []) $ fjoin ! $ move ! (4 ∷ 0 ∷ []) $ fjoin ! $ nothing ! $ fpack ! (s.0 < 4) (λ _. ftrue) there $ fjoin ! $ fpack ! Lying (slot_at w far z.cells γ δ c shows) s $
+        -- [the slot; b; a; a's evidence; K; the way back]
+        move ! (0 ∷ 5 ∷ []) $ use2 𝓛 (‵ I) (apply∗ 𝓤 ⟦ F ⟧ ⟦ I ⟧) $ suffices ! _ (upd_i 𝓤 Z) $ frame ! $ move ! (1 ∷ 2 ∷ []) $ fjoin ! $ move ! (2 ∷ 0 ∷ 1 ∷ []) $
+        check ! (subst (λ (q : Waits X × Wakes X). IsRemembered X q.0 q.1) (λ j. (sym ea j, sym eb j)) (remembers s.1 r.0 r.1 so)) $ done !))))))
 
   -- an end that lends its words knows that both slots are there
   slot_lent : (q : Share) (k : Known) (r : Bool) → Lent (knows w p z k q) (slot_of w p z r)
@@ -312,64 +338,54 @@ module _ {M : Type 1} {𝓤 : Ura M} (𝓛 : Logic 𝓤) (w p : Ptr) (z : Names)
     K = knows w p z k q
 
     abbrev far : ℕ
-    far = flag_word r * 8
-
-    abbrev place : ℕ
-    place = waker_place z r
+    far = slot_word r * 8
 
     abbrev shows : Stored → Fml
     shows = evidence z r
 
-    -- the steps of the side that waits in the slot
-    module _ (a : Waits Stored) where
-      abbrev A' : Fml
-      A' = waits_in z r a.0 a.1.0 a.1.1
+    abbrev Mine : Waits Stored → Fml
+    Mine a = waits_in z r a.0 a.1.0 a.1.1
 
-      abbrev pub Waited : (ℕ → Stored → Waits Stored → Held → Type 0) → ℕ → Fml
-      Waited = WaitAfter far (waiter z r) (waker z r) place stored_code shows K
+    abbrev Theirs : Wakes Stored → Fml
+    Theirs b = wakes_in z r b.0 b.1
 
-      on_flag : (u : Held) (f : ℕ → ℕ) (then : ℕ → Stored → Waits Stored → Held → Type 0) → ((b : Wakes Stored) (at : Where) → IsWhere Stored at a b → WaitsTo (OnFlag f) then (flag_of at) u a b at) → ⟦ C ⟧ ∗ ⟦ K ⟧ ∗ ⟦ fsep A' (held place u) ⟧ ⊢ access far f (Waited then)
-      on_flag u f then can = waits_flag far (waiter z r) (waker z r) place stored_code shows K (slot_lent q k r) (evidence_twice r) u a f then can
+    abbrev Own : Lying → Fml
+    Own = cell w far z.cells (waiter z r) (waker z r) stored_code shows
 
-      empty_handed : {P : Pr} → ⟦ C ⟧ ∗ ⟦ K ⟧ ∗ ⟦ fsep A' (held place none) ⟧ ⊢ P → ⟦ C ⟧ ∗ ⟦ K ⟧ ∗ ⟦ A' ⟧ ⊢ P
-      empty_handed h = qed 𝓛 (‵ C ∷ ‵ K ∷ ‵ A' ∷ []) ∵ move ! (2 ∷ []) $ nothing ! $ move ! (1 ∷ 0 ∷ []) $ fjoin ! $ move ! (1 ∷ 2 ∷ 0 ∷ []) $ by ! h
+    abbrev pub SwapsOwn : Waits Stored → Bool → ℕ → Fml
+    SwapsOwn a filled = Swapped far (waiter z r) (waker z r) stored_code shows K (Exchanged far (waiter z r) (waker z r) stored_code shows K a filled)
 
-      pub is_registered : ⟦ C ⟧ ∗ ⟦ K ⟧ ∗ ⟦ A' ⟧ ⊢ access far (λ n. n) (Waited (StaysSo a))
-      is_registered = empty_handed (on_flag none (λ n. n) (StaysSo a) (stays_so a))
+    exchange_so : (a : Waits Stored) (own : Lying) → own.0 < 4 → ⟦ C ⟧ ∗ ⟦ K ⟧ ∗ ⟦ fsep (Own own) (Mine a) ⟧ ⊢ access far (λ _. number own) (SwapsOwn a own.1)
+    exchange_so = exchange far (waiter z r) (waker z r) stored_code shows K (slot_lent q k r) (evidence_twice 𝓛 z r)
 
-      pub cancel : a.0 ≡ false → ⟦ C ⟧ ∗ ⟦ K ⟧ ∗ ⟦ A' ⟧ ⊢ access far (λ _. 0) (Waited (Cancels a))
-      cancel gave = empty_handed (on_flag none (λ _. 0) (Cancels a) (cancels a gave))
+    -- what the word is told to be
+    pub exchange_own : (a : Waits Stored) (own : Lying) (new : ℕ) → own.0 < 4 → new ≡ number own → ⟦ C ⟧ ∗ ⟦ K ⟧ ∗ ⟦ fsep (Own own) (Mine a) ⟧ ⊢ access far (λ _. new) (SwapsOwn a own.1)
+    exchange_own a own new small e = subst (λ (m : ℕ). ⟦ C ⟧ ∗ ⟦ K ⟧ ∗ ⟦ fsep (Own own) (Mine a) ⟧ ⊢ access far (λ _. m) (SwapsOwn a own.1)) (sym e) (exchange_so a own small)
 
-      pub reclaim : a.0 ≡ false → ⟦ C ⟧ ∗ ⟦ K ⟧ ∗ ⟦ A' ⟧ ⊢ access (8 + far) (λ _. 0) (Waited (ReclaimsHeld a))
-      reclaim gave = empty_handed (waits_back far (waiter z r) (waker z r) place stored_code shows K (slot_lent q k r) (evidence_twice r) none a (λ _. 0) (ReclaimsHeld a) (reclaims a gave))
+    abbrev pub LoadsOwn : Waits Stored → ℕ → Fml
+    LoadsOwn a = Loaded far (waiter z r) (waker z r) stored_code shows K (Seen far (waiter z r) (waker z r) stored_code shows K a)
 
-      pub publish : a.0 ≡ true → ⟦ C ⟧ ∗ ⟦ K ⟧ ∗ ⟦ fsep A' (held place filled) ⟧ ⊢ access far (λ _. 1) (Waited (λ n x a' _. PublishesWaker Stored a x n a'))
-      publish owns = on_flag filled (λ _. 1) (λ n x a' _. PublishesWaker Stored a x n a') (publishes_waker a owns)
+    pub load_own : (a : Waits Stored) → ⟦ C ⟧ ∗ ⟦ K ⟧ ∗ ⟦ Mine a ⟧ ⊢ access far (λ n. n) (LoadsOwn a)
+    load_own = load_own_slot far (waiter z r) (waker z r) stored_code shows K (slot_lent q k r)
 
-      -- both sides of the slot, held by one thread
-      pub meet : (b : Wakes Stored) → ⟦ C ⟧ ∗ ⟦ K ⟧ ∗ ⟦ A' ⟧ ∗ ⟦ wakes_in z r b.0 b.1.0 b.1.1 ⟧ ⊢ H.⇛ (Met far (waiter z r) (waker z r) place stored_code shows K a b)
-      meet b = meets far (waiter z r) (waker z r) place stored_code shows K (slot_lent q k r) a b
+    abbrev pub EmptiesOther : Wakes Stored → Stored → ℕ → Fml
+    EmptiesOther b x = Swapped far (waiter z r) (waker z r) stored_code shows K (Taken far (waiter z r) (waker z r) stored_code shows K b x)
 
-    -- the steps of the side that wakes whoever waits there, with evidence of what it stored
-    module _ (b : Wakes Stored) (x : Stored) where
-      abbrev B' : Fml
-      B' = wakes_in z r b.0 b.1.0 b.1.1
+    empty_so : (b : Wakes Stored) (x : Stored) (i : ℕ) → i < 4 → ⟦ C ⟧ ∗ ⟦ K ⟧ ∗ ⟦ fsep (Own (i, false)) (fsep (Theirs b) (shows x)) ⟧ ⊢ access far (λ _. number (i, false)) (EmptiesOther b x)
+    empty_so = empty far (waiter z r) (waker z r) stored_code shows K (slot_lent q k r)
 
-      abbrev pub Woke : (ℕ → Wakes Stored → Held → Type 0) → ℕ → Fml
-      Woke = WakeAfter far (waiter z r) (waker z r) place stored_code shows K
+    pub empty_other : (b : Wakes Stored) (x : Stored) (i new : ℕ) → i < 4 → new ≡ number (i, false) → ⟦ C ⟧ ∗ ⟦ K ⟧ ∗ ⟦ fsep (Own (i, false)) (fsep (Theirs b) (shows x)) ⟧ ⊢ access far (λ _. new) (EmptiesOther b x)
+    empty_other b x i new small e = subst (λ (m : ℕ). ⟦ C ⟧ ∗ ⟦ K ⟧ ∗ ⟦ fsep (Own (i, false)) (fsep (Theirs b) (shows x)) ⟧ ⊢ access far (λ _. m) (EmptiesOther b x)) (sym e) (empty_so b x i small)
 
-      wakes_on_flag : (f : ℕ → ℕ) (then : ℕ → Wakes Stored → Held → Type 0) → ((a : Waits Stored) (at : Where) → IsWhere Stored at a b → WakesTo (OnFlag f) then (flag_of at) x none a b at) → ⟦ C ⟧ ∗ ⟦ K ⟧ ∗ ⟦ B' ⟧ ∗ ⟦ shows x ⟧ ⊢ access far f (Woke then)
-      wakes_on_flag f then can = qed 𝓛 (‵ C ∷ ‵ K ∷ ‵ B' ∷ ‵ (shows x) ∷ []) ∵ move ! (2 ∷ []) $ nothing ! $ move ! (1 ∷ 0 ∷ []) $ fjoin ! $ move ! (1 ∷ 2 ∷ 0 ∷ 3 ∷ []) $
-          by ! (wakes_flag far (waiter z r) (waker z r) place stored_code shows K (slot_lent q k r) none b x f then can)
+    abbrev pub LooksAtOther : Wakes Stored → Stored → ℕ → Fml
+    LooksAtOther b x = Loaded far (waiter z r) (waker z r) stored_code shows K (Looked far (waiter z r) (waker z r) stored_code shows K b x)
 
-      pub load_flag : b.0 ≡ false → ⟦ C ⟧ ∗ ⟦ K ⟧ ∗ ⟦ B' ⟧ ∗ ⟦ shows x ⟧ ⊢ access far (λ n. n) (Woke (λ n b' _. Looks Stored b x n b'))
-      load_flag rests = wakes_on_flag (λ n. n) (λ n b' _. Looks Stored b x n b') (looks b x rests)
+    pub load_other : (b : Wakes Stored) (x : Stored) → ⟦ C ⟧ ∗ ⟦ K ⟧ ∗ ⟦ fsep (Theirs b) (shows x) ⟧ ⊢ access far (λ n. n) (LooksAtOther b x)
+    load_other = load_other_slot far (waiter z r) (waker z r) stored_code shows K (slot_lent q k r)
 
-      pub take_waker : b.0 ≡ false → ⟦ C ⟧ ∗ ⟦ K ⟧ ∗ ⟦ B' ⟧ ∗ ⟦ shows x ⟧ ⊢ access far (λ _. 0) (Woke (TakesHeld b x))
-      take_waker rests = wakes_on_flag (λ _. 0) (TakesHeld b x) (takes b x rests)
-
-      pub give_back : b.0 ≡ true → ⟦ C ⟧ ∗ ⟦ K ⟧ ∗ ⟦ fsep B' (held place emptied) ⟧ ∗ ⟦ shows x ⟧ ⊢ access (8 + far) (λ _. 1) (Woke (λ n b' _. GivesBack Stored b x n b'))
-      give_back holds = wakes_back far (waiter z r) (waker z r) place stored_code shows K (slot_lent q k r) emptied b x (λ _. 1) (λ n b' _. GivesBack Stored b x n b') (gives_back b x holds)
+    -- both sides of the slot, held by one thread
+    pub meet : (a : Waits Stored) (b : Wakes Stored) → ⟦ C ⟧ ∗ ⟦ K ⟧ ∗ ⟦ Mine a ⟧ ∗ ⟦ Theirs b ⟧ ⊢ H.⇛ (Met far (waiter z r) (waker z r) stored_code shows K a b)
+    meet = meets far (waiter z r) (waker z r) stored_code shows K (slot_lent q k r)
 
   -- what the writer's right to the stream shows
   pub writer_stored : (q : Share) (sent : List ℕ) (limit : ℕ) (shut : Bool) → ⟦ WK q sent limit shut 0 ⟧ ⊢ ⟦ WK q sent limit shut 0 ⟧ ∗ ⟦ evidence z true (as_stored sent 0 shut) ⟧

@@ -9,8 +9,7 @@ use Rattle.core.specs.Allocator.{HasLayout, owned_block, array_of}
 use Rattle.piper_cells.specs.Space.{room}
 use Rattle.piper_ring.specs.Places.{fact}
 
--- of cache lines: head, the writer's slot, closed with the reader's slot, and tail, and one word that
--- is not used
+-- the words in use, the space between them, and some that are not used
 abbrev pub words_type : Ty
 words_type = array_of u64 28
 
@@ -30,9 +29,9 @@ purpose size = array_of u64 (size / 8)
 abbrev pub heap_token : Ty → Ptr → Fml
 heap_token = ghosts.dealloc_token (record { memory = record { seal = tt } })
 
--- between the words head and the writer's slot is a space of six words, for the places of the wakers
+-- between the words head and the writer's slot is a space of twelve words, for the cells of the wakers
 abbrev pub space_words : ℕ
-space_words = 6
+space_words = 12
 
 abbrev pub space_of : Ptr → Ptr
 space_of w = block_ptr (block_of w) (16 + count_of w)

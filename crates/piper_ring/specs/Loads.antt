@@ -1,4 +1,4 @@
--- What a load of one of the ring's words found, and what lay in a side's place. Of these definitions
+-- What a load of one of the ring's words found, and what lay in a side's slot. Of these definitions
 -- those with a lemma below are sealed: no proof looks into them, and only those of the loads in
 -- src/ring/seats.rt, slots.rt and remains.rt, and of the calls in src/ends/slots, use the lemmas.
 -- So what a clause says of one of them came from such a call.
@@ -17,53 +17,33 @@ FoundConsumed names count = ⊤
 pub FoundClosed : Names → Bool → Type 0
 FoundClosed names closed = ⊤
 
--- the flag of a side's slot, which that side loaded, was so: 1 where its waker was registered there
-pub FoundFlag : Names → ℕ → Type 0
-FoundFlag names flag = ⊤
+-- a side's own slot, which that side loaded, held a waker, or none
+pub FoundOwn : Names → Bool → Type 0
+FoundOwn names is_found = ⊤
 
--- the word by which a side's place is handed back, which that side loaded, was so: 1 where it was
-pub FoundBack : Names → ℕ → Type 0
-FoundBack names back = ⊤
+-- the other side's slot, which was loaded, held a waker, or none
+pub FoundWaiter : Names → Bool → Type 0
+FoundWaiter names is_found = ⊤
 
--- the flag of the other side's slot, which was loaded, was so: 1 where a waker was registered there
-pub FoundWaiter : Names → ℕ → Type 0
-FoundWaiter names flag = ⊤
-
--- no waker of a side is registered in its slot: the side has its place, or found its flag to be 0
+-- no waker of a side is registered in its slot: the side waits no more, or found the slot empty
 abbrev pub IsUnregistered : Names → Bool → Type 0
-IsUnregistered names owns = (owns ≡ true) ⊎ FoundFlag names 0
+IsUnregistered names waits = (waits ≡ false) ⊎ FoundOwn names false
 
--- a side's place is with the other side: it was not handed back, and no waker was registered any more
-abbrev pub IsAway : Names → Type 0
-IsAway names = FoundBack names 0 × FoundFlag names 0
-
--- a side that had its place or not took it back, with this waker in it, or none
-pub CameBack : {T : Type 0} → Bool → Option T → Type 0
-CameBack had waker = ⊤
-
--- a side of this ring registered under this ticket, and this waker lay in its place then
+-- a side of this ring registered under this ticket, and this waker lay in its slot then
 pub WasPut : {T : Type 0} → Names → ℕ → T → Type 0
 WasPut names ticket waker = ⊤
 
--- a side of this ring that had its place or not, and had registered so often, took back what lay
--- there: this waker, or none
+-- a side of this ring, which waited or not and had registered so often, got out what lay in its slot:
+-- this waker, or none
 pub WasTakenBack : {T : Type 0} → Names → Bool → ℕ → Option T → Type 0
-WasTakenBack names had tickets waker = ⊤
+WasTakenBack names waits tickets waker = ⊤
 
--- a side of this ring took its waker back, which lay in its slot and not with it; or none was
--- registered there
-pub record TookBack {T : Type 0} (names : Names) (had : Bool) (tickets : ℕ) (waker : Option T)
+-- a side of this ring got its waker back, which lay in its slot; or none was registered there
+pub record TookBack {T : Type 0} (names : Names) (waits : Bool) (tickets : ℕ) (waker : Option T)
     : Type 0 where
-  pub some : IsSome waker → had ≡ false
-  pub none : waker ≡ None → IsUnregistered names had
-  pub taken : WasTakenBack names had tickets waker
-
--- a side of this ring took its place back, with the waker that was still registered there, or none
-pub record Reclaimed {T : Type 0} (names : Names) (had : Bool) (tickets : ℕ) (waker : Option T)
-    : Type 0 where
-  pub some : IsSome waker → had ≡ false
-  pub back : CameBack had waker
-  pub taken : WasTakenBack names had tickets waker
+  pub some : IsSome waker → waits ≡ true
+  pub none : waker ≡ None → IsUnregistered names waits
+  pub taken : WasTakenBack names waits tickets waker
 
 -- a check of the other side's slot of this ring took the ticket `new`, where the last one was `old`,
 -- and got this waker with it, or none
@@ -74,9 +54,9 @@ WasTaken names old new waker = ⊤
 pub FoundGone : Names → ℕ → Type 0
 FoundGone names gone = ⊤
 
--- both ends had left: the flag of the slot whose place has this name was so: 1 where a waker lay there
-pub FoundLeft : ℕ → ℕ → Type 0
-FoundLeft place flag = ⊤
+-- both ends had left: the reader's slot, or the writer's, held a waker, or none
+pub FoundLeft : Names → Bool → Bool → Type 0
+FoundLeft names for_reader is_found = ⊤
 
 pub as_published : (names : Names) (count : ℕ) → FoundPublished names count
 unfolding FoundPublished
@@ -90,18 +70,14 @@ pub as_closed : (names : Names) (closed : Bool) → FoundClosed names closed
 unfolding FoundClosed
 as_closed names closed = tt
 
-pub as_back : {T : Type 0} (had : Bool) (waker : Option T) → CameBack had waker
-unfolding CameBack
-as_back had waker = tt
-
 pub as_put : {T : Type 0} (names : Names) (ticket : ℕ) (waker : T) → WasPut names ticket waker
 unfolding WasPut
 as_put names ticket waker = tt
 
-pub as_taken_back : {T : Type 0} (names : Names) (had : Bool) (tickets : ℕ) (waker : Option T)
-    → WasTakenBack names had tickets waker
+pub as_taken_back : {T : Type 0} (names : Names) (waits : Bool) (tickets : ℕ) (waker : Option T)
+    → WasTakenBack names waits tickets waker
 unfolding WasTakenBack
-as_taken_back names had tickets waker = tt
+as_taken_back names waits tickets waker = tt
 
 pub as_taken : {T : Type 0} (names : Names) (old new : ℕ) (waker : Option T)
     → WasTaken names old new waker
@@ -112,18 +88,14 @@ pub as_gone : (names : Names) (gone : ℕ) → FoundGone names gone
 unfolding FoundGone
 as_gone names gone = tt
 
-pub as_lying : (place flag : ℕ) → FoundLeft place flag
+pub as_lying : (names : Names) (for_reader is_found : Bool) → FoundLeft names for_reader is_found
 unfolding FoundLeft
-as_lying place flag = tt
+as_lying names for_reader is_found = tt
 
-pub as_flag : (names : Names) (flag : ℕ) → FoundFlag names flag
-unfolding FoundFlag
-as_flag names flag = tt
+pub as_own : (names : Names) (is_found : Bool) → FoundOwn names is_found
+unfolding FoundOwn
+as_own names is_found = tt
 
-pub as_handed_back : (names : Names) (back : ℕ) → FoundBack names back
-unfolding FoundBack
-as_handed_back names back = tt
-
-pub as_waiter : (names : Names) (flag : ℕ) → FoundWaiter names flag
+pub as_waiter : (names : Names) (is_found : Bool) → FoundWaiter names is_found
 unfolding FoundWaiter
-as_waiter names flag = tt
+as_waiter names is_found = tt

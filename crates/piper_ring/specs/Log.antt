@@ -16,7 +16,7 @@ use Rattle.piper_protocol.specs.declared.table.Side.{Side}
 use Rattle.piper_protocol.specs.declared.table.Side.TheVariants as side
 use Rattle.piper_protocol.specs.declared.table.WritePoint.TheVariants as on
 use Rattle.piper_ring.specs.Loads.{FoundClosed, FoundConsumed, FoundPublished, FoundWaiter}
-use Rattle.piper_ring.specs.Shared.{Names, flag}
+use Rattle.piper_ring.specs.Shared.{Names}
 use Rattle.piper_ring.specs.declared.log.Line.{Line}
 use Rattle.piper_ring.specs.declared.log.Line.TheVariants.{Began, Made, ClosedLoaded, Drew}
 use Rattle.piper_ring.specs.declared.log.Log.{Log as log}
@@ -156,7 +156,7 @@ WasClosedLoaded is_closed = (names : Names) × FoundClosed names is_closed
 
 -- the other side's slot was checked
 abbrev pub WasSlotLoaded : Bool → Type 0
-WasSlotLoaded is_found = (names : Names) × FoundWaiter names (flag is_found)
+WasSlotLoaded is_found = (names : Names) × FoundWaiter names is_found
 
 -- a side of this ring left: after its close it checked the other's slot, and found this waker there or
 -- none; its log ends there. It is sealed: no proof looks into it, and only those of `finish` use the

@@ -1,5 +1,5 @@
 -- The two ends of a new ring, and its slots.
-use Rattle.std.specs.Prelude.{◌≡◌, ℕ, true, false, []}
+use Rattle.std.specs.Prelude.{◌≡◌, ℕ, false, []}
 use Rattle.piper_ring.specs.ReadView.{ReadView}
 use Rattle.piper_ring.specs.WriteView.{WriteView}
 use Rattle.piper_ring.specs.Shared.{Names}
@@ -28,5 +28,5 @@ pub record FreshWriteEnd (cap : ℕ) (w : WriteView) : Type 0 where
 -- nobody has waited, and no check followed a store
 pub record FreshSlots (z : Names) (s : SlotsView) : Type 0 where
   pub names : s.names ≡ z
-  pub waits : (s.owns ≡ true) × (s.tickets ≡ 0)
+  pub waits : (s.waits ≡ false) × (s.tickets ≡ 0)
   pub wakes : (s.taken ≡ 0) × (s.stored ≡ nothing_stored)

@@ -2,7 +2,7 @@
 -- Bytes are counted from the first one sent. The reader owns the places
 -- of the bytes that it knows of, the writer those of its known room;
 -- the invariant owns the words, all other places, and the right to free the memory.
-use Rattle.std.specs.Prelude.{◌≡◌, ℕ, zero, suc, ◌+◌, ◌-◌, ◌*◌, ◌^◌, ◌<◌, ◌≤◌, Bool, true, false, List, length, drop, refl}
+use Rattle.std.specs.Prelude.{◌≡◌, ℕ, zero, suc, ◌+◌, ◌-◌, ◌*◌, ◌^◌, ◌<◌, ◌≤◌, Bool, true, false, List, length, drop, refl, slice_index}
 use base.Fraction.{full_share}
 use base.Share.{left, right}
 use base.Stored.{coded_ℕ}
@@ -12,7 +12,7 @@ use denote.Builtin.{u8}
 use denote.RawPtr.{Ptr, coded_ptr, block_of, count_of, InBlock}
 use denote.Sharing.{said, beside, one}
 use Rattle.core.specs.Allocator.{array_of}
-use Rattle.std.specs.Coded.{Coded, code_by, coded×}
+use Rattle.std.specs.Coded.{Coded, code_by, coded×, coded_list}
 use Rattle.rtrb.specs.Fifo.{position_of}
 use Rattle.rtrb.specs.Shared.{run, span}
 use Rattle.piper_cells.specs.TokenCell.{right as right_to}
@@ -22,7 +22,7 @@ use Rattle.piper_ring.specs.Places.{fact, byte, unset}
 pub use Rattle.piper_ring.specs.Streams.{Stream}
 use Rattle.piper_ring.specs.Streams.{streams}
 pub use Rattle.piper_ring.specs.Words.{flag, word, word_room, where_gone}
-use Rattle.piper_ring.specs.Slot.{Stored, stored_code, slot, code_of}
+use Rattle.piper_ring.specs.Slot.{Lying, Stored, number, slot, stored_code, waits_code, wakes_code}
 
 -- The capacity, and the ghost names under which the ring's history is kept.
 pub record Names : Type 0 where
@@ -46,14 +46,13 @@ pub record Names : Type 0 where
   pub writer_wakes : ℕ
   pub writer_waits : ℕ
   pub reader_wakes : ℕ
-  -- the rights to the places of the two wakers
-  pub reader_place : ℕ
-  pub writer_place : ℕ
-  -- the lifetime for which the space of these places is lent
+  -- the rights to the four cells
+  pub cells : List ℕ
+  -- the lifetime for which the space of these cells is lent
   pub life : ℕ
 
-abbrev pub names_of : (c s l h e o i j a b d f u v y : ℕ) → Names
-names_of c s l h e o i j a b d f u v y = record {
+abbrev pub names_of : (c s l h e o i j a b d f : ℕ) → List ℕ → ℕ → Names
+names_of c s l h e o i j a b d f cells life = record {
   capacity = c;
   sent = s;
   limit = l;
@@ -66,9 +65,8 @@ names_of c s l h e o i j a b d f u v y = record {
   writer_wakes = b;
   writer_waits = d;
   reader_wakes = f;
-  reader_place = u;
-  writer_place = v;
-  life = y;
+  cells = cells;
+  life = life;
 }
 
 abbrev pub Three : Type 0
@@ -77,15 +75,14 @@ Three = ℕ × (ℕ × ℕ)
 abbrev pub coded_three : Coded Three
 coded_three = coded× coded_ℕ (coded× coded_ℕ coded_ℕ)
 
-abbrev pub of_threes : Three → Three → Three → Three → Three → Names
-of_threes a b c d e =
-    names_of a.0 a.1.0 a.1.1 b.0 b.1.0 b.1.1 c.0 c.1.0 c.1.1 d.0 d.1.0 d.1.1 e.0 e.1.0 e.1.1
+abbrev pub of_threes : Three → Three → Three → Three → List ℕ → ℕ → Names
+of_threes a b c d = names_of a.0 a.1.0 a.1.1 b.0 b.1.0 b.1.1 c.0 c.1.0 c.1.1 d.0 d.1.0 d.1.1
 
 abbrev pub names_code : Coded Names
 names_code =
-    code_by ((Three × Three) × ((Three × Three) × Three))
+    code_by ((Three × Three) × ((Three × Three) × (List ℕ × ℕ)))
     (coded× (coded× coded_three coded_three)
-    (coded× (coded× coded_three coded_three) coded_three))
+    (coded× (coded× coded_three coded_three) (coded× (coded_list coded_ℕ) coded_ℕ)))
     (λ z. (
       ((z.capacity, (z.sent, z.limit)), (z.head, (z.seen, z.closed))),
       (
@@ -93,10 +90,10 @@ names_code =
           (z.reader_stage, (z.writer_stage, z.reader_waits)),
           (z.writer_wakes, (z.writer_waits, z.reader_wakes)),
         ),
-        (z.reader_place, (z.writer_place, z.life)),
+        (z.cells, z.life),
       ),
     ))
-    (λ p. of_threes p.0.0 p.0.1 p.1.0.0 p.1.0.1 p.1.1) (λ _. refl)
+    (λ p. of_threes p.0.0 p.0.1 p.1.0.0 p.1.0.1 p.1.1.0 p.1.1.1) (λ _. refl)
 
 -- which ring it is: where its words and its memory begin, and its names
 pub record Ring : Type 0 where
@@ -171,8 +168,7 @@ four_rooms w =
 
 -- the words of both slots
 abbrev pub slot_rooms : Ptr → Fml
-slot_rooms w =
-    fsep (word_room w 144) (fsep (word_room w 152) (fsep (word_room w 72) (word_room w 80)))
+slot_rooms w = fsep (word_room w 144) (word_room w 112)
 
 abbrev pub all_rooms : Ptr → Fml
 all_rooms w = fsep (four_rooms w) (slot_rooms w)
@@ -202,10 +198,10 @@ abbrev pub evidence : Names → Bool → Stored → Fml
 evidence z true s = announced z s.bytes s.closed
 evidence z false s = fsep (took z s.count) (raised z.closed s.closed)
 
--- the index of the slot's flag among the words: its other word, `back`, is the next
-abbrev pub flag_word : Bool → ℕ
-flag_word true = 18
-flag_word false = 9
+-- the index of the slot's word among the words
+abbrev pub slot_word : Bool → ℕ
+slot_word true = 18
+slot_word false = 14
 
 abbrev pub waiter : Names → Bool → ℕ
 waiter z true = z.reader_waits
@@ -215,26 +211,22 @@ abbrev pub waker : Names → Bool → ℕ
 waker z true = z.writer_wakes
 waker z false = z.reader_wakes
 
-abbrev pub waker_place : Names → Bool → ℕ
-waker_place z true = z.reader_place
-waker_place z false = z.writer_place
-
 -- what the side knows that waits in the slot
 abbrev pub waits_in : Names → Bool → Bool → ℕ → Stored → Fml
-waits_in z r owns tickets heard =
-    fobs (waiter z r) ((code_of Stored stored_code).code (owns, (tickets, heard)))
+waits_in z r waits tickets heard =
+    fsep (fobs (waiter z r) ((waits_code Stored stored_code).code (waits, (tickets, heard))))
+    (evidence z r heard)
 
 -- what the side knows that wakes whoever waits there
-abbrev pub wakes_in : Names → Bool → Bool → ℕ → Stored → Fml
-wakes_in z r holds taken left =
-    fobs (waker z r) ((code_of Stored stored_code).code (holds, (taken, left)))
+abbrev pub wakes_in : Names → Bool → ℕ → Stored → Fml
+wakes_in z r taken left = fobs (waker z r) ((wakes_code Stored stored_code).code (taken, left))
 
 module _ (w p : Ptr) (z : Names) where
   -- in the reader's slot the reader waits for what the writer publishes, in the writer's the writer
   -- for what the reader consumes
   abbrev pub slot_of : Bool → Fml
   slot_of r =
-      slot w (flag_word r * 8) (waiter z r) (waker z r) (waker_place z r) stored_code (evidence z r)
+      slot w (slot_word r * 8) z.cells (waiter z r) (waker z r) stored_code (evidence z r)
 
   abbrev pub words : State → Fml
   words s =
@@ -362,19 +354,20 @@ module _ (w p : Ptr) (z : Names) where
   abbrev pub words_lent : Bool → Stored → Lft → Fml
   words_lent r s κ = fsep common (fsep (fex Known (lent_by κ)) (evidence z r s))
 
-  -- the flag of a slot, and where it is 1, the right to the place of the waker that lies there
-  abbrev pub found_left : ℕ → ℕ → Bool → Fml
-  found_left far place b = fsep (word w far (flag b)) (right_to b place b)
+  -- the word of a slot, and the right to the cell that lies there
+  abbrev pub found_left : ℕ → Lying → Fml
+  found_left far s =
+      fsep (fact (s.0 < 4)) (fsep (word w far (number s)) (right_to true (slice_index z.cells s.0) s.1))
 
-  abbrev pub left_in : ℕ → ℕ → Fml
-  left_in far place = fex Bool (found_left far place)
+  abbrev pub left_in : ℕ → Fml
+  left_in far = fex Lying (found_left far)
 
   abbrev pub wakers_left : Fml
-  wakers_left = fsep (left_in 144 z.reader_place) (left_in 72 z.writer_place)
+  wakers_left = fsep (left_in 144) (left_in 112)
 
-  -- all of the ring's block but for the space that is lent, and the flags of the slots
+  -- all of the ring's block but for the space that is lent, and the words of the slots
   abbrev pub frame : Fml
-  frame = fwand (fsep (space_room w) (fsep (word_room w 144) (word_room w 72))) block_room
+  frame = fwand (fsep (space_room w) (slot_rooms w)) block_room
 
   abbrev pub both_leases : Fml
   both_leases = fsep (lease z.life true) (lease z.life false)

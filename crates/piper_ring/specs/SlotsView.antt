@@ -1,7 +1,7 @@
 -- What a contract sees of what a side has of the slots, and how the side keeps it.
-use Rattle.std.specs.Prelude.{◌≡◌, ℕ, ◌+◌, ◌<◌, ◌≤◌, ◌⊎◌, Bool, true, false, not, [], length, refl, is_some, IfSome, IsSome, Option, None}
+use Rattle.std.specs.Prelude.{◌≡◌, ℕ, ◌+◌, ◌<◌, ◌≤◌, ◌⊎◌, Bool, true, false, not, [], length, refl, is_some, IsSome, Option, None}
 use Rattle.std.specs.Coded.{Coded, code_by, coded×, coded_ℕ, coded_bool}
-use Rattle.piper_ring.specs.Shared.{Names, flag, names_code, waker_place}
+use Rattle.piper_ring.specs.Shared.{Names, names_code}
 use Rattle.piper_ring.specs.Loads.{FoundWaiter, WasTaken}
 use Rattle.piper_ring.specs.Slot.{Stored, as_stored, stored_code}
 use Rattle.piper_ring.specs.SlotValues.{IsTokenOf}
@@ -12,12 +12,9 @@ use Rattle.piper_ring.specs.declared.ends.slots.SlotParts.{SlotParts}
 pub record SlotsView : Type 0 where
   -- the names of the ring
   pub names : Names
-  -- whether the side holds the place of its waker: if not, its waker is registered in the slot, or
-  -- the place is with the other side, or on its way back
-  pub owns : Bool
-  -- whether its waker may be registered in its slot: it registered, and found it there at each look
-  -- since
-  pub maybe_registered : Bool
+  -- whether its waker may be in its slot: it registered, and neither took its waker back nor found
+  -- it gone since
+  pub waits : Bool
   -- how often it registered
   pub tickets : ℕ
   -- what the other side had stored at its last check of the slot before that registration
@@ -27,11 +24,10 @@ pub record SlotsView : Type 0 where
   -- what it had stored when it checked last
   pub stored : Stored
 
-abbrev pub slots_of : Names → Bool → Bool → ℕ → Stored → ℕ → Stored → SlotsView
-slots_of z o m t h k s = record {
+abbrev pub slots_of : Names → Bool → ℕ → Stored → ℕ → Stored → SlotsView
+slots_of z w t h k s = record {
   names = z;
-  owns = o;
-  maybe_registered = m;
+  waits = w;
   tickets = t;
   heard = h;
   taken = k;
@@ -40,32 +36,28 @@ slots_of z o m t h k s = record {
 
 abbrev pub slots_code : Coded SlotsView
 slots_code =
-    code_by (((Names × Bool) × (Bool × ℕ)) × (Stored × (ℕ × Stored)))
-    (coded× (coded× (coded× names_code coded_bool) (coded× coded_bool coded_ℕ))
+    code_by ((Names × (Bool × ℕ)) × (Stored × (ℕ × Stored)))
+    (coded× (coded× names_code (coded× coded_bool coded_ℕ))
     (coded× stored_code (coded× coded_ℕ stored_code)))
-    (λ s. (((s.names, s.owns), (s.maybe_registered, s.tickets)), (s.heard, (s.taken, s.stored))))
-    (λ p. slots_of p.0.0.0 p.0.0.1 p.0.1.0 p.0.1.1 p.1.0 p.1.1.0 p.1.1.1)
+    (λ s. ((s.names, (s.waits, s.tickets)), (s.heard, (s.taken, s.stored))))
+    (λ p. slots_of p.0.0 p.0.1.0 p.0.1.1 p.1.0 p.1.1.0 p.1.1.1)
     (λ _. refl)
 
 abbrev pub slots_view : {H : Type 0} → SlotParts H → SlotsView
 slots_view s =
-    slots_of s.waits.names s.waits.owns s.maybe_registered s.waits.tickets s.waits.heard
-    s.wakes.taken s.wakes.stored
+    slots_of s.waits.names s.waits.waits s.waits.tickets s.waits.heard s.wakes.taken s.wakes.stored
 
 pub record IsSlots {H : Type 0} (r : Bool) (tells : H → Names → Stored → Type 0) (s : SlotParts H)
     : Type 0 where
   pub sides : (s.waits.for_reader ≡ r) × (s.wakes.for_reader ≡ not r)
-  pub there : is_some s.right ≡ s.waits.owns
-  pub right : IfSome s.right (IsTokenOf (waker_place s.waits.names r) true false)
-  pub is_registered : s.maybe_registered ≡ true → s.waits.owns ≡ false
+  pub own : IsTokenOf s.waits.names.cells s.own.index false s.own.right
+  pub is_waiting : s.is_waiting ≡ s.waits.waits
   pub heard : tells s.heard s.waits.names s.waits.heard
-  pub rests : s.wakes.holds ≡ false
   pub of_one_ring : s.wakes.names ≡ s.waits.names
 
 -- the side is registered in its slot, under a new ticket
 abbrev pub Registers : SlotsView → SlotsView → Type 0
-Registers a b =
-    b ≡ record a { owns = false; maybe_registered = true; tickets = a.tickets + 1; heard = b.heard }
+Registers a b = b ≡ record a { waits = true; tickets = a.tickets + 1; heard = b.heard }
 
 -- the side waits as it did: since a it has at most checked the other's slot
 abbrev pub WaitsAsBefore : SlotsView → SlotsView → Type 0
@@ -76,18 +68,17 @@ WaitsAsBefore a b = b ≡ record a { taken = b.taken; stored = b.stored }
 pub record TakesTicket {T : Type 0} (a b : SlotsView) (got : Option T) : Type 0 where
   pub none : got ≡ None → b.taken ≡ a.taken
   pub some : IsSome got → a.taken < b.taken
-  pub found : FoundWaiter a.names (flag (is_some got))
+  pub found : FoundWaiter a.names (is_some got)
   pub waker : WasTaken a.names a.taken b.taken got
 
 -- the side has not checked the other's slot since a: it waits as it did, or otherwise
 abbrev pub OnlyWaits : SlotsView → SlotsView → Type 0
 OnlyWaits a b =
-    b ≡ record a
-    { owns = b.owns; maybe_registered = b.maybe_registered; tickets = b.tickets; heard = b.heard }
+    b ≡ record a { waits = b.waits; tickets = b.tickets; heard = b.heard }
 
 -- the reader waits: it has registered, and its look after that found nothing to do
 pub record IsReaderPending (r : ReadView) (s : SlotsView) : Type 0 where
-  pub registered : s.owns ≡ false
+  pub registered : s.waits ≡ true
   pub none : r.known ≡ []
   pub stays_open : r.saw ≡ false
   pub looked : length s.heard.bytes ≤ length r.taken
@@ -95,7 +86,7 @@ pub record IsReaderPending (r : ReadView) (s : SlotsView) : Type 0 where
 
 -- the writer waits: it has registered, and its look after that found no room
 pub record IsWriterPending (w : WriteView) (s : SlotsView) : Type 0 where
-  pub registered : s.owns ≡ false
+  pub registered : s.waits ≡ true
   pub none : w.room ≡ 0
   pub stays_open : w.saw ≡ false
   pub looked : s.heard.count + w.capacity ≤ length w.sent

@@ -87,7 +87,7 @@ impl AsyncRead for CompatEnd {
             buf.old buf.new × (shown_by (read_half self.new) ≡ []) }
         ensures end { DrainsEnd result (reading self.old) (reading self.new) }
         ensures pending { DrainDraws result (reading self.old) (reading self.new)
-            × OnPending result (DrainPends (reading self.old) (reading self.new) cx.new) }
+            × OnPending result (DrainPends (reading self.old) (reading self.new) cx.old cx.new) }
         ensures memory { IfReadyErr result (λ e. WantsMemory cx.new e
             × (known (reading self.new) ≡ [])) }
         ensures woken { WakesWriter (reading self.old) (reading self.new) }
@@ -109,7 +109,7 @@ impl AsyncBufRead for CompatEnd {
         ensures shown { OnReadyOk result (ShowsFront (read_half self.new)) }
         ensures end { PollsEnd result (reading self.old) (reading self.new) }
         ensures pending { OnPending result
-            (ReaderPends (reading self.old) (reading self.new) cx.new) }
+            (ReaderPends (reading self.old) (reading self.new) cx.old cx.new) }
         ensures memory { IfReadyErr result (λ e. WantsMemory cx.new e
             × (known (reading self.new) ≡ [])) }
         ensures woken { WakesWriter (reading self.old) (reading self.new) }
@@ -162,7 +162,7 @@ impl AsyncWrite for CompatEnd {
             × SameWriterButMoved (writing self.old) (writing self.new) }
         ensures end { FillsEnd result (writing self.old) (writing self.new) }
         ensures pending { FillDraws (of_io result) (writing self.old) (writing self.new)
-            × OnPending result (FillPends (writing self.old) (writing self.new) cx.new) }
+            × OnPending result (FillPends (writing self.old) (writing self.new) cx.old cx.new) }
         ensures memory { IfReadyErr result (λ e. WantsMemory cx.new e
             × (room (writing self.new) ≡ 0)) }
         ensures woken { WakesReader (writing self.old) (writing self.new) }

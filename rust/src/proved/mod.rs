@@ -6,4 +6,4 @@ pub(crate) mod piper_protocol;
 pub(crate) mod piper_ring;
 
 /// How many bytes the ring lends between its words.
-pub(crate) const SPACE: usize = 48;
+pub(crate) const SPACE: usize = 96;

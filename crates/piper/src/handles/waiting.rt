@@ -2,16 +2,15 @@
 ghost use Rattle.std.specs.Prelude.{◌≡◌, ◌⊎◌, IsTrue, IsFalse, IfNone, IfSome, true, false};
 ghost use Rattle.futures.specs.Task.{Covers, Keeps, Wakes};
 ghost use Rattle.piper_ring.specs.Log.{Comes, WakesNext, WasMade, made, next, now, other, own, then};
-ghost use Rattle.piper_ring.specs.SlotsView.{OnlyWaits, WaitsAsBefore};
-ghost use Rattle.piper.specs.Called.{CallsOwn, CallsTaken, IsGranted, LetsOwnGo, WasCalled, WasLetGo};
-ghost use Rattle.piper.specs.Contexts.{JustRegistered};
+ghost use Rattle.piper_ring.specs.SlotsView.{OnlyWaits, Registers, WaitsAsBefore};
+ghost use Rattle.piper.specs.Called.{CallsOwn, CallsTaken, LetsOwnGo, RegistersTask, WasCalled, WasLetGo};
+ghost use Rattle.piper.specs.Contexts.{LacksWaker, WasAsked};
 
 use futures::task::{Context, Poll, Source, Waker};
 use piper_protocol::table::{Action, Found};
-use piper_ring::{Away, LeftWakers, Side, SlotEnd};
+use piper_ring::{LeftWakers, Side, SlotEnd};
 
-/// Registers in the side's slot, and reports whether a waker was granted. If the other side has just
-/// taken whoever was registered there, the task asks for another poll in place of that.
+/// Registers in the side's slot, and reports whether a waker was granted.
 #[inline(never)]
 pub(crate) fn register<E: SlotEnd>(
     side: &mut Side<E, Waker>,
@@ -21,56 +20,53 @@ pub(crate) fn register<E: SlotEnd>(
     requires turn { next side.old.log ≡ Action.Register }
     ensures log { side.new.log ≡ made (Found.Granted result) side.old.log }
     ensures covered { Covers cx.new (λ s. s ≡ source.now.id) }
-    ensures registered { IsTrue result → IsGranted side.old.slots side.new.slots cx.new }
+    ensures registered { IsTrue result → Registers side.old.slots side.new.slots
+        × RegistersTask side.old.slots side.new.slots cx.old cx.new }
     ensures refused { IsFalse result →
-        (cx.new.lacks_waker ≡ true) × (side.new.slots.maybe_registered ≡ false) }
+        LacksWaker cx.old cx.new × (side.new.slots.waits ≡ false) }
     ensures kept { Keeps cx.old cx.new }
     ensures waits { OnlyWaits side.old.slots side.new.slots }
     ensures rest { (side.new.end ≡ side.old.end) × (side.new.cells ≡ side.old.cells) }
 {
-    let held = match side.reclaim_waker() {
-        Ok(held) => held,
-        Err(Away) => {
-            let _pending: Poll<()> = cx.yield_now();
-            side.note(Action::Register, Found::Granted(true));
-            return true;
-        }
-    };
-    let Some(waker) = grant(held, source, cx) else {
+    // A waker of this task that still lies there goes in again: if it were dropped, it would wake
+    // the task, and each poll would ask for the next.
+    let mut waker = side.cancel();
+    ask(source, &mut waker, cx);
+    let Some(waker) = waker else {
         side.note(Action::Register, Found::Granted(false));
         return false;
     };
-    side.publish_waker(waker);
+    let None = side.register(waker) else {
+        unreachable!()
+    };
     side.note(Action::Register, Found::Granted(true));
     true
 }
 
-/// A waker of the task that is polled, which waits at `source`, in place of the one that its slot
-/// held: that is the same if it is of this task, and else it is woken. If none can be made, the task
+/// Asks for a waker of the task that is polled, which waits at `source`, in place of the one in
+/// `waker`: that stays if it is of this task, and else it is woken. If none can be made, the task
 /// has asked for another poll.
-fn grant(held: Option<Waker>, source: &Source, cx: &mut Context<'_>) -> Option<Waker>
+fn ask(source: &Source, waker: &mut Option<Waker>, cx: &mut Context<'_>)
     ensures covered { Covers cx.new (λ s. s ≡ source.now.id) }
-    ensures calm { JustRegistered held cx.new }
-    ensures refused { IfNone result (cx.new.lacks_waker ≡ true) }
-    ensures task { IfSome result (λ w. (cx.new.lacks_waker ≡ true) ⊎ Wakes w cx.new) }
+    ensures asked { WasAsked waker.old waker.new cx.old cx.new }
+    ensures refused { IfNone waker.new (cx.new.lacks_waker ≡ true) }
+    ensures task { IfSome waker.new (λ w. (cx.new.lacks_waker ≡ true) ⊎ Wakes w cx.new) }
     ensures kept { Keeps cx.old cx.new }
 {
-    let mut waker = held;
-    let _pending: Poll<()> = cx.register(source, &mut waker);
-    waker
+    let _pending: Poll<()> = cx.register(source, waker);
 }
 
-/// Empties the side's own slot after a look that found something, unless its place is known to be
-/// empty, so that a flowing pipe need not check for it.
+/// Empties the side's own slot after a look that found something, unless it is known to be empty, so
+/// that a flowing pipe need not check for it.
 #[inline(always)]
 pub(crate) fn take_own<E: SlotEnd>(side: &mut Side<E, Waker>)
     requires turn { next side.old.log ≡ Action.Take (own E.READS) }
     ensures log { side.new.log ≡ made Found.Nothing side.old.log }
-    ensures leaves { side.new.slots.maybe_registered ≡ false }
+    ensures leaves { side.new.slots.waits ≡ false }
     ensures waits { OnlyWaits side.old.slots side.new.slots }
     ensures rest { (side.new.end ≡ side.old.end) × (side.new.cells ≡ side.old.cells) }
 {
-    if side.maybe_registered() {
+    if side.is_waiting() {
         let_own_go(side);
     }
     side.own_emptied();
@@ -81,7 +77,7 @@ pub(crate) fn take_own<E: SlotEnd>(side: &mut Side<E, Waker>)
 #[cold]
 #[inline(never)]
 fn let_own_go<E: SlotEnd>(side: &mut Side<E, Waker>)
-    ensures leaves { side.new.slots.maybe_registered ≡ false }
+    ensures leaves { side.new.slots.waits ≡ false }
     ensures dropped { LetsOwnGo side.old.slots }
     ensures waits { OnlyWaits side.old.slots side.new.slots }
     ensures rest { (side.new.end ≡ side.old.end) × (side.new.cells ≡ side.old.cells)
@@ -98,8 +94,7 @@ pub(crate) fn wake_own<E: SlotEnd>(side: &mut Side<E, Waker>)
     requires on { WakesNext (now side.old.log) }
     ensures log { Comes (then (now side.old.log) (Found.Waker false)) side.old.log side.new.log }
     ensures called { CallsOwn side.old.slots }
-    ensures leaves { side.new.slots ≡ record side.old.slots
-        { owns = side.new.slots.owns; maybe_registered = false } }
+    ensures leaves { side.new.slots ≡ record side.old.slots { waits = false } }
     ensures rest { (side.new.end ≡ side.old.end) × (side.new.cells ≡ side.old.cells) }
 {
     if let Some(waker) = side.take_own() {
@@ -108,7 +103,7 @@ pub(crate) fn wake_own<E: SlotEnd>(side: &mut Side<E, Waker>)
     }
 }
 
-/// Calls a waker that came out of its place.
+/// Calls a waker that came out of a slot.
 pub(crate) fn call(waker: Waker)
     ensures called { WasCalled waker }
     ensures made { WasMade Action.Wake }
@@ -116,14 +111,14 @@ pub(crate) fn call(waker: Waker)
     waker.wake();
 }
 
-/// Drops a waker that came out of its place, if there is one.
+/// Drops a waker that came out of a slot, if there is one.
 fn let_go(waker: Option<Waker>)
     ensures { IfSome waker WasLetGo }
 {
     drop(waker);
 }
 
-/// Drops what lay in the places of a ring that both ends have left.
+/// Drops what lay in the slots of a ring that both ends have left.
 pub(crate) fn let_left_go(left: LeftWakers<Waker>)
     ensures reader { IfSome left.reader WasLetGo }
     ensures writer { IfSome left.writer WasLetGo }

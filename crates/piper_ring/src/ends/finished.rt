@@ -13,7 +13,7 @@ pub struct Finished<S, T> {
     pub side: S,
     /// The waker that it took out of the other side's slot after its close, if one was registered.
     pub taken: Option<T>,
-    /// What lay in the places, if the other side had left before.
+    /// What lay in the slots, if the other side had left before.
     pub left: LeftWakers<T>,
 }
 

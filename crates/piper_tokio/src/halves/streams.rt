@@ -79,7 +79,7 @@ impl tokio::io::AsyncRead for CompatReader {
             buf.old buf.new × (shown_by self.new ≡ []) }
         ensures end { DrainsEnd result (handle_of self.old) (handle_of self.new) }
         ensures pending { DrainDraws result (handle_of self.old) (handle_of self.new)
-            × OnPending result (DrainPends (handle_of self.old) (handle_of self.new) cx.new) }
+            × OnPending result (DrainPends (handle_of self.old) (handle_of self.new) cx.old cx.new) }
         ensures memory { IfReadyErr result (λ e. WantsMemory cx.new e
             × (known (handle_of self.new) ≡ [])) }
         ensures woken { WakesWriter (handle_of self.old) (handle_of self.new) }
@@ -109,7 +109,7 @@ impl tokio::io::AsyncBufRead for CompatReader {
         ensures shown { OnReadyOk result (ShowsFront self.new) }
         ensures end { PollsEnd result (handle_of self.old) (handle_of self.new) }
         ensures pending { OnPending result
-            (ReaderPends (handle_of self.old) (handle_of self.new) cx.new) }
+            (ReaderPends (handle_of self.old) (handle_of self.new) cx.old cx.new) }
         ensures memory { IfReadyErr result (λ e. WantsMemory cx.new e
             × (known (handle_of self.new) ≡ [])) }
         ensures woken { WakesWriter (handle_of self.old) (handle_of self.new) }
@@ -203,7 +203,7 @@ impl tokio::io::AsyncWrite for CompatWriter {
             × SameWriterButMoved (writing self.old) (writing self.new) }
         ensures end { FillsEnd result (writing self.old) (writing self.new) }
         ensures pending { FillDraws (of_io result) (writing self.old) (writing self.new)
-            × OnPending result (FillPends (writing self.old) (writing self.new) cx.new) }
+            × OnPending result (FillPends (writing self.old) (writing self.new) cx.old cx.new) }
         ensures memory { IfReadyErr result (λ e. WantsMemory cx.new e
             × (room (writing self.new) ≡ 0)) }
         ensures woken { WakesReader (writing self.old) (writing self.new) }

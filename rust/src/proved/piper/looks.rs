@@ -32,8 +32,8 @@ impl Reader {
         ensures log { Comes (wait_next result purpose (Point.Reader (reader_found purpose)))
             self.old.side.log self.new.side.log }
         ensures answer { ReaderWaited result self.new.side.end }
-        ensures pending { IfPending result (ReaderPends self.old self.new cx.new) }
-        ensures refused { OnErr result (ReaderIsRefused self.new cx.new) }
+        ensures pending { IfPending result (ReaderPends self.old self.new cx.old cx.new) }
+        ensures refused { OnErr result (ReaderIsRefused self.new cx.old cx.new) }
         ensures looked { ReaderLooked self.old.side.end self.new.side.end }
         ensures rest { SameReader OnlyWaits self.old self.new }
         ensures kept { Keeps cx.old cx.new } */
@@ -63,8 +63,8 @@ impl Writer {
         ensures log { Comes (wait_next result purpose (Point.Writer (writer_found purpose)))
             self.old.side.log self.new.side.log }
         ensures answer { WriterWaited result self.new.side.end }
-        ensures pending { IfPending result (WriterPends self.old self.new cx.new) }
-        ensures refused { OnErr result (WriterIsRefused self.new cx.new) }
+        ensures pending { IfPending result (WriterPends self.old self.new cx.old cx.new) }
+        ensures refused { OnErr result (WriterIsRefused self.new cx.old cx.new) }
         ensures looked { WriterLooked self.old.side.end self.new.side.end }
         ensures rest { SameWriter OnlyWaits self.old self.new }
         ensures kept { Keeps cx.old cx.new } */

@@ -14,7 +14,7 @@ pub use ends::slots::looks::Look;
 pub use ends::slots::reader::{ReadRegistrations, ReadSide};
 pub use ends::slots::side::Side;
 pub use ends::slots::writer::{WriteRegistrations, WriteSide};
-pub use ends::slots::{Away, Registrations, SlotEnd};
+pub use ends::slots::{Registrations, SlotEnd};
 pub use ends::writer::WriteEnd;
 pub use log::{Line, Log};
 pub use crate::proved::piper_protocol::memory::OutOfMemory;

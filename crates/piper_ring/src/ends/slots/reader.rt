@@ -8,10 +8,9 @@ use crate::ends::slots::side::Side;
 use crate::ends::slots::writer::WriteSide;
 use crate::ends::slots::{Registrations, SlotEnd};
 use crate::ring::marks::{LastReadMark, WriteMark};
-use crate::ring::memory::{WRITER_BACK, WRITER_FLAG};
+use crate::ring::memory::WRITER_SLOT;
 use crate::ring::slots::{SlotWords, WaiterState};
 use piper_cells::lent_space::Lease;
-use piper_cells::token_cell::Token;
 use piper_protocol::table::{Action, Found};
 
 /// The reader's side of a ring whose sides can wait.
@@ -49,8 +48,8 @@ impl SlotEnd for ReadEnd {
     }
 
     #[inline(always)]
-    fn register(&self, slot: &mut WaiterState, right: Token) -> WriteMark {
-        self.parts.seat.publish_waker(slot, right)
+    fn hear(slot: &mut WaiterState) -> WriteMark {
+        slot.heard_by_reader()
     }
 }
 
@@ -112,8 +111,8 @@ impl<T> Side<ReadEnd, T> {
         self.log.note(Found::Nothing);
     }
 
-    /// `finish` of its end, and `take` after its close. With it comes what was left in the places,
-    /// if the other side has left.
+    /// `finish` of its end, and `take` after its close. With it comes what was left in the slots, if
+    /// the other side has left.
     pub fn finish(self) -> Finished<FinishedReader, T>
         requires turn { next self.log ≡ Action.StoreClosed false }
         ensures log { Comes (then (then (now self.log) Found.Nothing)
@@ -135,17 +134,11 @@ impl<T> Side<ReadEnd, T> {
         let consumed = end.mark();
         let (leaving, closed) = end.close();
         log.note(Found::Nothing);
-        let wakes = &mut slots.parts.wakes;
+        let parts = &mut slots.parts;
+        let word = 2 * parts.own.index;
         let words = leaving.seat.slot_words(&closed);
-        let (found, mut right) = words.take_waker(wakes, WRITER_FLAG);
-        let taken = if found == 0 {
-            None
-        } else {
-            let waker = cells.get(&leaving.lease).writer.take(&mut right);
-            let words = leaving.seat.slot_words(&closed);
-            words.give_back(wakes, right, WRITER_BACK);
-            Some(waker)
-        };
+        let found = words.empty_other(&mut parts.wakes, &mut parts.own.right, word, WRITER_SLOT);
+        let taken = parts.own.take_out(cells.get(&leaving.lease), found);
         log.slot_loaded(taken.is_some());
         let left = leaving.leave(Some(&cells));
         let mark = LastReadMark { consumed, closed };

@@ -1,15 +1,13 @@
 //! A side of a ring: how it waits in its slot, and wakes whoever waits in the other's.
-ghost use Rattle.std.specs.Prelude.{◌≡◌, ◌+◌, ◌≢◌, None, IsSome, IfOk, IfErr, true, false, is_some, not, IsTrue, IsFalse};
+ghost use Rattle.std.specs.Prelude.{◌≡◌, ◌+◌, ◌≢◌, true, false, is_some, not, IsTrue, IsFalse};
 ghost use Rattle.piper_ring.specs.Cells.{AreCellsOf};
-ghost use Rattle.piper_ring.specs.Shared.{waker_place};
 ghost use Rattle.piper_ring.specs.Log.{IsOutside, began, drew, found_of, made, next, other, own};
 
 use crate::ends::cells::WakerCells;
-use crate::ends::slots::{Away, Registrations, SlotEnd};
+use crate::ends::slots::{Registrations, SlotEnd};
 use crate::log::Log;
-use crate::ring::memory::flag_of;
+use crate::ring::memory::slot_of;
 use piper_cells::lent_space::Placed;
-use piper_cells::token_cell::TokenCell;
 use piper_protocol::table::{Action, Found, Point};
 
 /// A side of a ring whose sides can wait.
@@ -27,27 +25,9 @@ pub struct Side<E: SlotEnd, T> {
     ghost places: { AreCellsOf slots.names cells },
 }
 
-/// The place of the reader's waker, or of the writer's.
-#[inline(always)]
-fn place<'a, E: SlotEnd, T>(
-    end: &'a E,
-    cells: &'a Placed<WakerCells<T>>,
-    is_readers: bool,
-) -> &'a TokenCell<Option<T>>
-    requires { AreCellsOf (E.names_of end.now) cells.now }
-    ensures { result.now ≡ waker_place (E.names_of end.now) is_readers }
-{
-    let cells = cells.get(end.lease());
-    if is_readers {
-        &cells.reader
-    } else {
-        &cells.writer
-    }
-}
-
 impl<E: SlotEnd, T> Side<E, T> {
     ghost use Rattle.piper_ring.specs.Becomes.{Becomes};
-    ghost use Rattle.piper_ring.specs.Loads.{FoundFlag, FoundWaiter, IsAway, IsUnregistered, Reclaimed, TookBack, WasPut};
+    ghost use Rattle.piper_ring.specs.Loads.{FoundOwn, FoundWaiter, IsUnregistered, TookBack, WasPut};
     ghost use Rattle.piper_ring.specs.SlotsView.{TakesTicket};
 
     /// Its end of the ring.
@@ -58,14 +38,13 @@ impl<E: SlotEnd, T> Side<E, T> {
         &self.end
     }
 
-    /// Whether the side's waker may be registered in its slot, as far as is known without a look
-    /// there: `is_registered` looks.
+    /// Whether the side's waker may be in its slot, as far as is known without a look there:
+    /// `is_registered` looks.
     #[inline(always)]
-    pub fn maybe_registered(&self) -> bool
-        ensures { (result ≡ self.now.slots.maybe_registered)
-            × (self.now.slots.owns ≡ true → IsFalse result) }
+    pub fn is_waiting(&self) -> bool
+        ensures { result ≡ self.now.slots.waits }
     {
-        self.slots.parts.maybe_registered
+        self.slots.parts.is_waiting
     }
 
     /// A call begins, at this point of the table.
@@ -116,7 +95,7 @@ impl<E: SlotEnd, T> Side<E, T> {
     #[inline(always)]
     pub fn own_emptied(&mut self)
         requires turn { next self.old.log ≡ Action.Take (own E.READS) }
-        requires none { self.old.slots.maybe_registered ≡ false }
+        requires none { self.old.slots.waits ≡ false }
         ensures { Becomes self.old self.new self.old.end self.old.slots
             (made Found.Nothing self.old.log) }
     {
@@ -127,10 +106,10 @@ impl<E: SlotEnd, T> Side<E, T> {
     pub fn take_own(&mut self) -> Option<T>
         requires turn { next self.old.log ≡ Action.Take (own E.READS) }
         ensures side { Becomes self.old self.new self.old.end
-            (record self.old.slots { owns = self.new.slots.owns; maybe_registered = false })
+            (record self.old.slots { waits = false })
             (made (Found.Waker (is_some result)) self.old.log) }
         ensures out { TookBack self.old.slots.names
-            self.old.slots.owns self.old.slots.tickets result }
+            self.old.slots.waits self.old.slots.tickets result }
     {
         let waker = self.cancel();
         self.log.note(Found::Waker(waker.is_some()));
@@ -139,98 +118,66 @@ impl<E: SlotEnd, T> Side<E, T> {
 
     /// Takes its waker back, if it is still registered in this side's slot.
     pub fn cancel(&mut self) -> Option<T>
-        ensures owns { IsSome result → self.new.slots.owns ≡ true }
-        ensures none { result ≡ None → self.new.slots.owns ≡ self.old.slots.owns }
         ensures side { Becomes self.old self.new self.old.end
-            (record self.old.slots { owns = self.new.slots.owns; maybe_registered = false })
-            self.old.log }
+            (record self.old.slots { waits = false }) self.old.log }
         ensures out { TookBack self.old.slots.names
-            self.old.slots.owns self.old.slots.tickets result }
+            self.old.slots.waits self.old.slots.tickets result }
     {
         let parts = &mut self.slots.parts;
-        if parts.right.is_some() {
+        if !parts.is_waiting {
             return None;
         }
-        let flag = flag_of(E::READS);
-        let (found, mut right) = self.end.slot_words().cancel(&mut parts.waits, flag);
-        parts.maybe_registered = false;
-        if found == 0 {
-            return None;
-        }
-        let waker = place(&self.end, &self.cells, E::READS).take(&mut right);
-        parts.right = Some(right);
-        Some(waker)
-    }
-
-    /// Takes the place of its waker back, with the waker that is still registered there, if one is.
-    /// It fails if the other side has the place just now.
-    pub fn reclaim_waker(&mut self) -> Result<Option<T>, Away>
-        ensures owns { IfOk result (λ _. self.new.slots.owns ≡ true) }
-        ensures out { IfOk result (Reclaimed self.old.slots.names
-            self.old.slots.owns self.old.slots.tickets) }
-        ensures away { IfErr result (λ _. (self.old.slots.owns ≡ false)
-            × (self.new.slots.owns ≡ false) × IsAway self.old.slots.names) }
-        ensures side { Becomes self.old self.new self.old.end
-            (record self.old.slots { owns = self.new.slots.owns; maybe_registered = false })
-            self.old.log }
-    {
-        let parts = &mut self.slots.parts;
-        if parts.right.is_some() {
-            return Ok(None);
-        }
-        // Who was woken finds the place handed back: so that is asked first.
-        let back = flag_of(E::READS) + 1;
-        let (found, right) = self.end.slot_words().reclaim(&mut parts.waits, back);
-        if found != 0 {
-            parts.right = Some(right);
-            parts.maybe_registered = false;
-            return Ok(None);
-        }
-        match self.cancel() {
-            Some(waker) => Ok(Some(waker)),
-            None => Err(Away),
-        }
+        let word = 2 * parts.own.index;
+        let words = self.end.slot_words();
+        let slot = slot_of(E::READS);
+        let found = words.exchange_own(&mut parts.waits, &mut parts.own.right, word, slot);
+        parts.is_waiting = false;
+        parts.own.take_out(self.cells.get(self.end.lease()), found)
     }
 
     /// Whether this side's waker is still registered in its slot.
     pub fn is_registered(&mut self) -> bool
         ensures registered { IsTrue result →
-            (self.old.slots.owns ≡ false) × FoundFlag self.old.slots.names 1 }
-        ensures none { IsFalse result → IsUnregistered self.old.slots.names self.old.slots.owns }
+            (self.old.slots.waits ≡ true) × FoundOwn self.old.slots.names true }
+        ensures none { IsFalse result → IsUnregistered self.old.slots.names self.old.slots.waits }
         ensures side { Becomes self.old self.new self.old.end
-            (record self.old.slots { maybe_registered = result }) self.old.log }
+            (record self.old.slots { waits = result }) self.old.log }
     {
         let parts = &mut self.slots.parts;
-        let waits = &mut parts.waits;
-        let flag = flag_of(E::READS);
-        if parts.right.is_some() || self.end.slot_words().is_registered(waits, flag) == 0 {
-            parts.maybe_registered = false;
+        if !parts.is_waiting {
             return false;
         }
-        parts.maybe_registered = true;
-        true
+        let word = self
+            .end
+            .slot_words()
+            .load_own(&mut parts.waits, slot_of(E::READS));
+        parts.is_waiting = word % 2 == 1;
+        parts.is_waiting
     }
 
-    /// Registers: puts `waker` in its place and publishes it in this side's slot, where the
-    /// other side's next look finds it.
-    pub fn publish_waker(&mut self, waker: T)
+    /// Registers: puts `waker` into this side's slot, where the other side's next look finds it.
+    /// Returns the waker that was still registered there.
+    pub fn register(&mut self, waker: T) -> Option<T>
         requires turn { next self.old.log ≡ Action.Register }
-        requires owns { self.old.slots.owns ≡ true }
         ensures put { WasPut self.old.slots.names self.new.slots.tickets waker }
         ensures side { Becomes self.old self.new self.old.end (record self.old.slots {
-          owns = false;
-          maybe_registered = true;
+          waits = true;
           tickets = self.old.slots.tickets + 1;
           heard = self.new.slots.heard;
         }) self.old.log }
+        ensures out { TookBack self.old.slots.names
+            self.old.slots.waits self.old.slots.tickets result }
     {
         let parts = &mut self.slots.parts;
-        let Some(mut right) = parts.right.take() else {
-            unreachable!()
-        };
-        place(&self.end, &self.cells, E::READS).put(&mut right, waker);
-        parts.maybe_registered = true;
-        parts.heard = self.end.register(&mut parts.waits, right);
+        let cells = self.cells.get(self.end.lease());
+        cells.at(parts.own.index).put(&mut parts.own.right, waker);
+        let word = 2 * parts.own.index + 1;
+        let words = self.end.slot_words();
+        let slot = slot_of(E::READS);
+        let found = words.exchange_own(&mut parts.waits, &mut parts.own.right, word, slot);
+        parts.is_waiting = true;
+        parts.heard = E::hear(&mut parts.waits);
+        parts.own.take_out(cells, found)
     }
 
     /// Checks after all that this side stored whether the other is registered in its slot.
@@ -241,12 +188,11 @@ impl<E: SlotEnd, T> Side<E, T> {
         ensures none { IsTrue result → Becomes self.old self.new self.old.end
             (record self.old.slots { stored = E.stored_of self.old.end })
             (made (Found.Waker false) self.old.log) }
-        ensures some { IsFalse result → FoundWaiter self.old.slots.names 1
+        ensures some { IsFalse result → FoundWaiter self.old.slots.names true
             × Becomes self.old self.new self.old.end self.old.slots self.old.log }
     {
         let wakes = &mut self.slots.parts.wakes;
-        let flag = flag_of(!E::READS);
-        if self.end.slot_words().load_flag(wakes, flag) != 0 {
+        if self.end.slot_words().load_other(wakes, slot_of(!E::READS)) % 2 == 1 {
             return false;
         }
         self.log.slot_loaded(false);
@@ -254,7 +200,7 @@ impl<E: SlotEnd, T> Side<E, T> {
     }
 
     /// After all that this side stored, takes the other's ticket if it is registered in its
-    /// slot. Returns the waker that it put there, and its place is handed back.
+    /// slot. Returns the waker that it put there.
     pub fn take(&mut self) -> Option<T>
         requires turn { next self.old.log ≡ Action.Take (other E.READS) }
         ensures ticket { TakesTicket self.old.slots self.new.slots result }
@@ -262,17 +208,14 @@ impl<E: SlotEnd, T> Side<E, T> {
             { taken = self.new.slots.taken; stored = E.stored_of self.old.end })
             (made (Found.Waker (is_some result)) self.old.log) }
     {
-        let wakes = &mut self.slots.parts.wakes;
-        let flag = flag_of(!E::READS);
-        let (found, mut right) = self.end.slot_words().take_waker(wakes, flag);
-        if found == 0 {
-            self.log.slot_loaded(false);
-            return None;
-        }
-        let waker = place(&self.end, &self.cells, !E::READS).take(&mut right);
-        self.end.slot_words().give_back(wakes, right, flag + 1);
-        self.log.slot_loaded(true);
-        Some(waker)
+        let parts = &mut self.slots.parts;
+        let word = 2 * parts.own.index;
+        let words = self.end.slot_words();
+        let slot = slot_of(!E::READS);
+        let found = words.empty_other(&mut parts.wakes, &mut parts.own.right, word, slot);
+        let waker = parts.own.take_out(self.cells.get(self.end.lease()), found);
+        self.log.slot_loaded(waker.is_some());
+        waker
     }
 
     /// With what the other side has of the slots, or what is left of that once it is gone: if
@@ -281,7 +224,7 @@ impl<E: SlotEnd, T> Side<E, T> {
     pub fn meet_slot<O: SlotEnd>(&mut self, left: &mut Registrations<O>)
         requires other { O.READS ≡ not E.READS }
         requires ring { left.old.names ≡ E.names_of self.old.end }
-        ensures taken { self.old.slots.owns ≡ false → left.old.stored ≢ self.old.slots.heard →
+        ensures taken { self.old.slots.waits ≡ true → left.old.stored ≢ self.old.slots.heard →
             left.old.taken ≡ self.old.slots.tickets }
         ensures capacity { E.capacity_of self.old.end ≡ (E.names_of self.old.end).capacity }
         ensures rest { (left.new ≡ left.old)

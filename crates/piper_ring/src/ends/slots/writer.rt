@@ -8,10 +8,9 @@ use crate::ends::slots::side::Side;
 use crate::ends::slots::{Registrations, SlotEnd};
 use crate::ends::writer::WriteEnd;
 use crate::ring::marks::{ClosedMark, LastReadMark, ReadMark};
-use crate::ring::memory::{READER_BACK, READER_FLAG};
+use crate::ring::memory::READER_SLOT;
 use crate::ring::slots::{SlotWords, WaiterState};
 use piper_cells::lent_space::Lease;
-use piper_cells::token_cell::Token;
 use piper_protocol::table::{Action, Found};
 
 /// The writer's side of a ring whose sides can wait.
@@ -56,8 +55,8 @@ impl SlotEnd for WriteEnd {
     }
 
     #[inline(always)]
-    fn register(&self, slot: &mut WaiterState, right: Token) -> ReadStored {
-        let (count, closed) = self.parts.seat.publish_waker(slot, right);
+    fn hear(slot: &mut WaiterState) -> ReadStored {
+        let (count, closed) = slot.heard_by_writer();
         ReadStored { count, closed }
     }
 }
@@ -180,8 +179,8 @@ impl<T> Side<WriteEnd, T> {
         self.log.note(Found::Nothing);
     }
 
-    /// `finish` of its end, and `take` after its close. With it comes what was left in the places,
-    /// if the other side has left.
+    /// `finish` of its end, and `take` after its close. With it comes what was left in the slots, if
+    /// the other side has left.
     pub fn finish(self) -> Finished<FinishedWriter, T>
         requires turn { next self.log ≡ Action.StoreClosed false }
         ensures log { Comes (then (then (now self.log) Found.Nothing)
@@ -203,16 +202,11 @@ impl<T> Side<WriteEnd, T> {
         let leaving = end.close();
         log.note(Found::Nothing);
         let mark = leaving.seat.mark();
-        let wakes = &mut slots.parts.wakes;
-        let (found, mut right) = leaving.seat.slot_words().take_waker(wakes, READER_FLAG);
-        let taken = if found == 0 {
-            None
-        } else {
-            let waker = cells.get(&leaving.lease).reader.take(&mut right);
-            let words = leaving.seat.slot_words();
-            words.give_back(wakes, right, READER_BACK);
-            Some(waker)
-        };
+        let parts = &mut slots.parts;
+        let word = 2 * parts.own.index;
+        let words = leaving.seat.slot_words();
+        let found = words.empty_other(&mut parts.wakes, &mut parts.own.right, word, READER_SLOT);
+        let taken = parts.own.take_out(cells.get(&leaving.lease), found);
         log.slot_loaded(taken.is_some());
         let left = leaving.leave(Some(&cells));
         let side = FinishedWriter { mark, slots, log };

@@ -33,7 +33,7 @@ pub(crate) fn draw_yield<E: SlotEnd>(
         × (side.new.log ≡ made Found.Nothing (drew false side.old.log)) }
     ensures draw { (IsTrue result ↔ DrawsYield rng.old) × (rng.new ≡ drawn_from rng.old) }
     ensures kept { Keeps cx.old cx.new }
-    ensures leaves { side.new.slots.maybe_registered ≡ false }
+    ensures leaves { side.new.slots.waits ≡ false }
     ensures waits { OnlyWaits side.old.slots side.new.slots }
     ensures rest { (side.new.end ≡ side.old.end) × (side.new.cells ≡ side.old.cells) } */
 {

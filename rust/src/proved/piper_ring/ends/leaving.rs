@@ -1,19 +1,17 @@
 //! The ends once they closed the ring and are about to leave. The second one to leave frees the
 //! memory.
 /* ghost use Rattle.std.specs.Prelude.{◌≡◌, ◌*◌, ◌<◌, ◌^◌, length, true, false, IfSome}; */
-/* ghost use Rattle.piper_ring.specs.Cells.{AreCellsOf, CameOut, GetsLeft}; */
+/* ghost use Rattle.piper_ring.specs.Cells.{AreCellsOf, GetsLeft}; */
 /* ghost use Rattle.piper_ring.specs.Loads.{FoundGone}; */
 /* ghost use Rattle.piper_ring.specs.Shared.{flag}; */
-/* ghost use Rattle.piper_ring.specs.SlotValues.{IsLeft}; */
 /* ghost use Rattle.piper_ring.specs.Stretches.{IsBlankFrom}; */
 
-use crate::proved::piper_ring::ends::cells::{LeftWakers, WakerCells};
+use crate::proved::piper_ring::ends::cells::{LeftWakers, WakerCells, take_out};
 use crate::proved::piper_ring::ring::memory::block_size;
 use crate::proved::piper_ring::ring::places::Blank;
 use crate::proved::piper_ring::ring::remains::Remains;
 use crate::proved::piper_ring::ring::seats::{ReadSeat, WriteSeat};
 use crate::proved::piper_cells::lent_space::{Lease, Placed};
-use crate::proved::piper_cells::token_cell::{Token, TokenCell};
 use crate::shim::std::alloc::Global;
 
 /// The reader's end, which has closed the ring. The places of the bytes that it knew of go to
@@ -31,8 +29,8 @@ pub(crate) struct LeavingReader {
 }
 
 impl LeavingReader {
-    /// Leaves, and frees the memory if the writer has left. With it comes what is left in the places
-    /// of the wakers then, if these are handed over.
+    /// Leaves, and frees the memory if the writer has left. With it comes what is left in the slots
+    /// then, if the cells are handed over.
     #[inline] pub(crate) fn leave<T>(self, cells: Option<&Placed<WakerCells<T>>>) -> LeftWakers<T>
         /* requires { IfSome cells (λ c. AreCellsOf self.seat.names c.now) }
         ensures { IfSome cells.entry (λ _. GetsLeft self.seat.names result) } */
@@ -63,8 +61,8 @@ pub(crate) struct LeavingWriter {
 }
 
 impl LeavingWriter {
-    /// Leaves, and frees the memory if the reader has left. With it comes what is left in the places
-    /// of the wakers then, if these are handed over.
+    /// Leaves, and frees the memory if the reader has left. With it comes what is left in the slots
+    /// then, if the cells are handed over.
     #[inline] pub(crate) fn leave<T>(self, cells: Option<&Placed<WakerCells<T>>>) -> LeftWakers<T>
         /* requires { IfSome cells (λ c. AreCellsOf self.seat.names c.now) }
         ensures { IfSome cells.entry (λ _. GetsLeft self.seat.names result) } */
@@ -82,8 +80,7 @@ impl LeavingWriter {
 }
 
 /// Frees what an end got when it left: all of the memory if `found` is 1, else nothing. With it
-/// comes what is left in the places of the wakers: the other end may have registered after this one
-/// looked for it.
+/// comes what is left in the slots: the other end may have registered after this one looked for it.
 #[inline] fn release<T>(
     found: u64,
     remains: Remains,
@@ -100,49 +97,19 @@ impl LeavingWriter {
         remains.finish();
         return LeftWakers::none();
     }
-    let (frame, lender, first, second, reader, reader_right, writer, writer_right) =
+    let (frame, lender, first, second, reader, mut reader_right, writer, mut writer_right) =
         remains.into_parts();
     let left = match cells {
         None => LeftWakers::none(),
-        Some(cells) => take_both(
-            cells.get(&first),
-            reader,
-            reader_right,
-            writer,
-            writer_right,
-        ),
+        Some(cells) => {
+            let cells = cells.get(&first);
+            LeftWakers {
+                reader: take_out(cells, reader, &mut reader_right),
+                writer: take_out(cells, writer, &mut writer_right),
+            }
+        }
     };
     let space = lender.take_back(first, second);
     frame.join(space).surrender(&alloc, block_size(capacity));
     left
-}
-
-/// What is left in both places, if these are 1: the reader's first.
-#[inline] fn take_both<T>(
-    places: &WakerCells<T>,
-    reader: u64,
-    reader_right: Token,
-    writer: u64,
-    writer_right: Token,
-) -> LeftWakers<T>
-    /* requires reader { IsLeft places.now.reader reader reader_right }
-    requires writer { IsLeft places.now.writer writer writer_right }
-    ensures reader { CameOut places.now.reader result.reader }
-    ensures writer { CameOut places.now.writer result.writer } */
-{
-    LeftWakers {
-        reader: take_left(&places.reader, reader, reader_right),
-        writer: take_left(&places.writer, writer, writer_right),
-    }
-}
-
-/// What is left in a place, if `lies` is 1.
-#[inline] fn take_left<T>(place: &TokenCell<Option<T>>, lies: u64, mut right: Token) -> Option<T>
-    /* requires { IsLeft place.now lies right }
-    ensures { CameOut place.now result } */
-{
-    if lies == 0 {
-        return None;
-    }
-    Some(place.take(&mut right))
 }

@@ -1,12 +1,12 @@
 //! A ring is opened.
-/* ghost use Rattle.std.specs.Prelude.{◌≡◌, ◌*◌, ◌<◌, ◌^◌, true, false, IfErr, IfOk}; */
+/* ghost use Rattle.std.specs.Prelude.{◌≡◌, ◌*◌, ◌<◌, ◌^◌, true, false, [], ◌∷◌, IfErr, IfOk}; */
 /* ghost use Rattle.piper_protocol.specs.Reported.{HasFailed}; */
 /* ghost use Rattle.piper_cells.specs.Space.{Fits}; */
 /* ghost use Rattle.piper_ring.specs.Block.{size_of_block, space_of, space_words}; */
 /* ghost use Rattle.piper_ring.specs.contracts.ends.cells.WakerCells.{the_row as cells_row}; */
 /* ghost use Rattle.piper_ring.specs.Opened.{FreshReadEnd, FreshSlots, FreshWriteEnd}; */
 
-use crate::proved::piper_ring::ends::cells::WakerCells;
+use crate::proved::piper_ring::ends::cells::{CellRights, OwnCell, WakerCells};
 use crate::proved::piper_ring::ends::reader::{ReadEnd, ReadParts};
 use crate::proved::piper_ring::ends::room::Room;
 use crate::proved::piper_ring::ends::slots::reader::{ReadRegistrations, ReadSide};
@@ -18,7 +18,6 @@ use crate::proved::piper_ring::log::Log;
 use crate::proved::piper_ring::ring::memory::{Memory, Parts, block_size};
 use crate::proved::piper_ring::ring::seats::open;
 use crate::proved::piper_cells::lent_space::{Lease, Lender};
-use crate::proved::piper_cells::token_cell::Token;
 use crate::proved::piper_protocol::indices::{ReadIndices, WriteIndices};
 use crate::proved::piper_protocol::memory::OutOfMemory;
 use crate::shim::std::alloc::{AllocError, Global};
@@ -34,24 +33,15 @@ use crate::shim::std::alloc::{AllocError, Global};
 {
     let (parts, space) = claim(&alloc, capacity)?.part(capacity);
     let (_, lender, first, second) = space.lend();
-    let (_, reader_token, writer_token) = WakerCells::<()>::empty();
-    let (reader, writer, _, _) = open_ends(
-        alloc,
-        capacity,
-        parts,
-        lender,
-        first,
-        second,
-        reader_token,
-        writer_token,
-    );
+    let (_, rights) = WakerCells::<()>::empty();
+    let (reader, writer, _, _) = open_ends(alloc, capacity, parts, lender, first, second, rights);
     Ok((reader, writer))
 }
 
 /// The two sides of a new ring for `capacity` bytes, in whose slots nobody waits yet. If memory
 /// is refused, all that was got is given back.
 ///
-/// The places of both sides' wakers lie between the words of the ring, so they take 48 bytes.
+/// The cells of the wakers lie between the words of the ring, so they take 96 bytes.
 #[inline] pub fn open_with_slots<T>(
     alloc: Global,
     capacity: usize,
@@ -67,18 +57,11 @@ use crate::shim::std::alloc::{AllocError, Global};
 {
     let (parts, space) = claim(&alloc, capacity)?.part(capacity);
     let (space, lender, first, second) = space.lend();
-    let (cells, reader_token, writer_token) = WakerCells::empty();
+    let (cells, rights) = WakerCells::empty();
     let (read_cells, first) = space.place(first, cells);
     let write_cells = read_cells.duplicate();
     let (reader, writer, read_slots, write_slots) = open_ends(
-        alloc,
-        capacity,
-        parts,
-        lender,
-        first,
-        second,
-        reader_token,
-        writer_token,
+        alloc, capacity, parts, lender, first, second, rights,
     );
     let reader = Side {
         end: reader,
@@ -103,26 +86,29 @@ use crate::shim::std::alloc::{AllocError, Global};
     lender: Lender,
     first: Lease,
     second: Lease,
-    reader_token: Token,
-    writer_token: Token,
+    rights: CellRights,
 ) -> (ReadEnd, WriteEnd, ReadRegistrations, WriteRegistrations)
     /* requires capacity { (0 < capacity) × (2 * capacity < 2 ^ 64) × (parts.capacity ≡ capacity) }
     requires lender { (lender.start ≡ space_of parts.start) × (lender.words ≡ space_words) }
     requires leases { (first.life ≡ lender.life) × (first.first ≡ true)
         × (second.life ≡ lender.life) × (second.first ≡ false) }
-    requires reader_token { (reader_token.there ≡ true) × (reader_token.filled ≡ false) }
-    requires writer_token { (writer_token.there ≡ true) × (writer_token.filled ≡ false) }
     ensures pair { result.1.ring ≡ result.0.ring }
     ensures reader { FreshReadEnd capacity result.0 }
     ensures writer { FreshWriteEnd capacity result.1 }
     ensures read_slots { FreshSlots result.0.ring.names result.2 }
     ensures write_slots { FreshSlots result.0.ring.names result.3 }
-    ensures places { (result.0.ring.names.reader_place ≡ reader_token.name)
-        × (result.0.ring.names.writer_place ≡ writer_token.name)
-        × (result.0.ring.names.life ≡ lender.life) } */
+    ensures life { result.0.ring.names.life ≡ lender.life }
+    ensures cells { result.0.ring.names.cells ≡ rights.first.name ∷ rights.second.name
+        ∷ rights.third.name ∷ rights.fourth.name ∷ [] } */
 {
+    let CellRights {
+        first: in_readers,
+        second: in_writers,
+        third,
+        fourth,
+    } = rights;
     let (read_seat, write_seat, mut blank, reader_waits, writer_wakes, writer_waits, reader_wakes) =
-        open(parts, lender, &reader_token, &writer_token);
+        open(parts, lender, in_readers, in_writers, &third, &fourth);
     let observed_by_reader = write_seat.mark();
     let observed_by_writer = read_seat.mark();
     let read_saw = observed_by_reader.duplicate();
@@ -130,20 +116,26 @@ use crate::shim::std::alloc::{AllocError, Global};
     let write_saw = read_seat.unseen();
     let read_slots = SlotParts {
         waits: reader_waits,
-        right: Some(reader_token),
-        maybe_registered: false,
+        is_waiting: false,
         heard: observed_by_reader.duplicate(),
         wakes: reader_wakes,
+        own: OwnCell {
+            index: 2,
+            right: third,
+        },
     };
     let write_slots = SlotParts {
         waits: writer_waits,
-        right: Some(writer_token),
-        maybe_registered: false,
+        is_waiting: false,
         heard: ReadStored {
             count: observed_by_writer.duplicate(),
             closed: read_seat.unseen(),
         },
         wakes: writer_wakes,
+        own: OwnCell {
+            index: 3,
+            right: fourth,
+        },
     };
     let reader = ReadParts {
         seat: read_seat,

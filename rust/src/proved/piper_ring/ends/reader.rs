@@ -218,7 +218,7 @@ impl ReadEnd {
     }
 
     /// Closes the pipe and drops this end. The memory is freed if the writer's end is gone. It
-    /// wakes nobody, and a waker that lies in its place then is forgotten: `finish` of the side
+    /// wakes nobody, and a waker that lies in its slot then is forgotten: `finish` of the side
     /// hands it over.
     ///
     /// The answer is evidence, for the writer's end, that the pipe is closed, and of all that was

@@ -265,7 +265,7 @@ impl WriteEnd {
     }
 
     /// Closes the pipe for good and drops this end. The memory is freed if the reader's end is
-    /// gone. It wakes nobody, and a waker that lies in its place then is forgotten: `finish` of the
+    /// gone. It wakes nobody, and a waker that lies in its slot then is forgotten: `finish` of the
     /// side hands it over.
     ///
     /// The answer is evidence, for the reader's end, of all that was ever published, and that the

@@ -4,7 +4,7 @@
 /* ghost use Rattle.piper_protocol.specs.Reported.{HasFailed}; */
 /* ghost use Rattle.piper_ring.specs.Block.{IsClaim, size_of_block, space_of, space_words, unused}; */
 /* ghost use Rattle.piper_ring.specs.Parts.{framed, parted}; */
-/* ghost use Rattle.piper_ring.specs.Shared.{flag_word}; */
+/* ghost use Rattle.piper_ring.specs.Shared.{slot_word}; */
 
 use crate::proved::piper_cells::lent_space::Space;
 use crate::proved::piper_protocol::memory::OutOfMemory;
@@ -13,36 +13,32 @@ use crate::shim::std::alloc::{Allocator, Global};
 
 // Where each word lies, counted in words from the first. Processors fetch cache lines of 64 bytes,
 // and often two, a pair of 128. So the head and the tail, which are stored while bytes flow, are
-// never in one pair. Between them are the words that the reader loads after it stored the head, and
+// never in one pair. Between them are the word that the reader loads after it stored the head, and
 // those that the writer loads before and after it stores the tail: each a line away from the word
-// beside it, which the same side stores.
+// which the same side stores.
 
 pub(crate) const LEFT_WORD: usize = 0;
 
 pub(crate) const HEAD_WORD: usize = 1;
 
-/// Where the space begins in which the places of the wakers lie: six words, between the head and the
-/// writer's slot.
+/// Where the space begins in which the cells of the wakers lie: twelve words, between the head and
+/// the writer's slot.
 pub(crate) const SPACE_WORD: usize = 2;
 
-pub(crate) const WRITER_FLAG: usize = 9;
-
-pub(crate) const WRITER_BACK: usize = 10;
+pub(crate) const WRITER_SLOT: usize = 14;
 
 pub(crate) const CLOSED_WORD: usize = 17;
 
-pub(crate) const READER_FLAG: usize = 18;
-
-pub(crate) const READER_BACK: usize = 19;
+pub(crate) const READER_SLOT: usize = 18;
 
 pub(crate) const TAIL_WORD: usize = 26;
 
-/// Which word is the flag of a side's slot. The next one hands the place back.
+/// Which word is a side's slot.
 #[inline(always)]
-pub(crate) fn flag_of(is_reader: bool) -> usize
-    /* ensures { result ≡ flag_word is_reader } */
+pub(crate) fn slot_of(is_reader: bool) -> usize
+    /* ensures { result ≡ slot_word is_reader } */
 {
-    if is_reader { READER_FLAG } else { WRITER_FLAG }
+    if is_reader { READER_SLOT } else { WRITER_SLOT }
 }
 
 /// How many bytes the words of a ring take. Its bytes lie after them, in the same block. It is a

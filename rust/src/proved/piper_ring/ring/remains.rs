@@ -5,7 +5,7 @@
 /* ghost use Rattle.piper_ring.specs.Shared.{Names, names_code, remains_own}; */
 /* ghost use Rattle.piper_ring.specs.SlotValues.{IsLeft}; */
 
-use crate::proved::piper_ring::ring::memory::{Frame, READER_FLAG, SPACE_WORD, WRITER_FLAG};
+use crate::proved::piper_ring::ring::memory::{Frame, READER_SLOT, SPACE_WORD, WRITER_SLOT};
 use crate::proved::piper_cells::lent_space::{Lease, Lender};
 use crate::proved::piper_cells::token_cell::Token;
 use crate::shim::std::marker::{/* Model, */ PhantomData};
@@ -30,8 +30,8 @@ impl Remains {
         let Remains { words: _ } = self;
     }
 
-    /// The block without its space, the right to that, the leases of both ends, and of the reader
-    /// and of the writer whether a waker is left in its place, with the right to it.
+    /// The block without its space, the right to that, the leases of both ends, and what each slot
+    /// says, the reader's first, with the right to the cell that lies there.
     #[inline] pub(crate) fn into_parts(self) -> (Frame, Lender, Lease, Lease, u64, Token, u64, Token)
         /* requires { self.last ≡ true }
         ensures frame { result.0.capacity ≡ self.names.capacity }
@@ -40,16 +40,16 @@ impl Remains {
         ensures life { (result.1.life ≡ self.names.life) × (result.2.life ≡ self.names.life)
             × (result.3.life ≡ self.names.life) }
         ensures leases { (result.2.first ≡ true) × (result.3.first ≡ false) }
-        ensures reader { IsLeft self.names.reader_place result.4 result.5 }
-        ensures writer { IsLeft self.names.writer_place result.6 result.7 } */
+        ensures reader { IsLeft self.names true result.4 result.5 }
+        ensures writer { IsLeft self.names false result.6 result.7 } */
     {
         let Remains { words } = self;
         // SAFETY: the condition says that the block is owned here.
         let space = unsafe { words.add(SPACE_WORD) };
         // SAFETY: as above.
-        let reader = unsafe { words.add(READER_FLAG).read() };
+        let reader = unsafe { words.add(READER_SLOT).read() };
         // SAFETY: as above.
-        let writer = unsafe { words.add(WRITER_FLAG).read() };
+        let writer = unsafe { words.add(WRITER_SLOT).read() };
         (
             Frame { start: words },
             Lender { start: space },

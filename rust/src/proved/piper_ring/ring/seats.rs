@@ -1,6 +1,6 @@
 //! The words that the two ends share, and what each end knows of them. Each step on a word is one
 //! sequentially consistent access. Only the reader stores the head, and only the writer the tail.
-/* ghost use Rattle.std.specs.Prelude.{◌≡◌, ℕ, ◌+◌, ◌-◌, ◌<◌, ◌≤◌, ◌++◌, Bool, true, false, List, [], length}; */
+/* ghost use Rattle.std.specs.Prelude.{◌≡◌, ℕ, ◌+◌, ◌-◌, ◌<◌, ◌≤◌, ◌++◌, Bool, true, false, List, [], ◌∷◌, length}; */
 /* ghost use denote.RawPtr.{Ptr}; */
 /* ghost use Rattle.rtrb.specs.Fifo.{position_of}; */
 /* ghost use Rattle.piper_ring.specs.Shared.{Names, names_code, reader_owns, reader_lends, writer_owns, writer_lends, flag}; */
@@ -10,8 +10,7 @@
 
 use crate::proved::piper_ring::ring::marks::{ClosedMark, ReadMark, WriteMark};
 use crate::proved::piper_ring::ring::memory::{
-    CLOSED_WORD, HEAD_WORD, LEFT_WORD, Parts, READER_BACK, READER_FLAG, TAIL_WORD, WORDS_SIZE,
-    WRITER_BACK, WRITER_FLAG,
+    CLOSED_WORD, HEAD_WORD, LEFT_WORD, Parts, READER_SLOT, TAIL_WORD, WORDS_SIZE, WRITER_SLOT,
 };
 use crate::proved::piper_ring::ring::places::{Base, Blank, Places};
 use crate::proved::piper_ring::ring::remains::Remains;
@@ -69,13 +68,16 @@ unsafe impl Send for WriteSeat {}
 unsafe impl Sync for WriteSeat {}
 
 /// The two seats of an empty open ring and its places, all of them the writer's room and none of
-/// them set, with what each side knows of the slots, which are empty. The wakers lie in the places
-/// to which these are the rights, in the space of that lender.
+/// them set, with what each side knows of the slots. Of the cells, which are in the space of that
+/// lender, the first lies in the reader's slot, the second in the writer's; the third is to be the
+/// reader's own, the fourth the writer's.
 #[inline] pub(crate) fn open(
     parts: Parts,
     lender: Lender,
-    reader_token: &Token,
-    writer_token: &Token,
+    first: Token,
+    second: Token,
+    third: &Token,
+    fourth: &Token,
 ) -> (
     ReadSeat,
     WriteSeat,
@@ -85,11 +87,13 @@ unsafe impl Sync for WriteSeat {}
     WaiterState,
     WakerState,
 )
-    /* requires { (lender.start ≡ space_of parts.start) × (lender.words ≡ space_words) }
+    /* requires space { (lender.start ≡ space_of parts.start) × (lender.words ≡ space_words) }
+    requires first { (first.there ≡ true) × (first.filled ≡ false) }
+    requires second { (second.there ≡ true) × (second.filled ≡ false) }
     ensures ring { (result.0.words ≡ parts.start)
         × (result.0.names.capacity ≡ parts.capacity) × (result.0.names.life ≡ lender.life) }
-    ensures places { (result.0.names.reader_place ≡ reader_token.now.name)
-        × (result.0.names.writer_place ≡ writer_token.now.name) }
+    ensures cells { result.0.names.cells
+        ≡ first.name ∷ second.name ∷ third.now.name ∷ fourth.now.name ∷ [] }
     ensures reader { (result.0.head ≡ 0) × (result.0.seen ≡ 0) × (result.0.have ≡ [])
         × (result.0.leaving ≡ false) }
     ensures pair { (result.1.words ≡ result.0.words) × (result.1.at ≡ result.0.at)
@@ -105,16 +109,17 @@ unsafe impl Sync for WriteSeat {}
 {
     let Parts { start } = parts;
     let Lender { start: _ } = lender;
+    let Token { mark: _ } = first;
+    let Token { mark: _ } = second;
     // SAFETY: `also_owns` of the parts owns the words, which are aligned to 8.
     unsafe {
         start.add(HEAD_WORD).write(0);
         start.add(TAIL_WORD).write(0);
         start.add(CLOSED_WORD).write(0);
         start.add(LEFT_WORD).write(0);
-        start.add(READER_FLAG).write(0);
-        start.add(READER_BACK).write(0);
-        start.add(WRITER_FLAG).write(0);
-        start.add(WRITER_BACK).write(0);
+        // The first cell, with no waker in it, and the second.
+        start.add(READER_SLOT).write(0);
+        start.add(WRITER_SLOT).write(2);
     }
     let reader = ReadSeat { words: start };
     let writer = WriteSeat { words: start };

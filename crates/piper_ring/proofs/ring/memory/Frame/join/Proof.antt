@@ -17,9 +17,9 @@ join_spec 𝓤 𝓛 𝓜 𝓡 wired =
     let w : Ptr = a.0.start in let cap : ℕ = a.0.capacity in let g : Space.the_row.Denot = a.1.0 in let size : ℕ = size_of_block cap in let w' : Ptr = block_ptr (block_of w) (count_of w) in
     let y : (walk_of 𝓛 En hs c).Ghost = ((κs, qs, bounds, a, (pointer_val w ∷ [], (pointer_val g.start ∷ [], tt))), gh) in let Post : Val → SProp 𝓤 = (walk_of 𝓛 En hs c).post y in
     let one : Row.Denot = record { start = w'; size = size } in let u : Val = pointer_val w' in let Told : Type 0 = (size ≡ size) × (size < 2 ^ 63) in
-    qed 𝓛 ((raw (alive 𝓛 En.signature κs qs) ⊛ ‵ (owns (types_at En.signature.params κs) a y.0.4)) ∷ given ((g.start ≡ space_of w) × (g.words ≡ 6)) (‵ ftrue) ∷ []) ∵
+    qed 𝓛 ((raw (alive 𝓛 En.signature κs qs) ⊛ ‵ (owns (types_at En.signature.params κs) a y.0.4)) ∷ given ((g.start ≡ space_of w) × (g.words ≡ 12)) (‵ ftrue) ∷ []) ∵
     keep ! (1 ∷ 0 ∷ []) $ learn ! (λ asked. drop ! $ split ! $ move ! (1 ∷ []) $ fsplit3 ! $ fsplit ! $ drop ! $ fsplit3 ! $ fpick ! (λ at. drop ! $ let is_w : w ≡ w' = at_block w at.0 in
-    move ! (2 ∷ []) $ fsplit ! $ drop ! $ rewrite ! 0 (λ (r : Ptr × ℕ). ‵ (space r.1 r.0)) {x = (space_of w, 6)} {y = (g.start, g.words)} (λ i. (asked.0 i, asked.1 i)) refl $ fsplit ! $ drop ! $
+    move ! (2 ∷ []) $ fsplit ! $ drop ! $ rewrite ! 0 (λ (r : Ptr × ℕ). ‵ (space r.1 r.0)) {x = (space_of w, 12)} {y = (g.start, g.words)} (λ i. (asked.0 i, asked.1 i)) refl $ fsplit ! $ drop ! $
     -- [the space; what makes the block of it; the right to free it]
     keep ! (0 ∷ 1 ∷ 2 ∷ 4 ∷ []) $ use2 𝓛 (‵ (block_at cap w)) (apply∗ 𝓤 (sem 𝓛 (space_room w)) (sem 𝓛 (block_at cap w))) $ move ! (1 ∷ []) $ rewrite ! 0 (λ (q : Ptr). ‵ (token_of cap q)) is_w refl $ move ! (1 ∷ 0 ∷ []) $ fjoin ! $
     nothing ! $ fpack ! (size < 2 ^ 63) (λ _. ftrue) at.1 $ fjoin ! $ use0 𝓛 (‵ (PointerData.own_val (w', tt) (u ∷ []))) (pointer_made 𝓛 w') $ fjoin ! $

@@ -28,7 +28,7 @@ part_spec 𝓤 𝓛 𝓜 𝓡 wired =
     move ! (2 ∷ 8 ∷ []) $ use2 𝓛 (‵ (fwand (fsep (fsep (all_rooms w) (space_room w)) (BytesRoom 𝓛 w cap)) (BlockRoom 𝓛 w cap))) (remakes 𝓛 w cap (fsep (all_rooms w) (space_room w))) $
     move ! (3 ∷ 4 ∷ []) $ fjoin ! $ move ! (4 ∷ 5 ∷ 0 ∷ []) $ fjoin3 ! $ move ! (0 ∷ 2 ∷ []) $ fjoin ! $ move ! (1 ∷ 4 ∷ []) $ fjoin ! $ move ! (3 ∷ 0 ∷ []) $ fjoin ! $ move ! (1 ∷ 0 ∷ []) $ fjoin ! $
     nothing ! $ fpack ! (IsPlaced cap w) (λ _. ftrue) (tt, small) $ fjoin ! $
-    let one : Parts.the_row.Denot = record { start = w; capacity = cap } in let two : Space.the_row.Denot = record { start = at; words = 6 } in let u : Val = pointer_val w in let v : Val = pointer_val at in
+    let one : Parts.the_row.Denot = record { start = w; capacity = cap } in let two : Space.the_row.Denot = record { start = at; words = 12 } in let u : Val = pointer_val w in let v : Val = pointer_val at in
     use0 𝓛 (‵ (PointerData.own_val (w, tt) (u ∷ []))) (pointer_made 𝓛 w) $ fjoin ! $ move ! (1 ∷ []) $ nothing ! $ fpack ! (InBlock at) (λ _. ftrue) tt $ fjoin ! $ use0 𝓛 (‵ (PointerData.own_val (at, tt) (v ∷ []))) (pointer_made 𝓛 at) $ fjoin ! $ move ! (1 ∷ 0 ∷ []) $
     use2 𝓛 (‵ ((denote.Struct.Tuple.Tuple (Parts.the_row ∷ Space.the_row ∷ [])).own_val (one, two) (pair_val u v ∷ []))) (pair_of 𝓛 Parts.the_row Space.the_row one two u v) $
     enter ! 𝓣.C 𝓣.Λ fn (pointer_val w₀ ∷ vint w64 cap ∷ []) Post $ alloc_all ! (λ l. pass_all ! refl (word-Good [] w₀, ((tt, record { fits = are.1.0.1 }), tt)) $ let Ev = env fn.locals l in
@@ -36,6 +36,6 @@ part_spec 𝓤 𝓛 𝓜 𝓡 wired =
     first ! $ blocks ! $ sets_last ! (bin ! (get ! refl) (lit ! tt) tt) refl (tt, tt) $ exec ! 𝓣.C 𝓣.Λ Ev (from_on 3 fn.body) (at_ret Ev Post) $ sets ! (of_opd ! (get ! refl)) refl (tt, tt) $
     sets ! (agg ! (and_then ! (get ! refl) (no_more !))) refl (tt, (tt, tt)) $ sets ! (agg ! (and_then ! (get ! refl) (no_more !))) refl (tt, (tt, tt)) $
     sets ! (agg ! (and_then ! (get ! refl) (and_then ! (get ! refl) (no_more !)))) refl (tt, ((tt, tt), ((tt, tt), tt))) $
-    use0 𝓛 (raw (fact 𝓤 ((at ≡ space_of w₀) × (6 ≡ 6)))) (fact_i 𝓤 ((at ≡ space_of w₀) × (6 ≡ 6)) (emp 𝓤) (ap space_of (sym at_w), refl)) $
+    use0 𝓛 (raw (fact 𝓤 ((at ≡ space_of w₀) × (12 ≡ 12)))) (fact_i 𝓤 ((at ≡ space_of w₀) × (12 ≡ 12)) (emp 𝓤) (ap space_of (sym at_w), refl)) $
     use0 𝓛 (raw (fact 𝓤 ((w ≡ w₀) × (cap ≡ cap)))) (fact_i 𝓤 ((w ≡ w₀) × (cap ≡ cap)) (emp 𝓤) ((sym at_w), refl)) $ join ! $ nothing ! $ nothing ! $ fjoin ! $ nothing ! $ fjoin ! $
     returns ! (look_at ! 0 refl) $ free_all ! refl $ keep ! (3 ∷ 0 ∷ 2 ∷ 1 ∷ []) $ by ! (leaves 𝓛 En hs c y (pair_val u v) (one, two) (tt, (tt, tt)) (tt, (tt, tt))))))))

@@ -16,7 +16,7 @@ meet_slot_spec 𝓤 𝓛 𝓜 𝓡 wired =
     (λ κs. ((λ x. lent_val x.words ∷ []), (mut_vals, (mut_vals, tt)))) (λ κs. ((λ x vs so. lent_told (named_lft 3 0 tt κs) x.words vs so.0), (mut_Tells (named 1) κs.1.0 ORow, (mut_Tells (named 2) κs.1.1.0 TRow, tt)))) (λ κs qs bounds a gh are.
     let h = a.0 in let w : Ptr = h.words in let p : Ptr = h.at in let z : Names = h.names in let κ = κs.0 in let q : Share = qs.0 in
     let b : ℕ = a.1.0.ref_ptr.0 in let o : ℕ = a.1.0.ref_ptr.1 in let k = a.1.0.now in let b2 : ℕ = a.1.1.0.ref_ptr.0 in let o2 : ℕ = a.1.1.0.ref_ptr.1 in let m = a.1.1.0.now in let r : Bool = k.for_reader in let view : Waits Stored = of_waits k in let other : Wakes Stored = of_wakes m in
-    let V : Names → Fml = λ u. waits_in u r view.0 view.1.0 view.1.1 in let U : Names × Bool → Fml = λ u. wakes_in u.0 u.1 other.0 other.1.0 other.1.1 in
+    let V : Names → Fml = λ u. waits_in u r view.0 view.1.0 view.1.1 in let U : Names × Bool → Fml = λ u. wakes_in u.0 u.1 other.0 other.1 in
     let y : (walk_of 𝓛 En hs c).Ghost = ((κs, qs, bounds, a, (lent_val w ∷ [], (vptr b o ∷ [], (vptr b2 o2 ∷ [], tt)))), gh) in let Post : Val → SProp 𝓤 = (walk_of 𝓛 En hs c).post y in
     qed 𝓛 (((‵ (flft κ q) ⊛ ‵ (flft κs.1.0 qs.1.0) ⊛ ‵ (flft κs.1.1.0 qs.1.1.0) ⊛ ‵ ftrue) ⊛ ‵ (owns (types_at En.signature.params κs) a y.0.4)) ∷ given ((k.names ≡ z) × (m.names ≡ z) × (m.for_reader ≡ r)) (‵ ftrue) ∷ []) ∵
     keep ! (1 ∷ 0 ∷ []) $ learn ! (λ asked. drop ! $ split ! $ split3 ! $ move ! (2 ∷ []) $ split ! $ move ! (4 ∷ []) $ fsplit3 ! $ fsplit ! $ drop ! $ fsplit3 ! $ fsplit ! $ fpick ! (λ at. drop ! $ nothing ! $ fpack ! (RingIsPlaced w p z) (λ _. ftrue) at $ fjoin ! $ move ! (1 ∷ []) $ fpick ! (λ who.

@@ -3,8 +3,5 @@ use Rattle.std.proofs.Common.{rules}
 use Rattle.piper_ring.specs.Loads.{as_taken}
 use Rattle.piper_ring.proofs.ends.slots.side.Side.take.Goals as goal
 
-pub returns-then-found-eq0-clause-ticket : goal.returns-then-found-eq0-clause-ticket
-returns-then-found-eq0-clause-ticket g c = record { none = search rules; some = search rules; waker = as_taken _ _ _ _; found = search rules }
-
 pub returns-clause-ticket : goal.returns-clause-ticket
 returns-clause-ticket g c = record { none = search rules; some = search rules; waker = as_taken _ _ _ _; found = search rules }
