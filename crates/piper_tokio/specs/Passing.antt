@@ -1,16 +1,12 @@
 -- What passes through a handle of the pipe while `tokio` reads or writes it.
 use Rattle.std.specs.Prelude.{◌≡◌, ◌++◌, true, false, List, [], ℕ, Result, Ok, Err}
-use Rattle.std.specs.IoError.{error_kind}
 use Rattle.std.specs.declared.io.Error.{Error}
-use Rattle.std.specs.declared.io.ErrorKind.TheVariants.{OutOfMemory}
-use Rattle.std.specs.declared.convert.Infallible.{Infallible}
-use Rattle.futures.specs.declared.task.context.Context.{Context}
 use Rattle.futures.specs.declared.task.Poll.{Poll}
 use Rattle.futures.specs.declared.task.Poll.TheVariants.{Ready, Pending}
 use Rattle.piper.specs.Copies.{ReaderCopied}
+use Rattle.piper.specs.Polls.{Count}
 use Rattle.piper.specs.WriteView.{WriteView}
-use Rattle.piper.specs.declared.error.CopyError.{CopyError}
-use Rattle.piper.specs.declared.error.CopyError.TheVariants.{Memory}
+use Rattle.piper.specs.declared.error.PipeError.TheVariants.{Memory}
 use Rattle.piper.specs.declared.handles.Reader.{Reader}
 use Rattle.piper.specs.declared.handles.Writer.{Writer}
 
@@ -40,12 +36,8 @@ pub record Gave (a : Writer) (xs : List ℕ) (b : Writer) : Type 0 where
   pub end : IsWritten a.side.end b.side.end
   pub handle : (b.side.cells ≡ a.side.cells) × (b.source ≡ a.source)
 
--- want of memory, since no waker could be made
-abbrev pub WantsMemory : Context → Error → Type 0
-WantsMemory cx e = (error_kind e ≡ OutOfMemory) × (cx.lacks_waker ≡ true)
-
--- the same answer of a copy of the handles over a slice, which fails for want of memory alone
-abbrev pub of_io : Poll (Result ℕ Error) → Poll (Result ℕ (CopyError Infallible))
+-- the same answer of the handle, which fails for want of memory alone
+abbrev pub of_io : Poll (Result ℕ Error) → Count
 of_io (Ready (Ok n)) = Ready (Ok n)
 of_io (Ready (Err e)) = Ready (Err Memory)
 of_io Pending = Pending

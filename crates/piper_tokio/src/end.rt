@@ -3,22 +3,18 @@ ghost use Rattle.std.specs.Prelude.{◌≡◌, ◌≤◌, true, [], length, take
 ghost use Rattle.std.proofs.Common.{◌∙◌};
 ghost use Rattle.std.specs.IoError.{error_kind};
 ghost use Rattle.std.specs.declared.io.ErrorKind.TheVariants.{OutOfMemory as OutOfMemoryKind};
-ghost use Rattle.futures.specs.Poll.{OnPending};
 ghost use Rattle.futures.specs.Task.{Keeps};
-ghost use Rattle.tokio.specs.Io.Moved.{bytes_moved, count_moved, OnReadyOk, IfReadyErr};
-ghost use Rattle.piper.specs.Called.{CallsTaken};
-ghost use Rattle.piper.specs.Traits.{Consumes};
-ghost use Rattle.piper.specs.Handles.{NotifiesReader, SameReader, read_source, write_source};
+ghost use Rattle.tokio.specs.Io.Moved.{bytes_moved, count_moved, IfReadyErr};
+ghost use Rattle.piper.specs.Traits.{Closes, Consumes};
+ghost use Rattle.piper.specs.Handles.{read_source, write_source};
 ghost use Rattle.piper.specs.OfReader.{known};
-ghost use Rattle.piper.specs.OfWriter.{room, shut, saw, slots};
-ghost use Rattle.piper.specs.ReaderCalls.{AtEnd, DrainPends, DrainsEnd, DrainsSlice, DrainDraws, Looks, PollsEnd, WakesWriter};
-ghost use Rattle.piper.specs.SlotsView.{OnlyWaits};
-ghost use Rattle.piper.specs.Waits.{ReaderPends, WriterLeavesNone};
-ghost use Rattle.piper.specs.WriterCalls.{FillDraws, FillPends, FillsEnd, FillsSlice, SameWriterButMoved, SameWriterButShut, WakesReader};
+ghost use Rattle.piper.specs.OfWriter.{shut, saw};
+ghost use Rattle.piper.specs.WriterCalls.{WritesAsFill};
+ghost use Rattle.piper.specs.ReaderCalls.{AtEnd, ReadsAsDrain, WakesWriter};
 ghost use Rattle.piper_duplex.specs.Crosswise.{reading as reading_of, writing as writing_of};
 ghost use Rattle.piper_tokio.specs.Halves.{read_half, reading, write_half, writing};
-ghost use Rattle.piper_tokio.specs.Passing.{Took, Gave, WantsMemory, of_io};
-ghost use Rattle.piper_tokio.specs.Shown.{shown_by, ShowsFront};
+ghost use Rattle.piper_tokio.specs.Passing.{Took, Gave, of_io};
+ghost use Rattle.piper_tokio.specs.Shown.{PollsShown, shown_by};
 ghost use Rattle.piper_tokio.specs.PassingLaws.{took_nothing, took_in_order, gave_nothing, gave_in_order};
 
 use crate::halves::{CompatReader, CompatWriter};
@@ -83,14 +79,10 @@ impl AsyncRead for CompatEnd {
         ensures bound { count_moved result ≤ length buf.new }
         ensures bytes { Took (reading self.old) (bytes_moved result buf.new) (reading self.new)
             × (write_half self.new ≡ write_half self.old) }
-        ensures drained { DrainsSlice result (reading self.old) (reading self.new)
-            buf.old buf.new × (shown_by (read_half self.new) ≡ []) }
-        ensures end { DrainsEnd result (reading self.old) (reading self.new) }
-        ensures pending { DrainDraws result (reading self.old) (reading self.new)
-            × OnPending result (DrainPends (reading self.old) (reading self.new) cx.old cx.new) }
-        ensures memory { IfReadyErr result (λ e. WantsMemory cx.new e
-            × (known (reading self.new) ≡ [])) }
-        ensures woken { WakesWriter (reading self.old) (reading self.new) }
+        ensures drained { ReadsAsDrain (reading self.old) (reading self.new) (of_io result)
+            buf.old buf.new cx.old cx.new }
+        ensures shown { shown_by (read_half self.new) ≡ [] }
+        ensures memory { IfReadyErr result (λ e. error_kind e ≡ OutOfMemoryKind) }
         ensures context { Keeps cx.old cx.new }
     {
         self.reader.poll_read(cx, buf)
@@ -104,14 +96,9 @@ impl AsyncBufRead for CompatEnd {
     fn poll_fill_buf(&mut self, cx: &mut Context<'_>) -> Poll<io::Result<()>>
         ensures bytes { Took (reading self.old) [] (reading self.new)
             × (write_half self.new ≡ write_half self.old) }
-        ensures looked { Looks (reading self.old) (reading self.new)
-            × SameReader OnlyWaits (reading self.old) (reading self.new) }
-        ensures shown { OnReadyOk result (ShowsFront (read_half self.new)) }
-        ensures end { PollsEnd result (reading self.old) (reading self.new) }
-        ensures pending { OnPending result
-            (ReaderPends (reading self.old) (reading self.new) cx.old cx.new) }
-        ensures memory { IfReadyErr result (λ e. WantsMemory cx.new e
-            × (known (reading self.new) ≡ [])) }
+        ensures polled { PollsShown result (read_half self.old) (read_half self.new)
+            cx.old cx.new }
+        ensures memory { IfReadyErr result (λ e. error_kind e ≡ OutOfMemoryKind) }
         ensures woken { WakesWriter (reading self.old) (reading self.new) }
         ensures context { Keeps cx.old cx.new }
     {
@@ -158,14 +145,9 @@ impl AsyncWrite for CompatEnd {
         ensures bound { count_moved result ≤ length buf.now }
         ensures bytes { Gave (writing self.old) (bytes_moved result buf.now)
             (writing self.new) × (read_half self.new ≡ read_half self.old) }
-        ensures filled { FillsSlice result (writing self.old) (writing self.new) buf.now
-            × SameWriterButMoved (writing self.old) (writing self.new) }
-        ensures end { FillsEnd result (writing self.old) (writing self.new) }
-        ensures pending { FillDraws (of_io result) (writing self.old) (writing self.new)
-            × OnPending result (FillPends (writing self.old) (writing self.new) cx.old cx.new) }
-        ensures memory { IfReadyErr result (λ e. WantsMemory cx.new e
-            × (room (writing self.new) ≡ 0)) }
-        ensures woken { WakesReader (writing self.old) (writing self.new) }
+        ensures filled { WritesAsFill (writing self.old) (writing self.new) (of_io result)
+            buf.now cx.old cx.new }
+        ensures memory { IfReadyErr result (λ e. error_kind e ≡ OutOfMemoryKind) }
         ensures context { Keeps cx.old cx.new }
     {
         self.writer.poll_write(cx, buf)
@@ -184,14 +166,9 @@ impl AsyncWrite for CompatEnd {
 
     /// As `poll_shutdown` of the half that writes.
     fn poll_shutdown(&mut self, cx: &mut Context<'_>) -> Poll<io::Result<()>>
-        ensures answer { result ≡ Poll.Ready (Ok (record {})) }
         ensures bytes { Gave (writing self.old) [] (writing self.new)
             × (read_half self.new ≡ read_half self.old) }
-        ensures woken { NotifiesReader (writing self.new) }
-        ensures called { CallsTaken (slots (writing self.old)) (slots (writing self.new)) }
-        ensures leaves { WriterLeavesNone (writing self.new) }
-        ensures context { cx.new ≡ cx.old }
-        ensures rest { SameWriterButShut (writing self.old) (writing self.new) }
+        ensures closes { Closes (writing self.old) (writing self.new) result cx.old cx.new }
     {
         self.writer.poll_shutdown(cx)
     }

@@ -2,21 +2,17 @@
 ghost use Rattle.std.specs.Prelude.{◌≤◌, ◌≡◌, [], length, take, drop, true, Ok};
 ghost use Rattle.std.specs.IoError.{error_kind};
 ghost use Rattle.std.specs.declared.io.ErrorKind.TheVariants.{OutOfMemory as OutOfMemoryKind};
-ghost use Rattle.futures.specs.Poll.{OnPending};
 ghost use Rattle.futures.specs.Task.{Keeps};
-ghost use Rattle.tokio.specs.Io.Moved.{bytes_moved, count_moved, OnReadyOk, IfReadyErr};
-ghost use Rattle.piper.specs.Called.{CallsTaken};
-ghost use Rattle.piper.specs.Traits.{Consumes};
-ghost use Rattle.piper.specs.Handles.{SameReader, read_source, NotifiesReader, write_source};
+ghost use Rattle.tokio.specs.Io.Moved.{bytes_moved, count_moved, IfReadyErr};
+ghost use Rattle.piper.specs.Traits.{Closes, Consumes};
+ghost use Rattle.piper.specs.Handles.{read_source, write_source};
 ghost use Rattle.piper.specs.OfReader.{known};
-ghost use Rattle.piper.specs.ReaderCalls.{AtEnd, DrainPends, DrainsEnd, DrainsSlice, DrainDraws, Looks, PollsEnd, WakesWriter};
-ghost use Rattle.piper.specs.SlotsView.{OnlyWaits};
-ghost use Rattle.piper.specs.Waits.{ReaderPends, WriterLeavesNone};
-ghost use Rattle.piper_tokio.specs.Passing.{Took, WantsMemory, Gave, of_io};
-ghost use Rattle.piper_tokio.specs.Shown.{handle_of, shown_by, ShowsFront, writing};
+ghost use Rattle.piper.specs.WriterCalls.{WritesAsFill};
+ghost use Rattle.piper.specs.ReaderCalls.{AtEnd, ReadsAsDrain, WakesWriter};
+ghost use Rattle.piper_tokio.specs.Passing.{Took, Gave, of_io};
+ghost use Rattle.piper_tokio.specs.Shown.{PollsShown, handle_of, shown_by, writing};
 ghost use Rattle.piper_tokio.specs.PassingLaws.{took_nothing, took_in_order, gave_nothing, gave_in_order};
-ghost use Rattle.piper.specs.OfWriter.{room, shut, saw, slots};
-ghost use Rattle.piper.specs.WriterCalls.{FillDraws, FillPends, FillsEnd, FillsSlice, SameWriterButMoved, SameWriterButShut, WakesReader};
+ghost use Rattle.piper.specs.OfWriter.{room, shut, saw};
 
 use super::{CompatReader, CompatWriter};
 use futures::task::{Context, Poll};
@@ -75,14 +71,10 @@ impl tokio::io::AsyncRead for CompatReader {
         ensures bound { count_moved result ≤ length buf.new }
         ensures bytes { Took (handle_of self.old) (bytes_moved result buf.new)
             (handle_of self.new) }
-        ensures drained { DrainsSlice result (handle_of self.old) (handle_of self.new)
-            buf.old buf.new × (shown_by self.new ≡ []) }
-        ensures end { DrainsEnd result (handle_of self.old) (handle_of self.new) }
-        ensures pending { DrainDraws result (handle_of self.old) (handle_of self.new)
-            × OnPending result (DrainPends (handle_of self.old) (handle_of self.new) cx.old cx.new) }
-        ensures memory { IfReadyErr result (λ e. WantsMemory cx.new e
-            × (known (handle_of self.new) ≡ [])) }
-        ensures woken { WakesWriter (handle_of self.old) (handle_of self.new) }
+        ensures drained { ReadsAsDrain (handle_of self.old) (handle_of self.new) (of_io result)
+            buf.old buf.new cx.old cx.new }
+        ensures shown { shown_by self.new ≡ [] }
+        ensures memory { IfReadyErr result (λ e. error_kind e ≡ OutOfMemoryKind) }
         ensures context { Keeps cx.old cx.new }
     {
         self.shown = 0;
@@ -104,14 +96,8 @@ impl tokio::io::AsyncBufRead for CompatReader {
     /// Errors: one of the kind `OutOfMemory`, for the reason for which `Reader::poll` fails.
     fn poll_fill_buf(&mut self, cx: &mut Context<'_>) -> Poll<io::Result<()>>
         ensures bytes { Took (handle_of self.old) [] (handle_of self.new) }
-        ensures looked { Looks (handle_of self.old) (handle_of self.new)
-            × SameReader OnlyWaits (handle_of self.old) (handle_of self.new) }
-        ensures shown { OnReadyOk result (ShowsFront self.new) }
-        ensures end { PollsEnd result (handle_of self.old) (handle_of self.new) }
-        ensures pending { OnPending result
-            (ReaderPends (handle_of self.old) (handle_of self.new) cx.old cx.new) }
-        ensures memory { IfReadyErr result (λ e. WantsMemory cx.new e
-            × (known (handle_of self.new) ≡ [])) }
+        ensures polled { PollsShown result self.old self.new cx.old cx.new }
+        ensures memory { IfReadyErr result (λ e. error_kind e ≡ OutOfMemoryKind) }
         ensures woken { WakesWriter (handle_of self.old) (handle_of self.new) }
         ensures context { Keeps cx.old cx.new }
     {
@@ -199,14 +185,9 @@ impl tokio::io::AsyncWrite for CompatWriter {
     fn poll_write(&mut self, cx: &mut Context<'_>, buf: &[u8]) -> Poll<io::Result<usize>>
         ensures bound { count_moved result ≤ length buf.now }
         ensures bytes { Gave (writing self.old) (bytes_moved result buf.now) (writing self.new) }
-        ensures filled { FillsSlice result (writing self.old) (writing self.new) buf.now
-            × SameWriterButMoved (writing self.old) (writing self.new) }
-        ensures end { FillsEnd result (writing self.old) (writing self.new) }
-        ensures pending { FillDraws (of_io result) (writing self.old) (writing self.new)
-            × OnPending result (FillPends (writing self.old) (writing self.new) cx.old cx.new) }
-        ensures memory { IfReadyErr result (λ e. WantsMemory cx.new e
-            × (room (writing self.new) ≡ 0)) }
-        ensures woken { WakesReader (writing self.old) (writing self.new) }
+        ensures filled { WritesAsFill (writing self.old) (writing self.new) (of_io result)
+            buf.now cx.old cx.new }
+        ensures memory { IfReadyErr result (λ e. error_kind e ≡ OutOfMemoryKind) }
         ensures context { Keeps cx.old cx.new }
     {
         match self.writer.poll_fill_bytes(cx, buf) {
@@ -233,13 +214,8 @@ impl tokio::io::AsyncWrite for CompatWriter {
     /// Returns: `Ok(())`, at once and always.
     /// Wakes: the reader, if it waits. No waker of this writer is left.
     fn poll_shutdown(&mut self, cx: &mut Context<'_>) -> Poll<io::Result<()>>
-        ensures answer { result ≡ Poll.Ready (Ok (record {})) }
         ensures bytes { Gave (writing self.old) [] (writing self.new) }
-        ensures woken { NotifiesReader (writing self.new) }
-        ensures called { CallsTaken (slots (writing self.old)) (slots (writing self.new)) }
-        ensures leaves { WriterLeavesNone (writing self.new) }
-        ensures context { cx.new ≡ cx.old }
-        ensures rest { SameWriterButShut (writing self.old) (writing self.new) }
+        ensures closes { Closes (writing self.old) (writing self.new) result cx.old cx.new }
     {
         match self.writer.poll_close(cx) {
             Poll::Pending => Poll::Pending,
