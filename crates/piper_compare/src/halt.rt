@@ -58,9 +58,7 @@ pub fn finish(played: Result<(), Halt>, number: u64, reply: &mut Reply) -> Resul
         }
         Err(Halt::OnlyMachine) => {
             reply.clear();
-            reply.write("line ")?;
-            reply.write_count(number as usize)?;
-            reply.write(": OnlyMachine\n")?;
+            reply.write_refusal(number, "OnlyMachine")?;
         }
         Err(Halt::Script(stop)) => return Err(stop),
     }

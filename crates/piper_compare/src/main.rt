@@ -18,7 +18,7 @@ mod vector;
 use crate::mode::{Mode, mode_of};
 use crate::playing::{play_drawn_on_both, play_on_both, play_on_handles};
 use crate::stored::{Reported, compare};
-use piper_interpreter::replay::Ended;
+use piper_script::replay::Ended;
 use std::env;
 use std::io::ErrorKind;
 use std::process::ExitCode;

@@ -4,11 +4,11 @@ use crate::halt::{Halt, finish};
 use crate::hands::Hands;
 use crate::random::Drawn;
 use crate::twin::{Compared, Difference, Twin};
-use piper_interpreter::replay::Ended;
-use piper_interpreter::stream::{Lines, write_reply};
 use piper_script::parser::parse;
+use piper_script::replay::Ended;
 use piper_script::reply::Reply;
 use piper_script::stop::Stop;
+use piper_script::stream::{Lines, write_reply};
 use std::alloc::AllocGlobal;
 use std::io::{Read, Write};
 use std::random::RandomSource;
@@ -91,10 +91,10 @@ where
         }
         let line = lines.line();
         reply.clear();
-        let played = match parse(line) {
+        let played = match parse(hands.alloc(), line, hands.next_draws()) {
             Ok(None) => continue,
-            Ok(Some(command)) => hands.play(command, reply),
-            Err(refusal) => Err(Halt::from(refusal)),
+            Ok(Some(command)) => hands.play(&command, reply),
+            Err(stop) => Err(Halt::from(stop)),
         };
         let is_refused = finish(played, number, reply)?;
         write_reply(reply, output)?;

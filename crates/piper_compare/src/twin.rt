@@ -1,16 +1,16 @@
 //! Plays commands on the handles and on the machine, and holds the answers against each other.
-ghost use Rattle.std.specs.Prelude.{◌≡◌, ◌≤◌, ◌⊎◌, None, Some, IfErr, IfOk, IfSome, OnOk};
-ghost use Rattle.piper_interpreter.specs.Ended.{IsEndOf};
-ghost use Rattle.piper_script.specs.Command.{IsInLimits};
-ghost use Rattle.piper_script.specs.Limits.{greatest_number};
+ghost use Rattle.std.specs.Prelude.{◌≡◌, ◌⊎◌, None, Some, IfErr, IfOk, IfSome, OnOk};
+ghost use Rattle.piper_script.specs.Ended.{IsEndOf};
+ghost use Rattle.piper_script.specs.Played.{IsInLimits};
 
 use crate::halt::{Halt, finish};
 use crate::hands::{Hands, MOST_OF_ONE_LENGTH, is_open_lend};
-use piper_interpreter::player::Player;
-use piper_interpreter::replay::Ended;
-use piper_script::command::{Command, MOST, SaidCall};
+use model_sides::calls::Call;
+use piper_script::command::{Command, MOST};
 use piper_script::number::number;
 use piper_script::parser::parse;
+use piper_script::player::Player;
+use piper_script::replay::Ended;
 use piper_script::reply::Reply;
 use piper_script::stop::Stop;
 use std::alloc::AllocGlobal;
@@ -89,16 +89,16 @@ impl<H: RandomSource + AllocGlobal + Drop> Twin<H> {
     {
         self.machine.clear();
         self.handles.clear();
-        let command = match parse(line) {
+        let command = match parse(self.hands.alloc(), line, self.hands.next_draws()) {
             Ok(None) => return Ok(Compared::Silent),
             Ok(Some(command)) if self.hands.is_only_machine(&command) => Err(Halt::OnlyMachine),
             Ok(Some(command)) => Ok(command),
-            Err(refusal) => Err(Halt::from(refusal)),
+            Err(stop) => Err(Halt::from(stop)),
         };
         let command = match command {
-            Ok(command) => match self.common_length(command) {
-                Some(length) => Command::Whole(SaidCall::Lend(length)),
-                None => self.hands.with_draw(command),
+            Ok(command) => match self.common_length(&command) {
+                Some(length) => Command::Whole(Call::WriteBuf(length)),
+                None => command,
             },
             Err(halt) => {
                 finish(Err(halt), number, &mut self.machine)?;
@@ -106,9 +106,9 @@ impl<H: RandomSource + AllocGlobal + Drop> Twin<H> {
                 return Ok(self.compared(true));
             }
         };
-        let played = self.player.play(command, &mut self.machine);
+        let played = self.player.play(&command, &mut self.machine);
         let is_refused = finish(played.map_err(Halt::from), number, &mut self.machine)?;
-        let played = self.hands.play_any(command, &mut self.handles);
+        let played = self.hands.play_any(&command, &mut self.handles);
         finish(played, number, &mut self.handles)?;
         Ok(self.compared(is_refused))
     }
@@ -129,11 +129,10 @@ impl<H: RandomSource + AllocGlobal + Drop> Twin<H> {
 
     // How many places both lend where the contracts leave open how many a lend gets: as many as the
     // one of the two that lends fewer, so that both go on with as many.
-    fn common_length(&mut self, command: Command) -> Option<usize>
-        requires { IsInLimits command }
-        ensures { IfSome result (λ n. n ≤ greatest_number) }
+    fn common_length(&mut self, command: &Command) -> Option<usize>
+        requires { IsInLimits command.now }
     {
-        if !is_open_lend(&command) {
+        if !is_open_lend(command) {
             return None;
         }
         let on_machine = self.player.play(command, &mut self.machine);
@@ -148,8 +147,6 @@ impl<H: RandomSource + AllocGlobal + Drop> Twin<H> {
 }
 
 // The number that was printed.
-fn length_of(reply: &Reply) -> Option<usize>
-    ensures { IfSome result (λ n. n ≤ greatest_number) }
-{
+fn length_of(reply: &Reply) -> Option<usize> {
     number(str::from_utf8(reply.as_bytes()).ok()?, 0, MOST).ok()
 }

@@ -4,7 +4,7 @@ ghost use Rattle.piper_compare.specs.Answers.{GivesAnswers};
 
 use crate::playing::{play_on_both, play_on_handles};
 use anyhow::Context;
-use piper_interpreter::replay::{self, Ended};
+use piper_script::replay::{self, Ended};
 use serde_json::Value;
 use std::alloc::{AllocGlobal, Global};
 use std::random::RandomSource;

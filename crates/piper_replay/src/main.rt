@@ -1,7 +1,7 @@
 //! Replays a script of pipe calls on the pure machine.
 #![tactic(auto)]
 
-use piper_interpreter::replay::{Ended, replay};
+use piper_script::replay::{Ended, replay};
 use std::env;
 use std::io::ErrorKind;
 use std::process::ExitCode;

@@ -1,12 +1,1 @@
-pub mod Begins
-pub mod Callers
-pub mod Commands
-pub mod Items
-pub mod Joined
-pub mod Lists
-pub mod Numbers
-pub mod Ranks
-pub mod Replies
-pub mod ScriptedActs
-pub mod Spaces
-pub mod Texts
+pub mod Going

@@ -1,11 +1,5 @@
-pub mod Acts
-pub mod Command
-pub mod Event
-pub mod Joined
-pub mod Limits
-pub mod List
-pub mod Meaning
-pub mod Number
-pub mod Refusal
-pub mod Reply
-pub mod Stop
+pub mod Ended
+pub mod Played
+pub mod Refused
+pub mod Steps
+pub mod Whole

@@ -1,36 +1,23 @@
 //! What scripted sources and destinations do, as a script writes it.
 
-ghost use Rattle.std.specs.Prelude.{◌≡◌, ℕ, ◌≤◌, [], ◌++◌, length, codes, decimal, IsOk, IfOk, IfErr, OnOk};
-ghost use Rattle.piper_script.specs.Limits.{greatest_number};
-ghost use Rattle.piper_script.specs.Refusal.{IsTextRefusal};
-ghost use Rattle.piper_script.specs.Acts.{IsSourceText, dest_text, IsDestInLimits, WritesSource};
-
 use crate::command::{MOST, Refusal};
 use crate::list::List;
 use crate::number::number;
 use crate::stop::Stop;
-use model_sides::scripted::{ActList, DestAct, SourceAct};
+use model::scripted::{ActList, DestAct, SourceAct};
 use std::alloc::Global;
 
-/// The acts of a source: their text, and how many bytes their lists represent.
+/// The acts of a source that are written right: their text.
 #[derive(Clone, Copy)]
 pub struct Sources<'line> {
-    pub text: &'line str,
-    pub len: usize,
+    text: &'line str,
 }
 
 impl<'line> Sources<'line> {
-    ghost use Rattle.piper_script.specs.Acts.{IsSourcesText, DenotesActs};
-
     /// The acts that the text writes, if their lists have at most [`MOST`] bytes together.
-    pub fn parse(text: &'line str) -> Result<Sources<'line>, Refusal>
-        ensures text { IfOk result (λ sources. sources.text.now ≡ text.now) }
-        ensures acts { IfOk result (λ sources. IsSourcesText sources.text.now sources.len) }
-        ensures refused { IfErr result IsTextRefusal }
-        ensures accepts { (len : ℕ) → IsSourcesText text.now len → IsOk result }
-    {
+    pub fn parse(text: &'line str) -> Result<Sources<'line>, Refusal> {
         if text == "none" {
-            return Ok(Sources { text, len: 0 });
+            return Ok(Sources { text });
         }
         let mut len = 0usize;
         for act in text.split('/') {
@@ -44,43 +31,23 @@ impl<'line> Sources<'line> {
         if len > MOST {
             return Err(Refusal::Limit);
         }
-        Ok(Sources { text, len })
+        Ok(Sources { text })
     }
 
-    /// The acts, with bytes of their own. Acts whose text was accepted are refused for want of
-    /// memory alone.
-    pub fn acts(self, alloc: Global) -> Result<ActList<SourceAct>, Stop>
-        ensures acts { IfOk result (λ acts. DenotesActs self.entry.text.now acts) }
-        ensures memory { IsSourcesText self.entry.text.now self.entry.len →
-            IfErr result (λ stop. stop ≡ Stop.Memory) }
-    {
+    /// The acts, with bytes of their own.
+    pub fn acts(self, alloc: Global) -> Result<ActList<SourceAct>, Stop> {
         let mut acts = ActList::new(alloc);
-        self.add_to(alloc, &mut acts)?;
+        if self.text != "none" {
+            for act in self.text.split('/') {
+                acts.push(source(alloc, act)?)?;
+            }
+        }
         Ok(acts)
-    }
-
-    fn add_to(self, alloc: Global, acts: &mut ActList<SourceAct>) -> Result<(), Stop>
-        requires { acts.old ≡ [] }
-        ensures acts { OnOk result (DenotesActs self.entry.text.now acts.new) }
-        ensures memory { IsSourcesText self.entry.text.now self.entry.len →
-            IfErr result (λ stop. stop ≡ Stop.Memory) }
-    {
-        if self.text == "none" {
-            return Ok(());
-        }
-        for act in self.text.split('/') {
-            acts.push(source(alloc, act)?)?;
-        }
-        Ok(())
     }
 }
 
 // How many bytes an act of a source represents.
-fn source_len(text: &str) -> Result<usize, Refusal>
-    ensures source { IfOk result (IsSourceText text.now) }
-    ensures refused { IfErr result IsTextRefusal }
-    ensures accepts { (len : ℕ) → IsSourceText text.now len → result ≡ Ok len }
-{
+fn source_len(text: &str) -> Result<usize, Refusal> {
     if text == "fail" {
         return Ok(0);
     }
@@ -88,33 +55,22 @@ fn source_len(text: &str) -> Result<usize, Refusal>
 }
 
 // The act of a source that the text writes.
-fn source(alloc: Global, text: &str) -> Result<SourceAct, Stop>
-    ensures act { IfOk result (WritesSource text.now) }
-    ensures memory { (len : ℕ) → IsSourceText text.now len →
-        IfErr result (λ stop. stop ≡ Stop.Memory) }
-{
+fn source(alloc: Global, text: &str) -> Result<SourceAct, Stop> {
     if text == "fail" {
         return Ok(SourceAct::Fail);
     }
     Ok(SourceAct::Bytes(List::parse(text)?.bytes(alloc)?))
 }
 
-/// The acts of a destination: their text.
+/// The acts of a destination that are written right: their text.
 #[derive(Clone, Copy)]
 pub struct Dests<'line> {
-    pub text: &'line str,
+    text: &'line str,
 }
 
 impl<'line> Dests<'line> {
-    ghost use Rattle.piper_script.specs.Acts.{IsDestsText, dests_text};
-
     /// The acts that the text writes.
-    pub fn parse(text: &'line str) -> Result<Dests<'line>, Refusal>
-        ensures text { IfOk result (λ dests. dests.text.now ≡ text.now) }
-        ensures acts { IfOk result (λ dests. IsDestsText dests.text.now) }
-        ensures refused { IfErr result IsTextRefusal }
-        ensures accepts { IsDestsText text.now → IsOk result }
-    {
+    pub fn parse(text: &'line str) -> Result<Dests<'line>, Refusal> {
         if text == "none" {
             return Ok(Dests { text });
         }
@@ -133,41 +89,20 @@ impl<'line> Dests<'line> {
         Ok(Dests { text })
     }
 
-    /// The acts. Those whose text was accepted are refused for want of memory alone.
-    pub fn acts(self, alloc: Global) -> Result<ActList<DestAct>, Stop>
-        ensures acts { IfOk result (λ acts. self.entry.text.now ≡ dests_text acts) }
-        ensures memory { IsDestsText self.entry.text.now →
-            IfErr result (λ stop. stop ≡ Stop.Memory) }
-    {
+    /// The acts.
+    pub fn acts(self, alloc: Global) -> Result<ActList<DestAct>, Stop> {
         let mut acts = ActList::new(alloc);
-        self.add_to(&mut acts)?;
+        if self.text != "none" {
+            for act in self.text.split('/') {
+                acts.push(dest(act)?)?;
+            }
+        }
         Ok(acts)
-    }
-
-    fn add_to(self, acts: &mut ActList<DestAct>) -> Result<(), Stop>
-        requires { acts.old ≡ [] }
-        ensures acts { OnOk result (self.entry.text.now ≡ dests_text acts.new) }
-        ensures memory { IsDestsText self.entry.text.now →
-            IfErr result (λ stop. stop ≡ Stop.Memory) }
-    {
-        if self.text == "none" {
-            return Ok(());
-        }
-        for act in self.text.split('/') {
-            acts.push(dest(act)?)?;
-        }
-        Ok(())
     }
 }
 
 // The act of a destination that the text writes.
-fn dest(text: &str) -> Result<DestAct, Refusal>
-    ensures text { IfOk result (λ act. text.now ≡ dest_text act) }
-    ensures limits { IfOk result IsDestInLimits }
-    ensures refused { IfErr result IsTextRefusal }
-    ensures accepts { (act : DestAct) → IsDestInLimits act →
-        text.now ≡ dest_text act → result ≡ Ok act }
-{
+fn dest(text: &str) -> Result<DestAct, Refusal> {
     if text == "fail" {
         return Ok(DestAct::Fail);
     }

@@ -1,12 +1,19 @@
-//! The language of scripts: what a line says, and how what happens is printed.
+//! Scripts of pipe calls: what their lines say, played on the pure machine, and what is printed.
 #![tactic(auto)]
 
-pub mod acts;
+mod acts;
 pub mod command;
-pub mod event;
-pub mod list;
-pub mod meaning;
+mod event;
+mod list;
 pub mod number;
+mod orders;
 pub mod parser;
+pub mod player;
+pub mod replay;
 pub mod reply;
+mod runner;
+mod steps;
 pub mod stop;
+pub mod stream;
+mod trial;
+pub mod whole;

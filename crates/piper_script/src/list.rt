@@ -1,19 +1,14 @@
 //! Lists of bytes, as a script writes them.
-ghost use Rattle.std.specs.Prelude.{◌≡◌, ℕ, ◌≤◌, ◌<◌, ◌++◌, length, codes, decimal, IsOk, IsOkAnd, IfOk, IfErr, OnOk, IsErrOf, ◌↔◌, ◌⊎◌};
-ghost use Rattle.piper_script.specs.Limits.{greatest_byte};
-ghost use Rattle.piper_script.specs.Refusal.{IsTextRefusal};
-ghost use Rattle.piper_script.specs.Number.{IsNumber};
-ghost use Rattle.piper_script.specs.List.{item_text, item_bytes, IsItem};
 
 use crate::command::{MOST, Refusal};
-use crate::number::{is_at_most, number};
+use crate::number::{both, byte, is_at_most, number};
 use crate::stop::Stop;
-use model_sides::bytes::Bytes;
+use model::bytes::Bytes;
 use std::alloc::{AllocError, Global};
 
 /// One item of a list.
 #[derive(Clone, Copy)]
-pub enum Item {
+enum Item {
     /// One byte.
     Byte(u8),
     /// The bytes from the first to the second, both included.
@@ -23,13 +18,7 @@ pub enum Item {
 }
 
 impl Item {
-    fn parse(text: &str) -> Result<Item, Refusal>
-        ensures text { IfOk result (λ item. text.now ≡ item_text item) }
-        ensures item { IfOk result IsItem }
-        ensures refused { IfErr result IsTextRefusal }
-        ensures accepts { (item : Item) → IsItem item →
-            text.now ≡ item_text item → result ≡ Ok item }
-    {
+    fn parse(text: &str) -> Result<Item, Refusal> {
         if let Some((first, last)) = text.split_once("..") {
             return range(first, last);
         }
@@ -41,21 +30,15 @@ impl Item {
     }
 
     /// How many bytes the item represents.
-    fn len(self) -> usize
-        requires { IsItem self }
-        ensures { result ≡ length (item_bytes self) }
-    {
+    fn len(self) -> usize {
         match self {
             Item::Byte(_) => 1,
-            Item::Range(first, last) => usize::from(last - first) + 1,
+            Item::Range(first, last) => usize::from(last.saturating_sub(first)) + 1,
             Item::Repeat(_, count) => count,
         }
     }
 
-    fn append_to(self, bytes: &mut Vec<u8>) -> Result<(), AllocError>
-        requires { IsItem self }
-        ensures { OnOk result (bytes.new.items ≡ bytes.old.items ++ item_bytes self) }
-    {
+    fn append_to(self, bytes: &mut Vec<u8>) -> Result<(), AllocError> {
         match self {
             Item::Byte(value) => bytes.push(value)?,
             Item::Range(first, last) => {
@@ -63,19 +46,15 @@ impl Item {
                     bytes.push(value)?;
                 }
             }
-            Item::Repeat(value, count) => bytes.resize(bytes.len() + count, value)?,
+            Item::Repeat(value, count) => {
+                bytes.resize(bytes.len().saturating_add(count), value)?;
+            }
         }
         Ok(())
     }
 }
 
-fn range(first: &str, last: &str) -> Result<Item, Refusal>
-    ensures text { IfOk result (λ item. first.now ++ codes ".." ++ last.now ≡ item_text item) }
-    ensures item { IfOk result IsItem }
-    ensures refused { IfErr result IsTextRefusal }
-    ensures accepts { (a b : ℕ) → IsItem (Item.Range a b) →
-        first.now ≡ decimal a → last.now ≡ decimal b → result ≡ Ok (Item.Range a b) }
-{
+fn range(first: &str, last: &str) -> Result<Item, Refusal> {
     match both(byte(first), byte(last)) {
         Ok((first, last)) if first <= last => Ok(Item::Range(first, last)),
         Err(Refusal::Limit) if is_at_most(first, last) => Err(Refusal::Limit),
@@ -83,36 +62,16 @@ fn range(first: &str, last: &str) -> Result<Item, Refusal>
     }
 }
 
-/// The byte that the text writes.
-pub fn byte(text: &str) -> Result<u8, Refusal>
-    ensures text { IfOk result (λ value. text.now ≡ decimal value) }
-    ensures syntax { IsErrOf result Refusal.Syntax ↔ (¬ IsNumber text.now) }
-    ensures refused { IfErr result IsTextRefusal }
-    ensures limits { IfOk result (λ value. value ≤ greatest_byte) }
-    ensures accepts { (n : ℕ) → text.now ≡ decimal n → n ≤ greatest_byte → result ≡ Ok n }
-{
-    let value = number(text, 0, 255)?;
-    Ok(value as u8)
-}
-
-/// A list of bytes: its text, and how many bytes it represents.
+/// A list of bytes that is written right: its text, and how many bytes it represents.
 #[derive(Clone, Copy)]
 pub struct List<'line> {
-    pub text: &'line str,
+    text: &'line str,
     pub len: usize,
 }
 
 impl<'line> List<'line> {
-    ghost use Rattle.piper_script.specs.List.{IsListText, Denotes};
-
     /// The list that the text writes, if it has at most [`MOST`] bytes.
-    pub fn parse(text: &'line str) -> Result<List<'line>, Refusal>
-        ensures text { IfOk result (λ list. list.text.now ≡ text.now) }
-        ensures list { IfOk result (λ list. IsListText list.text.now list.len) }
-        ensures refused { IfErr result IsTextRefusal }
-        ensures accepts { (len : ℕ) → IsListText text.now len →
-            IsOkAnd result (λ list. list.len ≡ len) }
-    {
+    pub fn parse(text: &'line str) -> Result<List<'line>, Refusal> {
         if text == "-" {
             return Ok(List { text, len: 0 });
         }
@@ -131,47 +90,14 @@ impl<'line> List<'line> {
         Ok(List { text, len })
     }
 
-    /// The list's bytes. A list whose text was accepted is refused for want of memory alone.
-    pub fn bytes(self, alloc: Global) -> Result<Bytes, Stop>
-        ensures bytes { IfOk result (Denotes self.entry.text.now) }
-        ensures memory { IsListText self.entry.text.now self.entry.len →
-            IfErr result (λ stop. stop ≡ Stop.Memory) }
-    {
+    /// The list's bytes.
+    pub fn bytes(self, alloc: Global) -> Result<Bytes, Stop> {
         let mut bytes = Vec::with_capacity(alloc, self.len)?;
-        self.write_to(&mut bytes)?;
+        if self.text != "-" {
+            for item in self.text.split(',') {
+                Item::parse(item)?.append_to(&mut bytes)?;
+            }
+        }
         Ok(Bytes::copy_of(alloc, &bytes)?)
-    }
-
-    // Puts the list's bytes in place of what `bytes` holds.
-    fn write_to(self, bytes: &mut Vec<u8>) -> Result<(), Stop>
-        ensures bytes { OnOk result (Denotes self.entry.text.now bytes.new.items) }
-        ensures memory { IsListText self.entry.text.now self.entry.len →
-            IfErr result (λ stop. stop ≡ Stop.Memory) }
-    {
-        bytes.clear();
-        if self.text == "-" {
-            return Ok(());
-        }
-        for item in self.text.split(',') {
-            Item::parse(item)?.append_to(bytes)?;
-        }
-        Ok(())
-    }
-}
-
-/// Both values, or the refusal that is reported first: `Syntax` comes before `Limit`.
-pub fn both<A: Drop, B: Drop>(
-    first: Result<A, Refusal>,
-    second: Result<B, Refusal>,
-) -> Result<(A, B), Refusal>
-    ensures ok { IfOk result (λ values. (first ≡ Ok values.0) × (second ≡ Ok values.1)) }
-    ensures syntax { IsErrOf result Refusal.Syntax
-        ↔ (IsErrOf first Refusal.Syntax ⊎ IsErrOf second Refusal.Syntax) }
-    ensures refused { IfErr result (λ refusal. IsErrOf first refusal ⊎ IsErrOf second refusal) }
-    ensures accepts { IsOk first → IsOk second → IsOk result }
-{
-    match (first, second) {
-        (Err(Refusal::Syntax), _) | (_, Err(Refusal::Syntax)) => Err(Refusal::Syntax),
-        (first, second) => Ok((first?, second?)),
     }
 }

@@ -4,8 +4,8 @@ ghost use Rattle.std.specs.Prelude.{◌≡◌};
 ghost use Rattle.piper_script.specs.declared.stop.Stop.TheVariants.{Refused, Memory};
 
 use crate::command::Refusal;
-use model_sides::refusals::StepRefusal;
-use piper_protocol::memory::OutOfMemory;
+use model::memory::OutOfMemory;
+use model::refusals::StepRefusal;
 use std::alloc::AllocError;
 
 /// Why a replay stops before the end of its script.
@@ -46,7 +46,7 @@ impl From<OutOfMemory> for Stop {
 }
 
 impl From<StepRefusal> for Stop {
-    ghost use Rattle.piper_script.specs.Stop.{stop_of};
+    ghost use Rattle.piper_script.specs.Refused.{stop_of};
 
     ghost from_gives = { λ refusal stop. stop ≡ stop_of refusal };
 

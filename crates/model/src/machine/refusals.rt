@@ -77,18 +77,23 @@ impl Machine {
         }
     }
 
+    /// Why the call would not be opened, but for want of memory.
+    pub fn call_refusal(&self, call: &Call) -> Option<StepRefusal>
+        ensures { result ≡ refusal_of (Step.Begin call.now) self.now }
+    {
+        let draw = unless(call.has_good_draw(), StepRefusal::BadDraw);
+        or_else(
+            cannot_begin(self.state(call.side())),
+            or_else(draw, self.past(call)),
+        )
+    }
+
     /// Why the step would be refused, but for want of memory.
     pub fn refusal(&self, step: &Step) -> Option<StepRefusal>
         ensures { result ≡ refusal_of step.now self.now }
     {
         match step {
-            Step::Begin(call) => {
-                let draw = unless(call.has_good_draw(), StepRefusal::BadDraw);
-                or_else(
-                    cannot_begin(self.state(call.side())),
-                    or_else(draw, self.past(call)),
-                )
-            }
+            Step::Begin(call) => self.call_refusal(call),
             Step::Go(side) => cannot_go(self.state(*side)),
             Step::Put(offset, _) => {
                 let past = unless(*offset < self.lent_count(), StepRefusal::PastLent);

@@ -1,7 +1,7 @@
 //! What a replay is expected to print, and how it is expected to end.
 
 use crate::compare::{same, same_bytes};
-use piper_interpreter::replay::{Ended, replay};
+use piper_script::replay::{Ended, replay};
 use std::alloc::Global;
 use std::process::Abort;
 use std::test::Fail;

@@ -3,7 +3,7 @@
 use crate::broken::{Broken, Full, Interrupted};
 use crate::compare::same_bytes;
 use crate::replays::expected::{LINES, expect_end, joined, words};
-use piper_interpreter::replay::replay;
+use piper_script::replay::replay;
 use std::alloc::Global;
 use std::process::Abort;
 use std::test::Fail;

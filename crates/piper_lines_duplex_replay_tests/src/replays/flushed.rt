@@ -3,7 +3,7 @@
 use crate::compare::same;
 use crate::flushed::{Flushed, Turns};
 use crate::replays::expected::{LINES, expect_end};
-use piper_interpreter::replay::replay;
+use piper_script::replay::replay;
 use std::cell::Cell;
 use std::test::Fail;
 

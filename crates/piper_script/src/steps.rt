@@ -1,0 +1,81 @@
+//! Steps of a side's open call.
+
+ghost use Rattle.std.specs.Prelude.{◌≡◌, OnOk, OnErr, IfErr};
+ghost use Rattle.model_sides.specs.Log.{events};
+ghost use Rattle.model.specs.Run.{Made, IsRefusal};
+ghost use Rattle.piper_script.specs.Steps.{Goes, GoesAs, GoesBefore, GoesFewer};
+
+use crate::command::Steps;
+use model::calls::{SideState, Step};
+use model::events::Log;
+use model::machine::Machine;
+use model::refusals::StepRefusal;
+use model::table::Side;
+
+/// Makes so many steps of the side. Those before a refused one are made.
+pub fn make_steps(
+    machine: &mut Machine,
+    side: Side,
+    steps: Steps,
+    log: &mut Log,
+) -> Result<(), StepRefusal>
+    ensures goes { OnOk result
+        (GoesAs steps side machine.old (events log.old) machine.new (events log.new)) }
+    ensures refused { IfErr result (λ refusal. IsRefusal (Step.Go side) machine.new refusal) }
+    ensures before { OnErr result
+        (GoesBefore steps side machine.old (events log.old) machine.new (events log.new)) }
+{
+    match steps {
+        Steps::Count(count) => make_some(machine, side, count, log),
+        Steps::ToAnswer => make_to_answer(machine, side, log),
+    }
+}
+
+#[tactic(auto, using(crate::proofs::Going::goes_more))]
+fn make_some(
+    machine: &mut Machine,
+    side: Side,
+    count: usize,
+    log: &mut Log,
+) -> Result<(), StepRefusal>
+    ensures goes { OnOk result
+        (Goes count side machine.old (events log.old) machine.new (events log.new)) }
+    ensures refused { IfErr result (λ refusal. IsRefusal (Step.Go side) machine.new refusal) }
+    ensures before { OnErr result
+        (GoesFewer count side machine.old (events log.old) machine.new (events log.new)) }
+{
+    for _ in 0..count {
+        go(machine, side, log)?;
+    }
+    Ok(())
+}
+
+// Makes one step of the side's open call.
+fn go(machine: &mut Machine, side: Side, log: &mut Log) -> Result<(), StepRefusal>
+    ensures made { OnOk result
+        (Made machine.old (Step.Go side) machine.new (events log.old) (events log.new)) }
+    ensures refused { IfErr result (λ refusal. IsRefusal (Step.Go side) machine.old refusal) }
+    ensures same { OnErr result (machine.new ≡ machine.old) }
+    ensures same_log { OnErr result (events log.new ≡ events log.old) }
+{
+    machine.step(&Step::Go(side), log)
+}
+
+// Makes steps of the side until its open call returns.
+#[tactic(auto, using(crate::proofs::Going::goes_more))]
+fn make_to_answer(machine: &mut Machine, side: Side, log: &mut Log) -> Result<(), StepRefusal>
+    ensures goes { OnOk result
+        (GoesAs Steps.ToAnswer side machine.old (events log.old) machine.new (events log.new)) }
+    ensures refused { IfErr result (λ refusal. IsRefusal (Step.Go side) machine.new refusal) }
+    ensures before { OnErr result
+        (GoesBefore Steps.ToAnswer side machine.old (events log.old) machine.new (events log.new)) }
+{
+    for _ in 0..u64::MAX {
+        go(machine, side, log)?;
+        if machine.state(side) != SideState::Busy {
+            return Ok(());
+        }
+    }
+    // No call makes as many steps, and no memory has room for their log.
+    Err(StepRefusal::Memory)
+}

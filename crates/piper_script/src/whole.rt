@@ -1,0 +1,91 @@
+//! Calls made whole: when a line may make one, and what it returns.
+
+ghost use Rattle.std.specs.Prelude.{◌≡◌, ◌++◌, length, take, drop};
+ghost use Rattle.model.specs.BySteps.{unfailing};
+ghost use Rattle.piper_script.specs.Whole.{IsReady, IsSilent, Makes, drained_by, room_for};
+
+use model::answer::{Answer, Failed, Polled};
+use model::calls::Call;
+use model::machine::Machine;
+use model::table::Query;
+
+/// How many places the bytes need that the call moves out of the pipe.
+pub fn room_for(call: &Call) -> usize
+    ensures { result ≡ room_for call.now }
+{
+    match call {
+        Call::TryDrain(most) | Call::PollDrainBytes(_, _, most) => *most,
+        _ => 0,
+    }
+}
+
+/// How many bytes a call moved out of the pipe to its caller, if it is one that does.
+pub fn drained(call: &Call, answer: Answer) -> Option<usize> {
+    match (call, answer) {
+        (Call::TryDrain(_), Answer::Count(count)) => Some(count),
+        (Call::PollDrainBytes(..), Answer::Copy(Polled::Ready(Ok(count)))) => Some(count),
+        _ => None,
+    }
+}
+
+// A copy over a slice never fails.
+fn unfailing(polled: Polled<usize>) -> Polled<Result<usize, Failed>>
+    ensures { result ≡ unfailing polled }
+{
+    match polled {
+        Polled::Pending => Polled::Pending,
+        Polled::Ready(count) => Polled::Ready(Ok(count)),
+        Polled::Memory => Polled::Memory,
+    }
+}
+/// Makes the call, and returns what it returns. Bytes that it moves out of the pipe go to the front
+/// of `dest`.
+pub fn answer(machine: &mut Machine, call: &Call, dest: &mut [u8]) -> Answer
+    requires ready { IsReady call.now machine.old }
+    requires room { length dest.old ≡ room_for call.now }
+    ensures made { Makes call.now machine.old result machine.new }
+    ensures bytes { let n = drained_by call.now result in
+        dest.new ≡ take n machine.old.unread ++ drop n dest.old }
+{
+    match call {
+        Call::Query(side, Query::Len) => Answer::Count(machine.len(*side)),
+        Call::Query(side, Query::IsEmpty) => Answer::Flag(machine.is_empty(*side)),
+        Call::Query(side, Query::IsFull) => Answer::Flag(machine.is_full(*side)),
+        Call::IsClosed(side) => Answer::Flag(machine.is_closed(*side)),
+        Call::Poll(side, waker, luck) => Answer::Poll(machine.poll(*side, *waker, *luck)),
+        Call::WriteBuf(most) => Answer::Lent(machine.w_write_buf(*most)),
+        Call::TryFill(bytes) => Answer::Count(machine.w_try_fill(bytes.as_slice())),
+        Call::TryDrain(_) => Answer::Count(machine.r_try_drain(dest)),
+        Call::PollFillBytes(waker, luck, bytes) => {
+            let polled = machine.w_poll_fill_bytes(*waker, *luck, bytes.as_slice());
+            Answer::Copy(unfailing(polled))
+        }
+        Call::PollDrainBytes(waker, luck, _) => {
+            Answer::Copy(unfailing(machine.r_poll_drain_bytes(*waker, *luck, dest)))
+        }
+        Call::PollFill(waker, luck, acts) => {
+            Answer::Copy(machine.w_poll_fill(*waker, *luck, acts.as_slice()))
+        }
+        Call::PollDrain(waker, luck, acts) => {
+            Answer::Copy(machine.r_poll_drain(*waker, *luck, acts.as_slice()))
+        }
+        Call::Consume(_) | Call::Produced(_) | Call::Close | Call::Drop(_) => {
+            make(machine, call);
+            Answer::Done
+        }
+    }
+}
+
+// Makes a call that has nothing to answer.
+fn make(machine: &mut Machine, call: &Call)
+    requires { IsReady call.now machine.old }
+    ensures { IsSilent call.now → Makes call.now machine.old Answer.Done machine.new }
+{
+    match call {
+        Call::Consume(n) => machine.r_consume(*n),
+        Call::Produced(n) => machine.w_produced(*n),
+        Call::Close => machine.w_close(),
+        Call::Drop(side) => machine.drop(*side),
+        _ => {}
+    }
+}
