@@ -245,6 +245,9 @@ done
 try 'a replay to a full output' 10 2 '^write failed$' 'echo pipe 1 | ./piper_replay > /dev/full'
 try 'a run to a full output' 10 2 '^write failed$' 'printf "$steps" | ./piper_replay run > /dev/full'
 try 'all orders to a full output' 10 2 '^write failed$' 'printf "$both" | ./piper_replay all > /dev/full'
+export unread='pipe 1048576\nfill 1*1048000\nbegin polldrain 1 5\nbegin pollfill 2 1,2,3\n'
+try 'all orders over a million unread bytes' 10 0 '' 'printf "$unread" | ./piper_replay all'
+note 'their one outcome has all of them' test "$(tr -cd , < out | wc -c) $(cut -c 1-27 out) $(tail -c 10 out)" = '1047997 r=ready:5 w=ready:3 woken=- 1,1,1,2,3'
 try 'all orders of a script with a line that is too long' 10 1 '' '{ echo pipe 4; head -c 65537 /dev/zero | tr "\\0" x; } | ./piper_replay all'
 note 'it is past its limit' test "$(cat out)" = 'line 2: Limit'
 for words in 'twin 1' 'twin x 1' 'twin 1 x' 'twin 1 2 3' 'twin 1 1048577' 'vectors 1' 'handles 1 1' ''; do

@@ -46,13 +46,13 @@ ORDER = ["poll", "peek_buf", "write_buf", "consume", "produced", "try_drain", "t
 FOR_PROOFS = ["mark", "observe", "observe_last", "meet", "meet_finished", "end"]
 # An example for a type whose calls need one another: a file, and a function of it.
 WHOLE = {
-    "Reader": ("crates/piper_examples/src/handles.rt", "poll_fill_bytes_and_poll_drain_bytes"),
-    "Writer": ("crates/piper_examples/src/handles.rt", "write_buf_and_peek_buf"),
-    "OwnedReader": ("crates/piper_examples/src/ends.rt", "owners"),
-    "Lines": ("crates/piper_examples/src/lines.rt", "poll_line"),
-    "Frames": ("crates/piper_examples/src/frames.rt", "poll_frame"),
-    "End": ("crates/piper_examples/src/duplex.rt", "bytes_go_both_ways"),
-    "OwnedEnd": ("crates/piper_examples/src/duplex.rt", "sends_and_goes"),
+    "Reader": ("crates/tests_pipe/src/examples/handles.rt", "poll_fill_bytes_and_poll_drain_bytes"),
+    "Writer": ("crates/tests_pipe/src/examples/handles.rt", "write_buf_and_peek_buf"),
+    "OwnedReader": ("crates/tests_pipe/src/examples/ends.rt", "owners"),
+    "Lines": ("crates/tests_pipe/src/examples/lines.rt", "poll_line"),
+    "Frames": ("crates/tests_pipe/src/examples/frames.rt", "poll_frame"),
+    "End": ("crates/tests_pipe/src/examples/duplex.rt", "bytes_go_both_ways"),
+    "OwnedEnd": ("crates/tests_pipe/src/examples/duplex.rt", "sends_and_goes"),
 }
 
 

@@ -6,26 +6,26 @@ from .sources import TOP
 
 # For each crate, where its examples are, in the order in which they are looked at.
 FILES = {
-    "piper": ["piper_examples/src/handles", "piper_examples/src/ends", "piper_examples/src/streams",
-              "piper_tests/src/marks"],
-    "piper_lines": ["piper_examples/src/lines", "piper_examples/src/frames"],
-    "piper_futures": ["piper_futures_streams_tests/src/methods",
-                      "piper_futures_streams_tests/src/owning",
-                      "piper_futures_streams_tests/src/threads",
-                      "piper_futures_streams_tests/src/joined",
-                      "piper_futures_streams_tests/src/crossing",
-                      "piper_futures_streams_tests/src/texts"],
-    "piper_streams": ["piper_futures_streams_tests/src/owning",
-                      "piper_futures_streams_tests/src/running",
-                      "piper_futures_streams_tests/src/crossing", "example_lines/src/main"],
-    "piper_duplex": ["piper_examples/src/duplex", "piper_lines_duplex_replay_tests/src/duplex/ends"],
-    "piper_transfer": ["piper_transfer_tests/src/faults", "piper_transfer_tests/src/waits",
-                       "piper_transfer_tests/src/errors"],
-    "piper_tokio": ["piper_tokio_tests/src/ends", "piper_tokio_tests/src/copies",
-                    "piper_tokio_tests/src/codecs"],
+    "piper": ["tests_pipe/src/examples/handles", "tests_pipe/src/examples/ends",
+              "tests_pipe/src/examples/streams", "tests_pipe/src/marks"],
+    "piper_lines": ["tests_pipe/src/examples/lines", "tests_pipe/src/examples/frames"],
+    "piper_futures": ["tests_above/src/futures_and_streams/methods",
+                      "tests_above/src/futures_and_streams/owning",
+                      "tests_above/src/futures_and_streams/threads",
+                      "tests_above/src/futures_and_streams/joined",
+                      "tests_above/src/futures_and_streams/crossing",
+                      "tests_above/src/futures_and_streams/texts"],
+    "piper_streams": ["tests_above/src/futures_and_streams/owning",
+                      "tests_above/src/futures_and_streams/running",
+                      "tests_above/src/futures_and_streams/crossing", "example_lines/src/main"],
+    "piper_duplex": ["tests_pipe/src/examples/duplex", "tests_above/src/duplex/ends"],
+    "piper_transfer": ["tests_above/src/transfers/faults", "tests_above/src/transfers/waits",
+                       "tests_above/src/transfers/errors"],
+    "piper_tokio": ["tests_above/src/over_tokio/ends", "tests_above/src/over_tokio/copies",
+                    "tests_above/src/over_tokio/codecs"],
 }
 # Where calls of a trait are made on any type that has it.
-OF_TRAITS = ["piper_examples/src/streams"]
+OF_TRAITS = ["tests_pipe/src/examples/streams"]
 # What a value of a type is called there, if calls of two types have the same name.
 CALLED = {"Reader": "reader", "Writer": "writer", "OwnedReader": r"(?:reader|OwnedReader)(?:\.\w+\(\))?",
           "OwnedWriter": r"(?:writer|OwnedWriter)(?:\.\w+\(\))?", "End": r"(?:near|far|end|second|duplex)",

@@ -1,0 +1,292 @@
+//! Futures, streams and sinks own their ends and give them back.
+ghost use Rattle.std.specs.Prelude.{◌<◌, ◌*◌, ◌^◌};
+ghost use Rattle.piper.specs.Handles.{ArePair};
+
+use crate::compare::{confirm, same, same_bytes};
+use crate::futures_and_streams::running::{come, ends, kept, next_of, sends};
+use futures::StreamExt;
+use futures::executor::block_on;
+use futures::task::Poll;
+use futures::test::MockTask;
+use piper::io::Copied;
+use piper::{OwnedReader, OwnedWriter, PipeError, owned_pipe};
+use piper_futures::{close, copy, drain_into, fill_from, read_to_end, read_until, write_all};
+use piper_lines::{ByteOrder, FrameAnswer, FrameHeader, Frames, into_line_text};
+use piper_streams::{FrameSink, FrameStream, LineSink, LineStream, WriteSink};
+use std::alloc::AllocGlobal;
+use std::io::{self, ErrorKind};
+use std::process::Abort;
+use std::random::RandomSource;
+use std::sync::Wait;
+
+/// A new pipe of so many bytes, with these in it.
+fn holding<H>(rt: &H, capacity: usize, bytes: &[u8]) -> (OwnedReader, OwnedWriter)
+where
+    H: Abort + Wait + AllocGlobal,
+    requires { (0 < capacity) × (2 * capacity < 2 ^ 64) }
+    ensures { ArePair result.0 result.1 }
+{
+    let (reader, mut writer) = owned_pipe(rt.alloc(), capacity).expect(rt, "a pipe");
+    same(rt, writer.try_fill(bytes), bytes.len());
+    (reader, writer)
+}
+
+fn ends_what_was_written<H>(rt: &H)
+where
+    H: Abort + Wait + RandomSource + AllocGlobal,
+{
+    let (reader, writer) = holding(rt, 64, b"");
+    let (writer, count) = ends(rt, write_all(writer, b"hello world"));
+    let writer = ends(rt, close(writer));
+    let (reader, bytes) = ends(rt, read_to_end(reader, Vec::new(rt.alloc())));
+    let seen = (count, writer.is_closed(), reader.len());
+    same(rt, seen, (11, true, 0));
+    same_bytes(rt, &bytes, b"hello world");
+}
+
+#[test]
+fn a_close_is_the_end_of_what_was_written(rt: HostRuntime) {
+    ends_what_was_written(&rt);
+}
+
+/// Copies what is left in the one pipe to the other: how it ends, and how much is left.
+fn copies<H>(rt: &H, from: OwnedReader, to: OwnedWriter, want: (Copied, usize))
+where
+    H: Abort + Wait + RandomSource + AllocGlobal,
+{
+    let (from, _to, why) = ends(rt, copy(from, to));
+    same(rt, (why, from.len()), want);
+}
+
+fn copies_to_the_end<H>(rt: &H)
+where
+    H: Abort + Wait + RandomSource + AllocGlobal,
+{
+    let (from, writer) = holding(rt, 8, b"abc");
+    let (mut last, to) = holding(rt, 8, b"");
+    drop(writer);
+    copies(rt, from, to, (Copied::ToTheEnd, 0));
+    let mut place = [0; 8];
+    let came = last.try_drain(&mut place);
+    same_bytes(rt, &place[..came], b"abc");
+}
+
+#[test]
+fn a_copy_ends_with_the_reader(rt: HostRuntime) {
+    copies_to_the_end(&rt);
+}
+
+fn copies_until_closed<H>(rt: &H)
+where
+    H: Abort + Wait + RandomSource + AllocGlobal,
+{
+    let (from, _writer) = holding(rt, 8, b"d");
+    let (last, to) = holding(rt, 8, b"");
+    drop(last);
+    copies(rt, from, to, (Copied::UntilClosed, 1));
+}
+
+#[test]
+fn a_copy_ends_with_the_other_pipe(rt: HostRuntime) {
+    copies_until_closed(&rt);
+}
+
+fn lines_pass<H>(rt: &H)
+where
+    H: Abort + Wait + RandomSource + AllocGlobal,
+{
+    let (reader, writer) = holding(rt, 64, b"");
+    let sink = sends(rt, LineSink::new(rt.alloc(), writer), &[b"one", b"two"]);
+    let sink = WriteSink::new(rt.alloc(), sink.into_writer());
+    drop(sends(rt, sink, &[b"three"]));
+    let mut lines = LineStream::new(rt.alloc(), reader, 10);
+    come(rt, &mut lines, &[b"one\n", b"two\n", b"three"]);
+    confirm(rt, next_of(rt, &mut lines).is_none());
+}
+
+#[test]
+fn lines_of_a_sink_come_out_of_a_stream_in_order(rt: HostRuntime) {
+    lines_pass(&rt);
+}
+
+/// The kind of the error that a stream gave, if it gave one that is no want of memory.
+fn kind_of(item: Option<Result<Vec<u8>, PipeError>>) -> Option<ErrorKind> {
+    match item {
+        Some(Err(PipeError::Io(error))) => Some(error.kind()),
+        _ => None,
+    }
+}
+
+/// The frame that was too long is kept, and comes where its bytes are within the limit.
+fn takes_with_another_limit<H>(rt: &H, below: Frames<OwnedReader>, wanted: &[u8])
+where
+    H: Abort + RandomSource + AllocGlobal,
+{
+    let mut frames = below;
+    let mut body = Vec::new(rt.alloc());
+    let task = MockTask::new(rt).expect(rt, "a task");
+    let answer = task.enter(|cx| frames.poll_frame(cx, &mut body, wanted.len()));
+    confirm(rt, matches!(answer, Poll::Ready(Ok(FrameAnswer::Frame))));
+    same_bytes(rt, &body, wanted);
+}
+
+fn frames_pass<H>(rt: &H)
+where
+    H: Abort + Wait + RandomSource + AllocGlobal,
+{
+    let (reader, writer) = holding(rt, 64, b"");
+    let sink = FrameSink::new(rt.alloc(), writer);
+    let _sink = sends(rt, sink, &[b"one", b"", b"three"]);
+    let mut frames = FrameStream::new(rt.alloc(), reader, 4);
+    come(rt, &mut frames, &[b"one", b""]);
+    let long = kind_of(next_of(rt, &mut frames));
+    same(rt, long, Some(ErrorKind::InvalidData));
+    confirm(rt, next_of(rt, &mut frames).is_none());
+    takes_with_another_limit(rt, frames.into_frames(), b"three");
+}
+
+#[test]
+fn frames_of_a_sink_come_out_of_a_stream_up_to_one_too_long(rt: HostRuntime) {
+    frames_pass(&rt);
+}
+
+fn cut_off<H>(rt: &H)
+where
+    H: Abort + Wait + RandomSource + AllocGlobal,
+{
+    let (reader, writer) = holding(rt, 64, &[0, 0, 0, 2, 7]);
+    drop(writer);
+    let mut frames = FrameStream::new(rt.alloc(), reader, 4);
+    let ended = kind_of(next_of(rt, &mut frames));
+    same(rt, ended, Some(ErrorKind::UnexpectedEof));
+    confirm(rt, next_of(rt, &mut frames).is_none());
+}
+
+#[test]
+fn a_frame_that_is_cut_off_is_an_error_of_its_own_kind(rt: HostRuntime) {
+    cut_off(&rt);
+}
+
+/// A body whose length takes more than one byte, and more than 1,024 bytes.
+fn long_frame_passes<H>(rt: &H)
+where
+    H: Abort + Wait + RandomSource + AllocGlobal,
+{
+    let (reader, writer) = holding(rt, 2_000, b"");
+    let sink = FrameSink::new(rt.alloc(), writer);
+    drop(sends(rt, sink, &[&[7; 300], &[8; 1_500]]));
+    let mut frames = FrameStream::new(rt.alloc(), reader, 1_500);
+    come(rt, &mut frames, &[&[7; 300], &[8; 1_500]]);
+    confirm(rt, next_of(rt, &mut frames).is_none());
+}
+
+#[test]
+fn a_frame_of_more_than_1024_bytes_passes(rt: HostRuntime) {
+    long_frame_passes(&rt);
+}
+
+fn texts_pass<H>(rt: &H)
+where
+    H: Abort + Wait + RandomSource + AllocGlobal,
+{
+    let (reader, writer) = holding(rt, 64, b"one\r\ntwo\n");
+    let sink = LineSink::ended_by(rt.alloc(), writer, b';');
+    drop(sends(rt, sink, &[b"three"]));
+    let lines = LineStream::new(rt.alloc(), reader, 10);
+    let mut texts = lines.map(|line| line.map(|line| into_line_text(line)));
+    come(rt, &mut texts, &[b"one", b"two", b"three;"]);
+}
+
+#[test]
+fn texts_come_without_what_ends_their_lines(rt: HostRuntime) {
+    texts_pass(&rt);
+}
+
+fn bodies_pass<H>(rt: &H)
+where
+    H: Abort + Wait + RandomSource + AllocGlobal,
+{
+    let (reader, writer) = holding(rt, 64, b"");
+    let format = FrameHeader::TwoBytes(ByteOrder::LittleEndian);
+    let sink = FrameSink::with_header(rt.alloc(), writer, format);
+    drop(sends(rt, sink, &[b"ab"]));
+    let mut frames = FrameStream::with_header(rt.alloc(), reader, format, 2);
+    come(rt, &mut frames, &[b"ab"]);
+}
+
+#[test]
+fn bodies_come_by_the_header_that_both_ends_chose(rt: HostRuntime) {
+    bodies_pass(&rt);
+}
+
+fn leaves_what_was_not_moved<H>(rt: &H)
+where
+    H: Abort + Wait + RandomSource + AllocGlobal,
+{
+    let (reader, writer) = holding(rt, 8, b"abcde");
+    drop(writer);
+    let mut place = [0; 3];
+    let drained = block_on(rt, drain_into(reader, place.as_mut_slice()));
+    let Err(failed) = drained.expect(rt, "an executor") else {
+        rt.panic("five bytes are written into three places")
+    };
+    let is_full = matches!(&failed.error, PipeError::Io(e) if e.kind() == io::ErrorKind::WriteZero);
+    confirm(rt, is_full);
+    let (reader, _dest) = failed.left;
+    let (_reader, rest) = ends(rt, read_to_end(reader, Vec::new(rt.alloc())));
+    same_bytes(rt, &place, b"abc");
+    same_bytes(rt, &rest, b"de");
+}
+
+#[test]
+fn a_failure_leaves_what_was_not_moved(rt: HostRuntime) {
+    leaves_what_was_not_moved(&rt);
+}
+
+/// Fills a pipe from this source: how it ends, and what is left of the source.
+fn fills<H>(rt: &H, writer: OwnedWriter, want: (Copied, usize)) -> OwnedWriter
+where
+    H: Abort + Wait + RandomSource + AllocGlobal,
+{
+    let source = b"one, two, three".as_slice();
+    let (writer, rest, why) = ends(rt, fill_from(writer, source));
+    same(rt, (why, rest.len()), want);
+    writer
+}
+
+fn fills_to_the_end_and_until_closed<H>(rt: &H)
+where
+    H: Abort + Wait + RandomSource + AllocGlobal,
+{
+    let (reader, writer) = holding(rt, 64, b"");
+    let writer = fills(rt, writer, (Copied::ToTheEnd, 0));
+    let (reader, bytes) = ends(rt, read_until(reader, b',', Vec::new(rt.alloc())));
+    same_bytes(rt, &bytes, b"one,");
+    drop(reader);
+    fills(rt, writer, (Copied::UntilClosed, 15));
+}
+
+#[test]
+fn a_fill_ends_with_its_source_or_with_the_pipe(rt: HostRuntime) {
+    fills_to_the_end_and_until_closed(&rt);
+}
+
+fn is_printed<H>(rt: &H)
+where
+    H: Abort + Wait + AllocGlobal,
+{
+    let alloc = rt.alloc();
+    let (reader, writer) = holding(rt, 8, b"ab");
+    let printed = format!(in alloc; "{:?}", read_to_end(reader, kept(rt, alloc, b"xyz")));
+    let wanted = b"ReadToEnd(OwnedReader(Reader { capacity: 8, known: 0, closed: false }), 3)";
+    same_bytes(rt, printed.expect(rt, "memory").as_bytes(), wanted);
+    let printed = format!(in alloc; "{:?}", WriteSink::new(alloc, writer));
+    let wanted =
+        b"WriteSink { writer: OwnedWriter(Writer { capacity: 8, room: 6, closed: true }), written: 0, of: 0 }";
+    same_bytes(rt, printed.expect(rt, "memory").as_bytes(), wanted);
+}
+
+#[test]
+fn what_is_printed_has_ends_and_counts_and_no_byte(rt: HostRuntime) {
+    is_printed(&rt);
+}

@@ -1,0 +1,5 @@
+//! Transfers.
+mod errors;
+mod faults;
+mod faulty;
+mod waits;

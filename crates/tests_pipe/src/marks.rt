@@ -1,0 +1,72 @@
+//! Last marks: what a handle that was dropped reports the other one.
+ghost use Rattle.piper.specs.Handles.{ArePair};
+
+use crate::compare::same_of as same;
+use crate::pair::{pipe_at_last, task_at_last};
+use futures::task::Context;
+use piper::{OwnedReader, OwnedWriter};
+use std::process::Abort;
+
+#[test]
+fn a_writer_that_observes_the_last_mark_of_a_reader_sees_the_end(rt: HostRuntime) {
+    let (reader, mut writer) = pipe_at_last(&rt, 8);
+    let last = reader.drop();
+    writer.observe_last(&last.mark);
+    same(&rt, &"closed", writer.is_closed(), true);
+    same(&rt, &"taken", writer.try_fill(b"ab"), 0);
+    writer.drop();
+}
+
+#[test]
+fn a_reader_that_observes_the_last_mark_of_a_writer_knows_how_many_come(rt: HostRuntime) {
+    let (mut reader, mut writer) = pipe_at_last(&rt, 8);
+    same(&rt, &"taken", writer.try_fill(b"abc"), 3);
+    let last = writer.drop();
+    reader.observe(&last.mark);
+    same(&rt, &"to come", reader.len(), 3);
+    reader.drop();
+}
+
+/// A reader that waits, and then meets what is left of its writer.
+fn reader_is_taken(rt: &impl Abort, cx: &mut Context<'_>, reader: OwnedReader, writer: OwnedWriter)
+    requires { ArePair reader writer }
+{
+    let (mut reader, mut writer) = (reader.into_inner(), writer.into_inner());
+    same(rt, &"waits", reader.poll(cx).is_pending(), true);
+    same(rt, &"taken", writer.try_fill(b"ab"), 2);
+    let mut left = writer.drop();
+    reader.meet_finished(&mut left);
+    same(rt, &"to come", reader.len(), 2);
+    reader.drop();
+}
+
+#[test]
+fn a_reader_that_waits_meets_what_is_left_of_its_writer(rt: HostRuntime) {
+    let task = task_at_last(&rt);
+    let (reader, writer) = pipe_at_last(&rt, 8);
+    let (reader, writer) = (OwnedReader::new(reader), OwnedWriter::new(writer));
+    task.enter(|cx| reader_is_taken(&rt, cx, reader, writer));
+    same(&rt, &"woken", task.is_woken(), true);
+}
+
+/// A writer of a full pipe that waits, and then meets what is left of its reader.
+fn writer_is_taken(rt: &impl Abort, cx: &mut Context<'_>, reader: OwnedReader, writer: OwnedWriter)
+    requires { ArePair reader writer }
+{
+    let (reader, mut writer) = (reader.into_inner(), writer.into_inner());
+    same(rt, &"taken", writer.try_fill(b"ab"), 2);
+    same(rt, &"waits", writer.poll(cx).is_pending(), true);
+    let mut left = reader.drop();
+    writer.meet_finished(&mut left);
+    same(rt, &"closed", writer.is_closed(), true);
+    writer.drop();
+}
+
+#[test]
+fn a_writer_that_waits_meets_what_is_left_of_its_reader(rt: HostRuntime) {
+    let task = task_at_last(&rt);
+    let (reader, writer) = pipe_at_last(&rt, 2);
+    let (reader, writer) = (OwnedReader::new(reader), OwnedWriter::new(writer));
+    task.enter(|cx| writer_is_taken(&rt, cx, reader, writer));
+    same(&rt, &"woken", task.is_woken(), true);
+}
