@@ -1,6 +1,6 @@
 //! Plays commands on a machine.
 
-ghost use Rattle.std.specs.Prelude.{◌≡◌, [], length, None, IfOk, IfErr, OnOk};
+ghost use Rattle.std.specs.Prelude.{◌≡◌, [], length, None, IfOk, IfErr, OnErr, OnOk};
 ghost use Rattle.model_sides.specs.Log.{events};
 ghost use Rattle.piper_script.specs.Played.{IsInLimits, IsOneMove, MakesWhole, NeedsPipe, OnPipe, Plays, PlaysUnlogged};
 ghost use Rattle.piper_script.specs.Refused.{IsRefused, RefusesLine, RefusesStep};
@@ -124,7 +124,7 @@ fn make_whole(machine: &mut Machine, call: &Call, room: &mut Vec<u8>) -> Result<
     ensures made { IfOk result (λ answer. MakesWhole call.now machine.old answer machine.new) }
     ensures refused { IfErr result (λ stop. IsRefused stop →
         RefusesStep (Step.Begin call.now) machine.old stop) }
-    ensures same { IfErr result (λ stop. machine.new ≡ machine.old) }
+    ensures same { OnErr result (machine.new ≡ machine.old) }
 {
     match machine.call_refusal(call) {
         Some(refusal) => return Err(refusal.into()),

@@ -38,6 +38,7 @@ fn unfailing(polled: Polled<usize>) -> Polled<Result<usize, Failed>>
         Polled::Memory => Polled::Memory,
     }
 }
+
 /// Makes the call, and returns what it returns. Bytes that it moves out of the pipe go to the front
 /// of `dest`.
 pub fn answer(machine: &mut Machine, call: &Call, dest: &mut [u8]) -> Answer
