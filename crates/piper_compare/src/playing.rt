@@ -4,7 +4,7 @@ use crate::halt::{Halt, finish};
 use crate::hands::Hands;
 use crate::random::Drawn;
 use crate::twin::{Compared, Difference, Twin};
-use piper_script::parser::parse;
+use piper_script::parser::{Draws, parse};
 use piper_script::replay::Ended;
 use piper_script::reply::Reply;
 use piper_script::stop::Stop;
@@ -91,7 +91,7 @@ where
         }
         let line = lines.line();
         reply.clear();
-        let played = match parse(hands.alloc(), line, hands.next_draws()) {
+        let played = match parse(hands.alloc(), line, Draws::ONES) {
             Ok(None) => continue,
             Ok(Some(command)) => hands.play(&command, reply),
             Err(stop) => Err(Halt::from(stop)),
