@@ -44,20 +44,7 @@ wrong_handles() { # CRATE MUTANT BEGINNING ARGUMENT..
     local said=$room/$2.${*: -1}.wrong copy=$room/$2.${*: -1} data=() file
     mkdir "$copy"
     tar c --exclude=./crates/*/out ./crates ./crates.txt ./HANDLES | tar x -C "$copy"
-    python3 - "$copy/crates/$1" "crates/$1/mutants/$2.edit" << 'PYTHON'
-import sys
-from pathlib import Path
-for line in Path(sys.argv[2]).read_text().splitlines():
-    word, _, rest = line.partition(": ")
-    if word == "file":
-        path = Path(sys.argv[1], rest)
-    elif word == "old":
-        old = rest
-    elif word == "new":
-        text = path.read_text()
-        assert text.count(old) == 1
-        path.write_text(text.replace(old, rest))
-PYTHON
+    tools/mutants plant "$1" "$2" "$copy"
     for file in crates/piper_compare/data/*; do
         data+=(--data "${file##*/}=data/${file##*/}")
     done
