@@ -86,7 +86,7 @@ static void opens(void) {
     CHECK(piper_open(SIZE_MAX, &reader, &writer) == PIPER_BAD_CAPACITY && writer.at == NULL);
     /* No memory is that large. */
     CHECK(piper_open(PIPER_MAX_CAPACITY, &reader, &writer) == PIPER_NO_MEMORY);
-    CHECK(piper_open(PIPER_MAX_CAPACITY / 2, &reader, &writer) == PIPER_NO_MEMORY);
+    CHECK(SIZE_MAX == UINT32_MAX || piper_open(PIPER_MAX_CAPACITY / 2, &reader, &writer) == PIPER_NO_MEMORY);
     CHECK(reader.at == NULL && writer.at == NULL);
     pair p = opened(3);
     const piper_reader *asked = &p.reader;

@@ -9,9 +9,8 @@
 # has the crates on its own processors alone. The last line is 'targets: N passed, M failed, K not tried'. The status is 2 if nothing
 # could be tried.
 set -uo pipefail
-here=$(cd "$(dirname "$0")" && pwd)
-sources=${CARGO_SOURCES:-/usr/share/cargo/registry}
-[ $# -gt 0 ] || { sed -n 's/^# \?//; 2,11p' "$0" >&2; exit 2; }
+. "$(dirname "$0")/common.sh"
+[ $# -gt 0 ] || usage
 root=$(mkdir -p "$1" && cd "$1" && pwd)
 shift
 PATH=$PATH:/usr/lib/wine
@@ -76,7 +75,7 @@ prepare() {
     rm "$root"/rust/tests/{programs,examples}.rs
     sed '/^\[dev-dependencies\]/,$d' "$here/Cargo.toml" > "$root/rust/Cargo.toml"
     printf '[dev-dependencies]\nfutures-lite = ">=1.12, <3"\n' >> "$root/rust/Cargo.toml"
-    cp -r "$here"/../c/{src,Cargo.toml} "$root/c"
+    cp -r "$here"/../c/{src,Cargo.toml,Makefile,*.c,*.h} "$root/c"
     export RUSTC=$root/rustc RUSTC_BOOTSTRAP=1 CARGO_HOME=$root/home
     export PIPER_TEST_CALLS=${PIPER_TEST_CALLS:-50000} PIPER_TEST_SHARE=${PIPER_TEST_SHARE:-20}
 }
@@ -111,12 +110,12 @@ int __fprintf_chk(FILE *to, int flag, const char *text, ...) {
 STUB
     ar r "$root/musl/libunwind.a" "$root/musl/printf.o" 2> /dev/null
     export RUSTFLAGS="-L $root/musl -Clink-self-contained=no"
+    for_c=("STATIC_LIBS=-L$root/musl -lunwind")
 }
 
 # The tests, or a check, of a target. The status is 2 if tools are missing.
 try() { # TARGET [LINKER [RUNNER..]]
-    local target=$1 name
-    name=${target//-/_}
+    local target=$1 name=${1//-/_} for_c=()
     cd "$root/rust" || return
     if [ $# -eq 1 ]; then
         local check=(cargo check --quiet --offline --target "$target" --target-dir "$root/target")
@@ -139,12 +138,12 @@ try() { # TARGET [LINKER [RUNNER..]]
     cargo test --offline -Zbuild-std=std,panic_unwind,test --tests --no-fail-fast --target "$target" --target-dir "$root/target" \
         "${skip[@]}" > "$root/said" 2>&1 || { status=1; cat "$root/said"; }
     awk '/^test result: / { passed += $4; failed += $6 } END { print passed + 0 " tests passed, " failed + 0 " failed" }' "$root/said"
+    CARGO_UNSTABLE_BUILD_STD=std,panic_abort make -s -C "$root/c" check B="$root/of_c/$target" TARGET="$target" CC="$2" RUN="${*:3}" \
+        "${for_c[@]}" || status=1
     return "$status"
 }
 
 prepare || { echo 'targets.sh: cargo is missing, or the packages are not to be had; nothing was tried' >&2; exit 2; }
-passed=0
-failed=0
 left=0
 while read -r target how; do
     [ $# -eq 0 ] || [[ " $* " == *" $target "* ]] || continue

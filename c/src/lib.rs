@@ -11,7 +11,7 @@ mod waker;
 
 use core::mem::MaybeUninit;
 use core::task::Poll;
-use piper::{Reader, Writer};
+use piper_rust::{Reader, Writer};
 use slices::{bytes, room};
 use waker::piper_waker;
 
@@ -93,7 +93,7 @@ pub extern "C" fn piper_open_abi_3(
     let is_bad = capacity == 0 || capacity > usize::MAX / 2;
     let opened = match is_bad || !is_granted(capacity.saturating_add(BESIDES)) {
         true => None,
-        false => Some(piper::pipe(capacity)),
+        false => Some(piper_rust::pipe(capacity)),
     };
     let (of_reader, of_writer) = opened.unzip();
     let is_open = of_reader.is_some();
