@@ -7,16 +7,13 @@
 # It needs cargo, gcc, valgrind, and the sources of other packages as Debian has them, which --install gets by apt-get. The last
 # line is 'rust: N passed, M failed'. The status is 1 if something failed, and 2 if a tool is missing and nothing was tried.
 set -uo pipefail
-cd "$(dirname "$0")"
+. "$(dirname "$0")/common.sh"
+cd "$here"
 top=$(cd .. && pwd)
-sources=${CARGO_SOURCES:-/usr/share/cargo/registry}
 packages=(valgrind librust-futures-io-dev librust-fastrand-dev librust-futures-lite-dev librust-easy-parallel-dev
     librust-async-channel-dev librust-async-executor-dev librust-async-io-dev librust-tokio-dev librust-tokio-util-dev
-    librust-futures-util-dev)
-room=$(mktemp -d)
-trap 'rm -rf "$room"' EXIT
-passed=0
-failed=0
+    librust-futures-util-dev librust-blocking-dev librust-async-fs-dev librust-async-process-dev librust-smol-dev
+    librust-doc-comment-dev)
 
 refuse() { # MESSAGE
     echo "check.sh: $1; nothing was tried" >&2
@@ -40,25 +37,6 @@ tests() { # NAME, and how cargo is called
     echo "$name: $one_passed passed, $one_failed failed"
 }
 
-# Counts what either holds or not, and shows what was printed if it doesn't.
-holds() { # NAME COMMAND..
-    local name=$1
-    shift
-    if "$@" > "$room/said" 2>&1; then
-        echo "$name: passed"
-        passed=$((passed + 1))
-    else
-        cat "$room/said"
-        echo "$name: FAILED"
-        failed=$((failed + 1))
-    fi
-}
-
-# The options stand behind the command's name, since `cargo clippy` hands on none that stand before it.
-offline() { # COMMAND, and what else it takes
-    cargo "$1" --offline --config "source.crates-io.replace-with='here'" --config "source.here.directory='$sources'" "${@:2}"
-}
-
 # The folder as whoever has no `rt` and no environment of ours gets it. Cargo warns of nothing but that there is no public address yet.
 packed() { # NAME
     cmp LICENSE-MIT ../LICENSE-MIT && cmp LICENSE-APACHE ../LICENSE-APACHE || return
@@ -67,7 +45,7 @@ packed() { # NAME
     ! grep '^warning' "$room/packing" | grep -v 'manifest has no documentation, homepage or repository' || return
     local list
     list=$(tar -tzf "$room"/target/package/"$1"-[0-9]*.crate)
-    for file in src/proved/mod.rs LICENSE-MIT LICENSE-APACHE README.md CHANGELOG.md; do
+    for file in src/proved/mod.rs LICENSE-MIT LICENSE-APACHE README.md; do
         grep -q "/$file\$" <<< "$list" || { echo "the package lacks $file"; return 1; }
     done
 }
@@ -132,67 +110,14 @@ pub extern "C" fn sends(byte: u8) -> usize {
     [ "$(awk '{ print $3 }' "$room/shown")" = sends ]
 }
 
-# The sanitizer of threads sees each access. It is quiet as two threads wait for bytes and room, and reports a race if a copy of the
-# package accesses the words that both share in no order.
+# The sanitizer of threads sees each access: if a copy of the package accesses the words that both sides share in no order, it reports
+# a race of C's programs. Of those over the package itself it reports none, which `make -C c check` tries.
 sees_each_access() {
-    mkdir -p "$room/weaker"
-    cp -r Cargo.toml README.md src "$room/weaker"
-    sed -i 's/\.load(order)/.load(Ordering::Relaxed)/; s/\.store(value as _, order)/.store(value as _, Ordering::Relaxed)/' "$room/weaker/src/shim.rs"
-    ! cmp -s src/shim.rs "$room/weaker/src/shim.rs" || return
-    mkdir -p "$room/threads/src"
-    cat > "$room/threads/src/main.rs" <<'MAIN'
-use std::task::{Context, Poll, Wake, Waker};
-use std::{sync::Arc, thread};
-struct Parked(thread::Thread);
-impl Wake for Parked {
-    fn wake(self: Arc<Self>) {
-        self.0.unpark();
-    }
-}
-fn wait(mut poll: impl FnMut(&mut Context<'_>) -> Poll<bool>) {
-    let waker = Waker::from(Arc::new(Parked(thread::current())));
-    while poll(&mut Context::from_waker(&waker)).is_pending() {
-        thread::park();
-    }
-    std::mem::forget(waker); // its count is in std, which the sanitizer does not see
-}
-const COUNT: usize = 50_000;
-fn main() {
-    let (mut reader, mut writer) = piper::pipe(64);
-    let writing = thread::spawn(move || {
-        let mut sent = 0;
-        while sent < COUNT {
-            wait(|cx| writer.poll(cx));
-            let room = writer.write_buf(16.min(COUNT - sent));
-            let n = room.len();
-            room.iter_mut().enumerate().for_each(|(i, place)| *place = (sent + i) as u8);
-            writer.produced(n);
-            sent += n;
-        }
-    });
-    let mut came = 0;
-    while came < COUNT {
-        wait(|cx| reader.poll(cx));
-        let n = reader.peek_buf().len();
-        assert!(reader.peek_buf().iter().enumerate().all(|(i, &byte)| byte == (came + i) as u8));
-        reader.consume(n);
-        came += n;
-    }
-    writing.join().unwrap();
-}
-MAIN
-    over() { # FOLDER
-        printf '%s\n' '[package]' 'name = "threads"' 'version = "0.1.0"' 'edition = "2021"' \
-            '[dependencies]' "piper = { path = \"$1\" }" > "$room/threads/Cargo.toml"
-        RUSTC_BOOTSTRAP=1 RUSTFLAGS='-Zsanitizer=thread -Cunsafe-allow-abi-mismatch=sanitizer' \
-            offline run --manifest-path "$room/threads/Cargo.toml" --target "$host" --target-dir "$room/threads/target"
-    }
-    over "$top/rust" || return
-    # It keeps few accesses, and on a busy machine some runs show it none that race.
-    local run
-    for run in 1 2 3 4 5; do
-        over "$room/weaker" 2> "$room/reported" || break
-    done
+    mkdir "$room/weaker"
+    cp -r ../c ../rust "$room/weaker"
+    sed -i 's/\.load(order)/.load(Ordering::Relaxed)/; s/\.store(value as _, order)/.store(value as _, Ordering::Relaxed)/' "$room/weaker/rust/src/shim.rs"
+    ! cmp -s src/shim.rs "$room/weaker/rust/src/shim.rs" || return
+    ! make -s -C "$room/weaker/c" check-threads B="$room/weaker/built" > "$room/reported" 2>&1 || return
     grep -q 'ThreadSanitizer: data race' "$room/reported"
 }
 
@@ -251,7 +176,7 @@ else
     echo 'under the sanitizer of addresses: left out, this toolchain has none'
 fi
 if compgen -G "$runtime/librustc-*_rt.tsan.a" > /dev/null; then
-    holds 'the sanitizer of threads is quiet, and finds weaker accesses' sees_each_access
+    holds 'the sanitizer of threads finds weaker accesses' sees_each_access
 else
     echo 'the sanitizer of threads: left out, this toolchain has none'
 fi
@@ -264,5 +189,4 @@ tests 'under valgrind' offline test "${suites[@]}"
 unset "CARGO_TARGET_${triple^^}_RUNNER"
 holds 'under drawn schedules, which find planted faults' ./schedules.sh
 
-echo "rust: $passed passed, $failed failed"
-[ "$failed" -eq 0 ]
+counted rust

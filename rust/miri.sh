@@ -7,20 +7,14 @@
 # It needs a toolchain that has Miri (`rustup component add miri`, of a nightly one), and the packages that the tests want. The last
 # line is 'miri: N passed, M failed'. The status is 2 if there is no Miri.
 set -uo pipefail
-cd "$(dirname "$0")"
+. "$(dirname "$0")/common.sh"
+cd "$here"
 cargo miri --version > /dev/null 2>&1 || { echo 'miri: not tried'; exit 2; }
-passed=0
-failed=0
 export PIPER_TEST_CALLS=3000 PIPER_TEST_SHARE=500
 for flags in '' -Zmiri-tree-borrows; do
     for file in calls copies panics wakes unwinding threads; do
         # A test asks the environment how much it does, and the clock whether it hangs.
-        if MIRIFLAGS="-Zmiri-disable-isolation $flags" cargo miri test --test "$file"; then
-            passed=$((passed + 1))
-        else
-            failed=$((failed + 1))
-        fi
+        MIRIFLAGS="-Zmiri-disable-isolation $flags" holds "$file $flags" cargo miri test --test "$file"
     done
 done
-echo "miri: $passed passed, $failed failed"
-[ "$failed" -eq 0 ]
+counted miri

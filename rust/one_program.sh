@@ -7,31 +7,9 @@
 #
 # It needs cargo, gcc, make, and the sources of other packages as for check.sh. The last line is 'one program: N passed, M failed'.
 set -uo pipefail
-here=$(cd "$(dirname "$0")" && pwd)
-sources=${CARGO_SOURCES:-/usr/share/cargo/registry}
-room=$(mktemp -d)
-trap 'rm -rf "$room"' EXIT
-passed=0
-failed=0
+. "$(dirname "$0")/common.sh"
 cd "$room"
-
-offline() { # COMMAND, and what else it takes
-    cargo "$1" --quiet --offline --config "source.crates-io.replace-with='here'" --config "source.here.directory='$sources'" \
-        --target-dir "$room/target" "${@:2}"
-}
-
-holds() { # NAME COMMAND..
-    local name=$1
-    shift
-    if "$@" > "$room/said" 2>&1; then
-        echo "$name: passed"
-        passed=$((passed + 1))
-    else
-        cat "$room/said"
-        echo "$name: FAILED"
-        failed=$((failed + 1))
-    fi
-}
+export CARGO_TARGET_DIR=$room/target
 
 copy() { # FOLDER VERSION
     mkdir "$1"
@@ -161,5 +139,4 @@ holds 'two versions in one program, beside text of another crate' two_copies ver
 holds 'two static libraries with other features' two_static_libraries
 holds 'a static library beside that of C' beside_c
 holds 'a shared library of Rust' by_a_dylib
-echo "one program: $passed passed, $failed failed"
-[ "$failed" -eq 0 ]
+counted 'one program'

@@ -11,8 +11,7 @@
 # With -i it counts instructions of a piece by valgrind, on one thread, and of a piece there and back, in both threads.
 # CARGO_SOURCES names the sources of other packages, as for check.sh.
 set -euo pipefail
-here=$(cd "$(dirname "$0")" && pwd)
-sources=${CARGO_SOURCES:-/usr/share/cargo/registry}
+. "$(dirname "$0")/common.sh"
 rounds=9
 count=
 layouts=("")
@@ -32,14 +31,12 @@ while getopts r:li option; do
     esac
 done
 shift $((OPTIND - 1))
-[ $# -gt 0 ] || { sed -n 's/^# \?//; 2,12p' "$0" >&2; exit 2; }
-work=$(mktemp -d)
-trap 'rm -rf "$work"' EXIT
+[ $# -gt 0 ] || usage
 
 # Builds the example over a package, in each layout.
 build() { # NUMBER FOLDER
-    mkdir "$work/$1"
-    cat > "$work/$1/Cargo.toml" <<MANIFEST
+    mkdir "$room/$1"
+    cat > "$room/$1/Cargo.toml" <<MANIFEST
 [package]
 name = "speed"
 version = "0.1.0"
@@ -52,14 +49,12 @@ path = "$here/examples/speed.rs"
 MANIFEST
     local layout
     for layout in "${!layouts[@]}"; do
-        (cd "$work/$1" && RUSTFLAGS="${RUSTFLAGS:-} ${layouts[layout]}" \
-            cargo --config "source.crates-io.replace-with='here'" --config "source.here.directory='$sources'" \
-            build --quiet --release --offline --target-dir "$work/$1/$layout")
+        (cd "$room/$1" && RUSTFLAGS="${RUSTFLAGS:-} ${layouts[layout]}" offline build --quiet --release --target-dir "$room/$1/$layout")
     done
 }
 
 instructions() { # NUMBER WAY CAPACITY PIECE PIECES
-    valgrind --tool=callgrind --callgrind-out-file=/dev/null "$work/$1/0/release/speed" "$2" "$3" "$4" $(($4 * $5)) 2>&1 |
+    valgrind --tool=callgrind --callgrind-out-file=/dev/null "$room/$1/0/release/speed" "$2" "$3" "$4" $(($4 * $5)) 2>&1 |
         sed -n 's/^==[0-9]*== Collected : \([0-9]*\)$/\1/p'
 }
 
@@ -77,7 +72,7 @@ counts() { # WAY CAPACITY PIECE
 
 # A round has a layout of the code, and a shift of the pieces.
 nanoseconds() { # NUMBER ROUND WAY CAPACITY PIECE TOTAL
-    "$work/$1/$(($2 % ${#layouts[@]}))/release/speed" "${@:3}" $((${#layouts[@]} > 1 ? $2 * 304 % 4096 : 0)) | cut -d' ' -f4
+    "$room/$1/$(($2 % ${#layouts[@]}))/release/speed" "${@:3}" $((${#layouts[@]} > 1 ? $2 * 304 % 4096 : 0)) | cut -d' ' -f4
 }
 
 # One line: the number of each package, with its ratio to the first.
@@ -120,14 +115,14 @@ in_turn() { # WAY CAPACITY PIECE TOTAL
     local round which all=()
     for ((round = 0; round < rounds; round++)); do
         for ((which = 1; which <= number; which++)); do
-            nanoseconds "$which" "$round" "$@" >> "$work/$which/times"
+            nanoseconds "$which" "$round" "$@" >> "$room/$which/times"
         done
     done
     for ((which = 1; which <= number; which++)); do
-        all+=("$(median < "$work/$which/times")")
-        all+=("$(paste "$work/1/times" "$work/$which/times" | awk '{ print $2 / $1 }' | median)")
+        all+=("$(median < "$room/$which/times")")
+        all+=("$(paste "$room/1/times" "$room/$which/times" | awk '{ print $2 / $1 }' | median)")
     done
-    rm "$work"/*/times
+    rm "$room"/*/times
     line "$1" "$3" "${all[@]}"
 }
 

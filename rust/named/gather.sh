@@ -7,7 +7,7 @@ set -euo pipefail
 here=$(cd "$(dirname "$0")/.." && pwd)
 [ $# -eq 1 ] || { sed -n 's/^# \?//; 2,5p' "$0" >&2; exit 2; }
 mkdir -p "$1"
-cp -r "$here"/{src,tests,examples,README.md,CHANGELOG.md,LICENSE-MIT,LICENSE-APACHE} "$1"
+cp -r "$here"/{src,tests,examples,README.md,LICENSE-MIT,LICENSE-APACHE} "$1"
 {
     sed 's/^name = "piper"$/name = "piper-proved"/' "$here/Cargo.toml"
     printf '\n[lib]\nname = "piper"\n'

@@ -40,16 +40,6 @@ fn a_child_that_is_not_there_is_told() {
 }
 
 #[test]
-fn lines_of_a_file_are_counted() {
-    let file = std::env::temp_dir().join(format!("piper-lines-{}", std::process::id()));
-    std::fs::write(&file, format!("a\n{}\n\nno end", "b".repeat(200_000))).unwrap();
-    let output = run("file_lines", &[file.to_str().unwrap()]);
-    std::fs::remove_file(&file).unwrap();
-    assert_eq!(printed(&output), "4 lines, the longest of 200001 bytes\n");
-    assert!(!run("file_lines", &["/"]).status.success(), "a folder can't be read");
-}
-
-#[test]
 fn a_protocol_is_tried_in_memory() {
     assert_eq!(printed(&run("duplex", &[])), "a pipe of bytes\none\n\n");
 }
