@@ -86,18 +86,20 @@ def clause_of(goal):
 
 
 def verdict_from(lines, passes, mutant, functions):
-    """What a check says of a mutant: of all that it prints, or of the functions that are its own. None if nothing."""
+    """What a check says of a mutant: all that it prints, or what is of the functions that the mutant lies in. None if nothing,
+    as if the prover was killed."""
     if passes:
         return PROVED
+    told = [it for it in map(MESSAGE.match, lines) if it]
     if not any(line.startswith("logic=not-proved") for line in lines):
-        return UNREAD if functions is None else None
-    messages = [it for it in map(MESSAGE.match, lines) if it and (functions is None or any(of.has(it[1], it[2]) for of in functions))]
+        return UNREAD if functions is None and any(it[3].startswith("error") for it in told) else None
+    messages = [it for it in told if functions is None or any(of.has(it[1], it[2]) for of in functions)]
     goals = [(found[1], it[1], "gave up" in it[3]) for it in messages if it[1].startswith("src/") and (found := GOAL.search(it[3]))]
     if goals:
         # First those that the search didn't give up, then the clause that is meant.
         goal, file, gave_up = min(goals, key=lambda it: (it[2], clause_of(it[0]) != mutant.clause))
         return f"{GAVE_UP if gave_up else REFUSED}{goal} of {file}"
-    unfit = [it[1] for it in messages if it[1].startswith("proofs/") and "error: " in it[3]]
+    unfit = [it[1] for it in messages if it[1].startswith("proofs/") and it[3].startswith("error")]
     if unfit:
         return UNFIT + unfit[0]
     return UNREAD if functions is None else None
