@@ -1,8 +1,9 @@
 #!/usr/bin/env bash
 # Tries the packages for cargo and for C, on a PATH that has no `rt`: `rust/check.sh`, several copies in one program, the tests of
-# crates that stand on such a pipe by `rust/clients.sh`, `make -C c check`, and Miri if there is one. It runs the tests for other
-# targets (`rust/targets.sh`) that were run once with the folder that PIPER_PLATFORMS names. The last line counts them. It says what was
-# not tried, since a tool or sources of Debian's are missing and can't be installed.
+# crates that stand on such a pipe by `rust/clients.sh`, `make -C c check`, and Miri if there is one. If PIPER_UPSTREAM names the sources
+# of 0.2.5, or Debian has them, it compares the package with them. It runs the tests for other targets (`rust/targets.sh`) that were run
+# once with the folder that PIPER_PLATFORMS names. The last line counts them. It says what was not tried, since a tool or sources of
+# Debian's are missing and can't be installed.
 set -u
 cd "$(dirname "$0")/.."
 room=$(mktemp -d)
@@ -41,9 +42,18 @@ targets() {
     rust/targets.sh "$platforms"
 }
 
+# What needs the sources of 0.2.5: its tests, the same drawn calls over both, and the page's table.
+upstream() {
+    local folder=${PIPER_UPSTREAM:-$(compgen -G "${CARGO_SOURCES:-/usr/share/cargo/registry}/piper-0.2.*" | head -n 1)}
+    [ -n "$folder" ] || return 2
+    cp rust/README.md "$room" && rust/upstream.sh "$folder" && rust/api.py "$folder" && diff "$room/README.md" rust/README.md &&
+        rust/beside.sh "$folder"
+}
+
 try rust 'cargo gcc' rust
 try one_program 'cargo gcc make' rust/one_program.sh
 try clients cargo rust/clients.sh rust
+try upstream 'cargo python3' upstream
 try c 'cargo gcc make' make -s -C c check
 try miri cargo rust/miri.sh
 try targets cargo targets
