@@ -127,7 +127,7 @@ if [ "${1-}" = --install ]; then
 elif [ $# -gt 0 ]; then
     refuse "there is no option $1"
 fi
-for tool in cargo gcc nm valgrind; do
+for tool in cargo gcc make nm valgrind; do
     command -v "$tool" > /dev/null || refuse "$tool is missing"
 done
 for package in "${packages[@]:1}"; do
