@@ -1,0 +1,146 @@
+-- Each call of the reader begins in the machine.
+use Rattle.std.proofs.Common.{◌≡◌, ℕ, ◌-◌, List, [], ◌∷◌, ◌++◌, length, Bool, true, Option, None, Some, ◌==◌, refl, ap, ◌∙◌}
+use Rattle.piper_protocol.specs.declared.table.ReadPoint.{ReadPoint}
+use Rattle.piper_protocol.specs.declared.table.ReadPoint.TheVariants as at
+use Rattle.piper_protocol.specs.declared.table.Side.TheVariants.{Reader}
+use Rattle.model_sides.specs.declared.calls.Call.{Call}
+use Rattle.model_sides.specs.declared.calls.Call.TheVariants as call
+use Rattle.model_sides.specs.declared.calls.Step.TheVariants.{Begin}
+use Rattle.model_sides.specs.declared.events.Event.{Event}
+use Rattle.model_sides.specs.declared.polling.Luck.{Luck}
+use Rattle.model_sides.specs.declared.scripted.DestAct.{DestAct}
+use Rattle.model_sides.specs.declared.scripted.SourceAct.{SourceAct}
+use Rattle.model.specs.declared.destination.Destination.TheVariants.{Slice, Acts}
+use Rattle.model.specs.Pipe.{Pipe}
+use Rattle.model.specs.Refusal.{reader_state, refusal_of}
+use Rattle.one_run.specs.Line.{Opening, polls, try_drains, try_drains_with, poll_drains_bytes, poll_drains, consumes, drops, began}
+use Rattle.one_run.specs.OneList.{Words}
+use Rattle.one_run.specs.Reading.{IsReaderNext, ReaderAt, reader_begun, shown}
+use Rattle.one_run.specs.Writing.{WriterAt}
+use Rattle.one_run.proofs.Joint.{Chance, Fits, number_of, pipe_at}
+use Rattle.one_run.proofs.Fitting.{sound}
+use Rattle.one_run.proofs.ReaderOpens.{good-draw, idle-same, polls-at, tries-at, copies-at, stores-at, closes-at, within}
+use Rattle.model_sides.specs.declared.refusals.StepRefusal.{StepRefusal}
+use Rattle.model_sides.specs.declared.refusals.StepRefusal.TheVariants.{BadDraw, PastPeek}
+use Rattle.model.specs.Refusal.{cannot_begin, or_else, past, unless}
+use Rattle.model.specs.Step.{stepped}
+use Rattle.model.specs.Look.{context}
+use Rattle.model_sides.specs.Open.{called_with}
+use Rattle.model_sides.specs.declared.calls.Kind.TheVariants as kind
+use Rattle.model_sides.specs.declared.events.Event.TheVariants.{Began}
+use Rattle.model_sides.specs.Call.{has_good_draw}
+use Rattle.model.specs.Run.{Made}
+use Rattle.one_run.proofs.Leading.{leads-drains, Leads, leads-step}
+use Rattle.one_run.proofs.ReaderSteps.{ReaderLeads}
+
+module _ (capacity : ℕ) (w : WriterAt) (l : Chance) (sources : List SourceAct) (r : ReaderAt) (s : Words) where
+  abbrev at_first : Chance → List DestAct → Pipe
+  at_first k acts = pipe_at capacity r w s k acts l sources
+
+  module _ (fits : Fits capacity r w s) where
+    opened : (k : Chance) (acts acts' : List DestAct) (opening : Opening) (c : Call) (kind : Event)
+        → IsReaderNext capacity (began opening) r
+        → refusal_of (Begin c) (at_first k acts') ≡ or_else (cannot_begin (reader_state (at_first k acts').reader)) (or_else (unless (has_good_draw c) BadDraw) (past c (at_first k acts')))
+        → unless (has_good_draw c) BadDraw ≡ None → past c (at_first k acts') ≡ None
+        → ((lent : List ℕ) → pipe_at capacity (reader_begun opening r) w s k acts l sources ≡ (stepped lent (Begin c) (at_first k acts')).pipe)
+        → ((lent : List ℕ) → kind ∷ [] ≡ (stepped lent (Begin c) (at_first k acts')).events)
+        → ((lent : List ℕ) (q : Pipe) → Rattle.model.specs.Step.MayLend lent (Begin c) q)
+        → (before : List Event) → Made (at_first k acts') (Begin c) (pipe_at capacity (reader_begun opening r) w s k acts l sources) before (before ++ kind ∷ [])
+    opened k acts acts' opening c kind next refusal draw past_none pipe events may before =
+        let p : Pipe = at_first k acts' in
+        let q : Pipe = pipe_at capacity (reader_begun opening r) w s k acts l sources in
+        let idle : p.reader ≡ at.Idle = idle-same r.calling.draw k.draws r.point next.0 in
+        record {
+          accepted = refusal
+              ∙ ap (λ (x : ReadPoint). or_else (cannot_begin (reader_state x)) (or_else (unless (has_good_draw c) BadDraw) (past c p))) idle
+              ∙ ap (λ (x : Option StepRefusal). or_else x (past c p)) draw
+              ∙ past_none;
+          made = record {
+            lent = may q.lent p;
+            pipe = pipe q.lent;
+            events = ap (λ (es : List Event). before ++ es) (events q.lent);
+          };
+        }
+
+    opens : (k : Chance) (acts acts' : List DestAct) (opening : Opening) (c : Call) (kind : Event)
+        → IsReaderNext capacity (began opening) r
+        → refusal_of (Begin c) (at_first k acts') ≡ or_else (cannot_begin (reader_state (at_first k acts').reader)) (or_else (unless (has_good_draw c) BadDraw) (past c (at_first k acts')))
+        → unless (has_good_draw c) BadDraw ≡ None → past c (at_first k acts') ≡ None
+        → ((lent : List ℕ) → pipe_at capacity (reader_begun opening r) w s k acts l sources ≡ (stepped lent (Begin c) (at_first k acts')).pipe)
+        → ((lent : List ℕ) → kind ∷ [] ≡ (stepped lent (Begin c) (at_first k acts')).events)
+        → Fits capacity (reader_begun opening r) w s
+        → ((lent : List ℕ) (q : Pipe) → Rattle.model.specs.Step.MayLend lent (Begin c) q)
+        → Leads capacity (at_first k acts') (pipe_at capacity (reader_begun opening r) w s k acts l sources) (kind ∷ [])
+    opens k acts acts' opening c kind next refusal draw past_none pipe events after may =
+        leads-step capacity (Begin c) (at_first k acts') (pipe_at capacity (reader_begun opening r) w s k acts l sources) (kind ∷ []) (sound capacity _ w s k acts l sources after) (opened k acts acts' opening c kind next refusal draw past_none pipe events may)
+
+    -- the luck of a call that begins
+    abbrev new_luck : Chance → Luck
+    new_luck k = record { draw = number_of k.draws; register_granted = k.registers; yield_granted = true }
+
+    pub begins : (opening : Opening) → IsReaderNext capacity (began opening) r → Fits capacity (reader_begun opening r) w s → ReaderLeads capacity w l sources r s (began opening)
+    begins (polls waker) next after k acts =
+        let p : Pipe = at_first k acts in (
+          k,
+          acts,
+          opens k acts acts (polls waker) (call.Poll Reader waker (new_luck k)) (Began Reader kind.Poll (Some waker)) next refl
+              (ap (λ (x : Bool). unless x BadDraw) (good-draw k.draws)) refl
+              (λ lent. ap (λ (x : ReadPoint). record p { reader = x; reader_call = called_with (Some (context waker (new_luck k))) }) (polls-at (r.tail - r.head == 0) k.draws))
+              (λ lent. refl) after (λ lent q. tt),
+        )
+    begins (try_drains size) next after k acts =
+        let p : Pipe = at_first k acts in (
+          k,
+          acts,
+          opens k acts acts (try_drains size) (call.TryDrain size) (Began Reader kind.TryDrain None) next refl
+              refl refl
+              (λ lent. ap (λ (x : ReadPoint). record p { reader = x; reader_call = called_with None; destination = Slice size }) (tries-at (r.tail - r.head == 0) k.draws))
+              (λ lent. refl) after (λ lent q. tt),
+        )
+    begins try_drains_with next after k acts =
+        let p : Pipe = at_first k acts in
+        let mid : Pipe = pipe_at capacity (reader_begun (try_drains 0) r) w s k acts l sources in (
+          k,
+          acts,
+          leads-drains capacity acts p mid (Began Reader kind.TryDrain None ∷ []) (sound capacity _ w s k acts l sources after)
+              (opened k acts acts (try_drains 0) (call.TryDrain 0) (Began Reader kind.TryDrain None) next refl refl refl
+              (λ lent. ap (λ (x : ReadPoint). record p { reader = x; reader_call = called_with None; destination = Slice 0 }) (tries-at (r.tail - r.head == 0) k.draws))
+              (λ lent. refl) (λ lent q. tt)),
+        )
+    begins (poll_drains_bytes waker size) next after k acts =
+        let p : Pipe = at_first k acts in (
+          k,
+          acts,
+          opens k acts acts (poll_drains_bytes waker size) (call.PollDrainBytes waker (new_luck k) size) (Began Reader kind.PollDrainBytes (Some waker)) next refl
+              (ap (λ (x : Bool). unless x BadDraw) (good-draw k.draws)) refl
+              (λ lent. ap (λ (x : ReadPoint). record p { reader = x; reader_call = called_with (Some (context waker (new_luck k))); destination = Slice size }) (copies-at (r.tail - r.head == 0) k.draws))
+              (λ lent. refl) after (λ lent q. tt),
+        )
+    begins (poll_drains waker) next after k acts =
+        let p : Pipe = at_first k acts in (
+          k,
+          acts,
+          opens k acts acts (poll_drains waker) (call.PollDrain waker (new_luck k) acts) (Began Reader kind.PollDrain (Some waker)) next refl
+              (ap (λ (x : Bool). unless x BadDraw) (good-draw k.draws)) refl
+              (λ lent. ap (λ (x : ReadPoint). record p { reader = x; reader_call = called_with (Some (context waker (new_luck k))); destination = Acts acts }) (copies-at (r.tail - r.head == 0) k.draws))
+              (λ lent. refl) after (λ lent q. tt),
+        )
+    begins (consumes bytes) next after k acts =
+        let p : Pipe = at_first k acts in (
+          k,
+          acts,
+          opens k acts acts (consumes bytes) (call.Consume (length bytes)) (Began Reader kind.Consume None) next refl
+              refl (within (length bytes) (shown capacity r) PastPeek next.1)
+              (λ lent. ap (λ (x : ReadPoint). record p { reader = x }) (stores-at r.calling.draw k.draws (length bytes)))
+              (λ lent. refl) after (λ lent q. tt),
+        )
+    begins drops next after k acts =
+        let p : Pipe = at_first k acts in (
+          k,
+          acts,
+          opens k acts acts drops (call.Drop Reader) (Began Reader kind.Drop None) next refl
+              refl refl
+              (λ lent. ap (λ (x : ReadPoint). record p { reader = x }) (closes-at r.calling.draw k.draws))
+              (λ lent. refl) after (λ lent q. tt),
+        )
+    begins opening next after k acts = absurd next.1

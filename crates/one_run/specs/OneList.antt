@@ -1,0 +1,115 @@
+-- One list of what both sides did, the last first, in which each access finds what the last one
+-- before it left.
+use Rattle.std.specs.Prelude.{◌≡◌, ℕ, ◌+◌, List, [], ◌∷◌, ◌++◌, length, take, drop, Bool, true, false, Option, None, is_some, ⊤}
+use Rattle.piper_protocol.specs.declared.table.Side.{Side}
+use Rattle.piper_protocol.specs.declared.table.Side.TheVariants.{Reader, Writer}
+use Rattle.one_run.specs.Line.{Line, loaded_head, loaded_tail, loaded_closed, stored_head, stored_tail, stored_closed, loaded_slot, swapped, met_head, met_tail}
+
+-- what both sides share
+pub record Words : Type 0 where
+  -- the bytes published, oldest first: the tail is their number
+  pub sent : List ℕ
+  pub head : ℕ
+  pub is_closed : Bool
+  -- the wakers in the slots, by their names
+  pub reader_slot : Option ℕ
+  pub writer_slot : Option ℕ
+
+abbrev pub fresh_words : Words
+fresh_words = record {
+  sent = [];
+  head = 0;
+  is_closed = false;
+  reader_slot = None;
+  writer_slot = None;
+}
+
+abbrev pub slot_in : Side → Words → Option ℕ
+slot_in Reader s = s.reader_slot
+slot_in Writer s = s.writer_slot
+
+abbrev pub with_slot : Side → Option ℕ → Words → Words
+with_slot Reader waker s = record s { reader_slot = waker }
+with_slot Writer waker s = record s { writer_slot = waker }
+
+-- what a line leaves
+abbrev pub words_after : Line → Words → Words
+words_after (stored_head bytes) s = record s { head = s.head + length bytes }
+words_after (stored_tail bytes) s = record s { sent = s.sent ++ bytes }
+words_after stored_closed s = record s { is_closed = true }
+words_after (swapped side old left) s = with_slot side left s
+words_after line s = s
+
+-- an access found what is there
+abbrev pub Finds : Line → Words → Type 0
+Finds (loaded_head count) s = (count ≡ s.head)
+Finds (loaded_tail count) s = (count ≡ length s.sent)
+Finds (met_head count) s = (count ≡ s.head)
+Finds (met_tail count) s = (count ≡ length s.sent)
+Finds (loaded_closed is_closed) s = (is_closed ≡ s.is_closed)
+Finds (loaded_slot side is_filled) s = (is_filled ≡ is_some (slot_in side s))
+Finds (swapped side old left) s = (old ≡ slot_in side s)
+Finds (stored_head bytes) s = (bytes ≡ take (length bytes) (drop s.head s.sent))
+Finds line s = ⊤
+
+-- the same of counts alone: it says nothing of the bytes that the reader took
+abbrev pub FindsCount : Line → Words → Type 0
+FindsCount (stored_head bytes) s = ⊤
+FindsCount line s = Finds line s
+
+-- what a side did
+pub data By (A : Type 0) : Type 0 where
+  by : Side → A → By A
+
+abbrev pub is_same : Side → Side → Bool
+is_same Reader Reader = true
+is_same Writer Writer = true
+is_same side other = false
+
+abbrev pub kept_if : {A : Type 0} → Bool → A → List A → List A
+kept_if true a rest = a ∷ rest
+kept_if false a rest = rest
+
+-- of all that both did, what this side did
+abbrev pub did : {A : Type 0} → Side → List (By A) → List A
+did side [] = []
+did side (by other a ∷ rest) = kept_if (is_same side other) a (did side rest)
+
+abbrev pub words_of : List (By Line) → Words
+words_of [] = fresh_words
+words_of (by side line ∷ before) = words_after line (words_of before)
+
+-- each finds what it is to find where the ones before it lead
+abbrev pub AreOrdered : (Line → Words → Type 0) → List (By Line) → Type 0
+AreOrdered finds [] = ⊤
+AreOrdered finds (by side line ∷ before) = finds line (words_of before) × AreOrdered finds before
+
+abbrev pub AreInOrder : List (By Line) → Type 0
+AreInOrder turns = AreOrdered Finds turns
+
+-- what the one list has: the accesses, and what a meet taught
+abbrev pub is_access : Line → Bool
+is_access (loaded_head count) = true
+is_access (loaded_tail count) = true
+is_access (met_head count) = true
+is_access (met_tail count) = true
+is_access (loaded_closed is_closed) = true
+is_access (stored_head bytes) = true
+is_access (stored_tail bytes) = true
+is_access stored_closed = true
+is_access (loaded_slot side is_filled) = true
+is_access (swapped side old left) = true
+is_access line = false
+
+abbrev pub accesses : List Line → List Line
+accesses [] = []
+accesses (line ∷ before) = kept_if (is_access line) line (accesses before)
+
+-- the accesses of both logs are what is left of one list, in which each finds what it is to find
+abbrev pub AreListed : (Line → Words → Type 0) → List Line → List Line → Type 0
+AreListed finds reader writer =
+    (turns : List (By Line)) × AreOrdered finds turns
+    × (did Reader turns ≡ accesses reader) × (did Writer turns ≡ accesses writer)
+
+abbrev pub AreOneList : List Line → List Line → Type 0
+AreOneList reader writer = AreListed Finds reader writer

@@ -1,0 +1,94 @@
+-- What both sides did is one list of the machine's steps and of a few acts that it does not have.
+use Rattle.std.specs.Prelude.{◌≡◌, ℕ, List, [], ◌∷◌, Bool, true, false}
+use Rattle.piper_protocol.specs.declared.table.Side.{Side}
+use Rattle.piper_protocol.specs.declared.table.Side.TheVariants.{Reader, Writer}
+use Rattle.model_sides.specs.declared.calls.Call.TheVariants.{TryDrain, TryFill}
+use Rattle.model_sides.specs.declared.calls.Step.{Step}
+use Rattle.model_sides.specs.declared.calls.Step.TheVariants.{Begin}
+use Rattle.model_sides.specs.declared.scripted.DestAct.{DestAct}
+use Rattle.model_sides.specs.declared.scripted.SourceAct.{SourceAct}
+use Rattle.model.specs.declared.destination.Destination.TheVariants.{Acts}
+use Rattle.model_sides.specs.declared.events.Event.{Event}
+use Rattle.model.specs.Action.{index_loaded_by}
+use Rattle.model.specs.Awake.{IsAwake}
+use Rattle.model.specs.Conservation.{IsConserved}
+use Rattle.model.specs.Disjoint.{IsDisjoint}
+use Rattle.model.specs.Final.{IsFinal}
+use Rattle.model.specs.Honest.{IsHonest}
+use Rattle.model.specs.Pipe.{Pipe, fresh}
+use Rattle.model.specs.Refusal.{IsIdle}
+use Rattle.model.specs.Remembered.{AreRemembered}
+use Rattle.model.specs.Run.{Made}
+use Rattle.model.specs.Sound.{IsSound}
+use Rattle.model.specs.StopsAtClose.{StopsAtClose}
+use Rattle.one_run.specs.Line.{Line, try_drains_with, try_fills_with, began, met_head, met_tail}
+use Rattle.one_run.specs.OneList.{By, did, words_of, AreInOrder}
+use Rattle.one_run.specs.OneRun.{IsLeft}
+use Rattle.one_run.specs.Reports.{events_of}
+
+-- a step of the machine, or what handles do beside
+pub data Act : Type 0 where
+  makes : Step → Act
+  -- outside any call, this side is taught what the other one counts
+  learns : Side → Act
+  -- a copy without a context begins, whose destination or source follows this script
+  drains : List DestAct → Act
+  fills : List SourceAct → Act
+
+-- from one pipe and log to another by these acts. What a side learns, no event reports. A copy
+-- without a context begins as one of no bytes
+abbrev pub RunsWith : Pipe → List Event → List Act → Pipe → List Event → Type 0
+RunsWith p before [] q after = (q ≡ p) × (after ≡ before)
+RunsWith p before (makes s ∷ acts) q after =
+    (mid : Pipe) × (events : List Event) × Made p s mid before events
+    × RunsWith mid events acts q after
+RunsWith p before (learns side ∷ acts) q after =
+    IsIdle side p × RunsWith (index_loaded_by side p) before acts q after
+RunsWith p before (drains script ∷ acts) q after =
+    (mid : Pipe) × (events : List Event) × Made p (Begin (TryDrain 0)) mid before events
+    × RunsWith (record mid { destination = Acts script }) events acts q after
+RunsWith p before (fills script ∷ acts) q after =
+    (mid : Pipe) × (events : List Event) × Made p (Begin (TryFill [])) mid before events
+    × RunsWith (record mid { source = script }) events acts q after
+
+-- the laws of the machine that hold however much a side knows, and whatever gives and takes
+pub record IsSafe (p : Pipe) (events : List Event) : Type 0 where
+  pub conserved : IsConserved p events
+  pub disjoint : IsDisjoint p
+  pub honest : IsHonest events
+  pub finality : IsFinal p events
+  pub stops : StopsAtClose events
+  pub remembered : AreRemembered p events
+  pub awake : IsAwake p events
+  pub sound : IsSound p
+
+pub record IsOneWideRun (capacity : ℕ) (reader writer : List Line) : Type 0 where
+  -- the lines of both logs in one order, in which each access finds what the last one before it
+  -- left
+  pub turns : List (By Line)
+  pub order : AreInOrder turns
+  pub reader_did : did Reader turns ≡ reader
+  pub writer_did : did Writer turns ≡ writer
+  -- these acts do and report what these lines say, in their order
+  pub acts : List Act
+  pub pipe : Pipe
+  pub runs : RunsWith (fresh capacity) [] acts pipe (events_of capacity turns)
+  -- they lead to what both logs leave
+  pub left : IsLeft capacity reader writer (words_of turns) pipe
+  pub safe : IsSafe pipe (events_of capacity turns)
+
+-- the machine does not have it
+abbrev pub is_beyond : Line → Bool
+is_beyond (met_head count) = true
+is_beyond (met_tail count) = true
+is_beyond (began try_drains_with) = true
+is_beyond (began try_fills_with) = true
+is_beyond line = false
+
+abbrev pub or : Bool → Bool → Bool
+or true b = true
+or false b = b
+
+abbrev pub goes_beyond : List Line → Bool
+goes_beyond [] = false
+goes_beyond (line ∷ before) = or (is_beyond line) (goes_beyond before)

@@ -1,0 +1,56 @@
+//! What two sides of a pipe did, each by its own log, is one accepted list of the model's steps.
+#![tactic(auto)]
+
+ghost use Rattle.std.specs.Prelude.{◌≡◌, ℕ, List, false};
+ghost use Rattle.one_run.specs.Follows.{AreInTurn, IsHonestEnd, IsNobodyForgotten, IsOneAwake};
+ghost use Rattle.one_run.specs.Line.{Line};
+ghost use Rattle.one_run.specs.Wide.{IsOneWideRun, goes_beyond};
+ghost use Rattle.one_run.specs.OneList.{did};
+ghost use Rattle.one_run.specs.OneRun.{AreCountedLogs, AreLogs, IsOneRun};
+ghost use Rattle.one_run.specs.Worked.{fill_and_drain, wait_and_wake};
+ghost use Rattle.piper_protocol.specs.declared.table.Side.TheVariants.{Reader, Writer};
+
+/// Two logs whose accesses are what is left of one list, each a list of runs of the call table,
+/// are one run of the model. It has acts of its own for what the model does not have: what a meet
+/// taught, and a copy without a context whose source or destination is no slice.
+pub fn is_one_run()
+    ensures plain { (capacity : ℕ) (reader writer : List Line) → AreLogs capacity reader writer →
+        goes_beyond reader ≡ false → goes_beyond writer ≡ false → IsOneRun capacity reader writer }
+    ensures wide { (capacity : ℕ) (reader writer : List Line) →
+        AreLogs capacity reader writer → IsOneWideRun capacity reader writer }
+{}
+
+/// The same, if the list is right in its counts alone and the bytes are known to be in their order.
+pub fn is_one_run_by_counts()
+    ensures plain { (capacity : ℕ) (reader writer : List Line) →
+        AreCountedLogs capacity reader writer →
+        goes_beyond reader ≡ false → goes_beyond writer ≡ false → IsOneRun capacity reader writer }
+    ensures wide { (capacity : ℕ) (reader writer : List Line) →
+        AreCountedLogs capacity reader writer → IsOneWideRun capacity reader writer }
+{}
+
+/// Bytes come out in the order in which they went in.
+pub fn bytes_are_in_turn()
+    ensures { (capacity : ℕ) (reader writer : List Line) →
+        IsOneWideRun capacity reader writer → AreInTurn capacity reader writer }
+{}
+
+/// The end is reported only when all bytes were consumed.
+pub fn the_end_is_honest()
+    ensures { (capacity : ℕ) (reader writer : List Line) →
+        IsOneWideRun capacity reader writer → IsHonestEnd capacity reader writer }
+{}
+
+/// Nobody who waits is forgotten, and of two who wait one was called.
+pub fn nobody_is_forgotten()
+    ensures waits { (capacity : ℕ) (reader writer : List Line)
+        (run : IsOneWideRun capacity reader writer) → IsNobodyForgotten run }
+    ensures awake { (capacity : ℕ) (reader writer : List Line)
+        (run : IsOneWideRun capacity reader writer) → IsOneAwake run }
+{}
+
+/// The logs of a fill and a drain are such, and those of a wait and its wake.
+pub fn are_worked()
+    ensures filled { AreLogs 4 (did Reader fill_and_drain) (did Writer fill_and_drain) }
+    ensures woken { AreLogs 4 (did Reader wait_and_wake) (did Writer wait_and_wake) }
+{}
