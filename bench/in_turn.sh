@@ -4,20 +4,12 @@
 #     bench/in_turn.sh ROUNDS TOTAL CAP CHUNK [PROGRAM:]WHAT..
 #
 # PROGRAM is crates/piper_bench/out/piper_bench if it is left out, and WHAT one of its words: so two builds can be compared,
-# too. TASKSET may hold a list of cores, as 2,3. With PLACES=1 each round has the blocks of the heap at other places, the same
-# for all, by places.c. It prints a line for each: the median of nanoseconds a piece, and the median and the quartiles of the
-# ratio to the first of the same round. The status is 1 where the checksums differ.
+# too. TASKSET may hold a list of cores, as 2,3. It prints a line for each: the median of nanoseconds a piece, and the median and
+# the quartiles of the ratio to the first of the same round. The status is 1 if the checksums differ.
 set -eu
 here=$(cd "$(dirname "$0")" && pwd)
 [ $# -ge 5 ] || { sed -n '4p' "$0" | cut -c3- >&2; exit 2; }
 export PROGRAM=$here/../crates/piper_bench/out/piper_bench
-if [ -n "${PLACES:-}" ]; then
-    room=$(mktemp -d)
-    trap 'rm -rf "$room"' EXIT
-    PLACES=$room/places.so
-    cc -O2 -shared -fPIC "$here/places.c" -o "$PLACES" -ldl
-    export PLACES
-fi
 python3 - "$@" <<'PYTHON'
 import os, re, statistics, subprocess, sys
 
@@ -29,11 +21,9 @@ for word in sys.argv[5:]:
     runs.append((word, [*before, program or os.environ["PROGRAM"], what, capacity, chunk, total]))
 pieces = max(1, -(-int(total) // int(chunk)))
 spent, sums = {word: [] for word, _ in runs}, {}
-moved = {"LD_PRELOAD": os.environ["PLACES"]} if os.environ.get("PLACES") else {}
-for number in range(rounds):
-    own = {**os.environ, **moved, "PLACE": str(number)}
+for _ in range(rounds):
     for word, words in runs:
-        said = subprocess.run(words, capture_output=True, text=True, env=own).stdout
+        said = subprocess.run(words, capture_output=True, text=True).stdout
         told = re.search(r" ns=(\d+) .*checksum=(\d+)", said)
         if not told:
             raise SystemExit(f"{word} failed")
