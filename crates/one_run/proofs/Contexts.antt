@@ -2,10 +2,10 @@
 -- reported.
 use Rattle.std.proofs.Common.{◌≡◌, ℕ, [], ◌∷◌, true, false, Option, None, Some, is_some, arith}
 use Rattle.piper_protocol.specs.declared.table.Side.{Side}
-use Rattle.model_sides.specs.Open.{is_granted, is_yield_granted}
-use Rattle.model_sides.specs.declared.events.Event.TheVariants.{Registered, Woken}
-use Rattle.model_sides.specs.declared.polling.Luck.{Luck}
-use Rattle.model.specs.Action.{registered_in, registration_of, yield_of, wake_of}
+use Rattle.piper_machine.specs.Open.{is_granted, is_yield_granted}
+use Rattle.piper_machine.specs.declared.events.Event.TheVariants.{Registered, Woken}
+use Rattle.piper_machine.specs.declared.polling.Luck.{Luck}
+use Rattle.piper_machine.specs.Action.{registered_in, registration_of, yield_of, wake_of}
 use Rattle.one_run.proofs.Joint.{context_with}
 
 pub none-of : (slot : Option ℕ) → false ≡ is_some slot → slot ≡ None

@@ -7,7 +7,7 @@ use Rattle.piper_protocol.specs.declared.table.ReadPoint.{ReadPoint}
 use Rattle.piper_protocol.specs.declared.table.ReadPoint.TheVariants as at
 use Rattle.piper_protocol.specs.Table.{Next, read_action, read_after, head_store, moved_in}
 use Rattle.piper_protocol.specs.declared.table.Side.TheVariants.{Reader}
-use Rattle.model.specs.Refusal.{cannot_go, reader_state}
+use Rattle.piper_machine.specs.Refusal.{cannot_go, reader_state}
 use Rattle.one_run.specs.Reading.{HasDrawn}
 use Rattle.one_run.proofs.Joint.{reader_drawn, reader_point}
 

@@ -1,11 +1,11 @@
 -- A pipe of sides and words that fit is sound.
 use Rattle.std.proofs.Common.{◌≡◌, ℕ, ◌+◌, ◌-◌, List, [], ◌∷◌, length, drop, replicate, refl, sym, ap, ◌∙◌, arith, length-drop, length-append}
 use Rattle.std.proofs.lemmas.List.{length-replicate}
-use Rattle.model_sides.specs.declared.scripted.DestAct.{DestAct}
-use Rattle.model_sides.specs.declared.scripted.SourceAct.{SourceAct}
+use Rattle.piper_machine.specs.declared.scripted.DestAct.{DestAct}
+use Rattle.piper_machine.specs.declared.scripted.SourceAct.{SourceAct}
 use Rattle.piper_protocol.specs.Table.{head_store, tail_store}
-use Rattle.model.specs.Places.{places_left}
-use Rattle.model.specs.Sound.{IsSound}
+use Rattle.piper_machine.specs.Places.{places_left}
+use Rattle.piper_machine.specs.Sound.{IsSound}
 use Rattle.one_run.specs.OneList.{Words}
 use Rattle.one_run.specs.Reading.{ReaderAt}
 use Rattle.one_run.specs.Writing.{WriterAt}

@@ -3,16 +3,16 @@ use Rattle.std.proofs.Common.{◌≡◌, inl, inr, ℕ, List, [], ◌∷◌, ◌
 use Rattle.std.proofs.lemmas.Grind.{flat_map-append}
 use Rattle.piper_protocol.specs.declared.table.Side.{Side}
 use Rattle.piper_protocol.specs.declared.table.Side.TheVariants.{Reader, Writer}
-use Rattle.model_sides.specs.declared.events.Event.{Event}
-use Rattle.model.specs.Conservation.{consumed_in, consumed_of, published_in, published_of}
-use Rattle.model.specs.Final.{IsOver}
-use Rattle.model_sides.specs.Log.{answer_event}
-use Rattle.model_sides.specs.declared.events.Event.TheVariants.{Answered}
+use Rattle.piper_machine.specs.declared.events.Event.{Event}
+use Rattle.piper_machine.specs.Conservation.{consumed_in, consumed_of, published_in, published_of}
+use Rattle.piper_machine.specs.Final.{IsOver}
+use Rattle.piper_machine.specs.Log.{answer_event}
+use Rattle.piper_machine.specs.declared.events.Event.TheVariants.{Answered}
 use Rattle.piper_protocol.specs.declared.answer.Answer.{Answer}
 use Rattle.piper_protocol.specs.declared.answer.Answer.TheVariants.{Poll}
 use Rattle.piper_protocol.specs.declared.answer.Polled.TheVariants.{Ready}
-use Rattle.model.specs.Refusal.{IsIdle}
-use Rattle.model.specs.Waiting.{is_between, is_waking_reader, is_waking_writer}
+use Rattle.piper_machine.specs.Refusal.{IsIdle}
+use Rattle.piper_machine.specs.Waiting.{is_between, is_waking_reader, is_waking_writer}
 use Rattle.one_run.specs.Reports.{events_of, reader_event, reader_reports, writer_reports}
 use Rattle.one_run.specs.Follows.{AreInTurn, IsHonestEnd, IsNobodyForgotten, IsOneAwake, HasAnswered}
 use Rattle.one_run.specs.Moved.{consumed, consumed_by, published, published_by}

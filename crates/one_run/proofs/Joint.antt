@@ -11,15 +11,15 @@ use Rattle.piper_protocol.specs.declared.table.WritePoint.{WritePoint}
 use Rattle.piper_protocol.specs.declared.table.WritePoint.TheVariants as on
 use Rattle.piper_protocol.specs.Index.{offset_of}
 use Rattle.piper_protocol.specs.Table.{head_store, tail_store}
-use Rattle.model_sides.specs.declared.calls.OpenCall.{OpenCall}
-use Rattle.model_sides.specs.declared.polling.Context.{Context}
-use Rattle.model_sides.specs.declared.polling.Luck.{Luck}
-use Rattle.model_sides.specs.declared.scripted.DestAct.{DestAct}
-use Rattle.model_sides.specs.declared.scripted.SourceAct.{SourceAct}
-use Rattle.model_sides.specs.declared.scripted.SourceAct.TheVariants as source
-use Rattle.model.specs.declared.destination.Destination.{Destination}
-use Rattle.model.specs.declared.destination.Destination.TheVariants.{Slice, Acts}
-use Rattle.model.specs.Pipe.{Pipe}
+use Rattle.piper_machine.specs.declared.calls.OpenCall.{OpenCall}
+use Rattle.piper_machine.specs.declared.polling.Context.{Context}
+use Rattle.piper_machine.specs.declared.polling.Luck.{Luck}
+use Rattle.piper_machine.specs.declared.scripted.DestAct.{DestAct}
+use Rattle.piper_machine.specs.declared.scripted.SourceAct.{SourceAct}
+use Rattle.piper_machine.specs.declared.scripted.SourceAct.TheVariants as source
+use Rattle.piper_machine.specs.declared.destination.Destination.{Destination}
+use Rattle.piper_machine.specs.declared.destination.Destination.TheVariants.{Slice, Acts}
+use Rattle.piper_machine.specs.Pipe.{Pipe}
 use Rattle.one_run.specs.Calling.{Calling}
 use Rattle.one_run.specs.OneList.{Words}
 use Rattle.one_run.specs.Reading.{ReaderAt, known_to, shown}

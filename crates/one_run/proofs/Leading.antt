@@ -1,18 +1,18 @@
 -- How the run goes on from one pipe to another.
 use Rattle.std.proofs.Common.{◌≡◌, ℕ, List, [], ◌∷◌, ◌++◌, Bool, true, false, refl, ◌∙◌, append_assoc, append-nil}
 use Rattle.piper_protocol.specs.declared.table.Side.{Side}
-use Rattle.model_sides.specs.declared.calls.Call.TheVariants as call
-use Rattle.model_sides.specs.declared.calls.Step.{Step}
-use Rattle.model_sides.specs.declared.calls.Step.TheVariants.{Begin}
-use Rattle.model_sides.specs.declared.scripted.DestAct.{DestAct}
-use Rattle.model_sides.specs.declared.scripted.SourceAct.{SourceAct}
-use Rattle.model.specs.declared.destination.Destination.TheVariants.{Acts}
-use Rattle.model_sides.specs.declared.events.Event.{Event}
-use Rattle.model.specs.Action.{index_loaded_by}
-use Rattle.model.specs.Pipe.{Pipe}
-use Rattle.model.specs.Refusal.{IsIdle}
-use Rattle.model.specs.Run.{Made}
-use Rattle.model.specs.Sound.{IsSound}
+use Rattle.piper_machine.specs.declared.calls.Call.TheVariants as call
+use Rattle.piper_machine.specs.declared.calls.Step.{Step}
+use Rattle.piper_machine.specs.declared.calls.Step.TheVariants.{Begin}
+use Rattle.piper_machine.specs.declared.scripted.DestAct.{DestAct}
+use Rattle.piper_machine.specs.declared.scripted.SourceAct.{SourceAct}
+use Rattle.piper_machine.specs.declared.destination.Destination.TheVariants.{Acts}
+use Rattle.piper_machine.specs.declared.events.Event.{Event}
+use Rattle.piper_machine.specs.Action.{index_loaded_by}
+use Rattle.piper_machine.specs.Pipe.{Pipe}
+use Rattle.piper_machine.specs.Refusal.{IsIdle}
+use Rattle.piper_machine.specs.Run.{Made}
+use Rattle.piper_machine.specs.Sound.{IsSound}
 use Rattle.one_run.specs.Wide.{Act, makes, learns, drains, fills, or}
 use Rattle.one_run.proofs.Learning.{Kept, is_wide, kept-drains, kept-fills, kept-learned, kept-step, wide-now, wide-same}
 

@@ -8,33 +8,33 @@ use Rattle.piper_protocol.specs.declared.table.Side.{Side}
 use Rattle.piper_protocol.specs.declared.table.Side.TheVariants.{Reader, Writer}
 use Rattle.piper_protocol.specs.declared.table.WritePoint.{WritePoint}
 use Rattle.piper_protocol.specs.declared.table.WritePoint.TheVariants as on
-use Rattle.model_sides.specs.declared.calls.Call.TheVariants as call
-use Rattle.model_sides.specs.declared.calls.Step.{Step}
-use Rattle.model_sides.specs.declared.calls.Step.TheVariants.{Begin}
-use Rattle.model_sides.specs.declared.scripted.DestAct.{DestAct}
-use Rattle.model_sides.specs.declared.scripted.SourceAct.{SourceAct}
-use Rattle.model.specs.declared.destination.Destination.{Destination}
-use Rattle.model.specs.declared.destination.Destination.TheVariants.{Acts}
-use Rattle.model_sides.specs.declared.events.Event.{Event}
-use Rattle.model.specs.Action.{index_loaded_by}
-use Rattle.model.specs.Conservation.{IsConserved}
-use Rattle.model.specs.Pipe.{Pipe, fresh}
-use Rattle.model.specs.Refusal.{IsIdle}
-use Rattle.model.specs.Run.{Made}
-use Rattle.model.specs.Sound.{IsSound}
-use Rattle.model.specs.Wait.{Wait}
-use Rattle.model.proofs.Conserving.{conserved-step}
-use Rattle.model.proofs.Disjointness.{disjoint}
-use Rattle.model.proofs.Finality.{Final, final_none, final_more}
-use Rattle.model.proofs.Fronts.{conserved_none, sound-fresh}
-use Rattle.model.proofs.Honesty.{Honest, honest_none, honest_more}
-use Rattle.model.proofs.Keeping.{Keeps, keeps_none, keeps_more}
-use Rattle.model.proofs.ReaderWaits.{ReadLook, ReadWaits, read_calm}
-use Rattle.model.proofs.Remembering.{Remembers, remembers_none, remembers_more}
-use Rattle.model.proofs.Stopping.{Stops, stops_none, stops_more}
-use Rattle.model.proofs.Waking.{awake}
-use Rattle.model.proofs.Watching.{Errand, Watched, woken, calmly, taking, waking, holding}
-use Rattle.model.proofs.WriterWaits.{WriteLook, WriteWaits, write_calm}
+use Rattle.piper_machine.specs.declared.calls.Call.TheVariants as call
+use Rattle.piper_machine.specs.declared.calls.Step.{Step}
+use Rattle.piper_machine.specs.declared.calls.Step.TheVariants.{Begin}
+use Rattle.piper_machine.specs.declared.scripted.DestAct.{DestAct}
+use Rattle.piper_machine.specs.declared.scripted.SourceAct.{SourceAct}
+use Rattle.piper_machine.specs.declared.destination.Destination.{Destination}
+use Rattle.piper_machine.specs.declared.destination.Destination.TheVariants.{Acts}
+use Rattle.piper_machine.specs.declared.events.Event.{Event}
+use Rattle.piper_machine.specs.Action.{index_loaded_by}
+use Rattle.piper_machine.specs.Conservation.{IsConserved}
+use Rattle.piper_machine.specs.Pipe.{Pipe, fresh}
+use Rattle.piper_machine.specs.Refusal.{IsIdle}
+use Rattle.piper_machine.specs.Run.{Made}
+use Rattle.piper_machine.specs.Sound.{IsSound}
+use Rattle.piper_machine.specs.Wait.{Wait}
+use Rattle.piper_machine.proofs.Conserving.{conserved-step}
+use Rattle.piper_machine.proofs.Disjointness.{disjoint}
+use Rattle.piper_machine.proofs.Finality.{Final, final_none, final_more}
+use Rattle.piper_machine.proofs.Fronts.{conserved_none, sound-fresh}
+use Rattle.piper_machine.proofs.Honesty.{Honest, honest_none, honest_more}
+use Rattle.piper_machine.proofs.Keeping.{Keeps, keeps_none, keeps_more}
+use Rattle.piper_machine.proofs.ReaderWaits.{ReadLook, ReadWaits, read_calm}
+use Rattle.piper_machine.proofs.Remembering.{Remembers, remembers_none, remembers_more}
+use Rattle.piper_machine.proofs.Stopping.{Stops, stops_none, stops_more}
+use Rattle.piper_machine.proofs.Waking.{awake}
+use Rattle.piper_machine.proofs.Watching.{Errand, Watched, woken, calmly, taking, waking, holding}
+use Rattle.piper_machine.proofs.WriterWaits.{WriteLook, WriteWaits, write_calm}
 use Rattle.one_run.specs.Wide.{Act, makes, learns, drains, fills, IsSafe, RunsWith}
 
 -- a pipe of which the sides know so much, with this destination and source

@@ -3,16 +3,16 @@ use Rattle.std.proofs.Common.{◌≡◌, ℕ, ◌-◌, List, [], ◌∷◌, ◌+
 use Rattle.piper_protocol.specs.declared.table.ReadPoint.{ReadPoint}
 use Rattle.piper_protocol.specs.declared.table.ReadPoint.TheVariants as at
 use Rattle.piper_protocol.specs.declared.table.Side.TheVariants.{Reader}
-use Rattle.model_sides.specs.declared.calls.Call.{Call}
-use Rattle.model_sides.specs.declared.calls.Call.TheVariants as call
-use Rattle.model_sides.specs.declared.calls.Step.TheVariants.{Begin}
-use Rattle.model_sides.specs.declared.events.Event.{Event}
-use Rattle.model_sides.specs.declared.polling.Luck.{Luck}
-use Rattle.model_sides.specs.declared.scripted.DestAct.{DestAct}
-use Rattle.model_sides.specs.declared.scripted.SourceAct.{SourceAct}
-use Rattle.model.specs.declared.destination.Destination.TheVariants.{Slice, Acts}
-use Rattle.model.specs.Pipe.{Pipe}
-use Rattle.model.specs.Refusal.{reader_state, refusal_of}
+use Rattle.piper_machine.specs.declared.calls.Call.{Call}
+use Rattle.piper_machine.specs.declared.calls.Call.TheVariants as call
+use Rattle.piper_machine.specs.declared.calls.Step.TheVariants.{Begin}
+use Rattle.piper_machine.specs.declared.events.Event.{Event}
+use Rattle.piper_machine.specs.declared.polling.Luck.{Luck}
+use Rattle.piper_machine.specs.declared.scripted.DestAct.{DestAct}
+use Rattle.piper_machine.specs.declared.scripted.SourceAct.{SourceAct}
+use Rattle.piper_machine.specs.declared.destination.Destination.TheVariants.{Slice, Acts}
+use Rattle.piper_machine.specs.Pipe.{Pipe}
+use Rattle.piper_machine.specs.Refusal.{reader_state, refusal_of}
 use Rattle.one_run.specs.Line.{Opening, polls, try_drains, try_drains_with, poll_drains_bytes, poll_drains, consumes, drops, began}
 use Rattle.one_run.specs.OneList.{Words}
 use Rattle.one_run.specs.Reading.{IsReaderNext, ReaderAt, reader_begun, shown}
@@ -20,16 +20,16 @@ use Rattle.one_run.specs.Writing.{WriterAt}
 use Rattle.one_run.proofs.Joint.{Chance, Fits, number_of, pipe_at}
 use Rattle.one_run.proofs.Fitting.{sound}
 use Rattle.one_run.proofs.ReaderOpens.{good-draw, idle-same, polls-at, tries-at, copies-at, stores-at, closes-at, within}
-use Rattle.model_sides.specs.declared.refusals.StepRefusal.{StepRefusal}
-use Rattle.model_sides.specs.declared.refusals.StepRefusal.TheVariants.{BadDraw, PastPeek}
-use Rattle.model.specs.Refusal.{cannot_begin, or_else, past, unless}
-use Rattle.model.specs.Step.{stepped}
-use Rattle.model.specs.Look.{context}
-use Rattle.model_sides.specs.Open.{called_with}
-use Rattle.model_sides.specs.declared.calls.Kind.TheVariants as kind
-use Rattle.model_sides.specs.declared.events.Event.TheVariants.{Began}
-use Rattle.model_sides.specs.Call.{has_good_draw}
-use Rattle.model.specs.Run.{Made}
+use Rattle.piper_machine.specs.declared.refusals.StepRefusal.{StepRefusal}
+use Rattle.piper_machine.specs.declared.refusals.StepRefusal.TheVariants.{BadDraw, PastPeek}
+use Rattle.piper_machine.specs.Refusal.{cannot_begin, or_else, past, unless}
+use Rattle.piper_machine.specs.Step.{stepped}
+use Rattle.piper_machine.specs.Look.{context}
+use Rattle.piper_machine.specs.Open.{called_with}
+use Rattle.piper_machine.specs.declared.calls.Kind.TheVariants as kind
+use Rattle.piper_machine.specs.declared.events.Event.TheVariants.{Began}
+use Rattle.piper_machine.specs.Call.{has_good_draw}
+use Rattle.piper_machine.specs.Run.{Made}
 use Rattle.one_run.proofs.Leading.{leads-drains, Leads, leads-step}
 use Rattle.one_run.proofs.ReaderSteps.{ReaderLeads}
 
@@ -44,7 +44,7 @@ module _ (capacity : ℕ) (w : WriterAt) (l : Chance) (sources : List SourceAct)
         → unless (has_good_draw c) BadDraw ≡ None → past c (at_first k acts') ≡ None
         → ((lent : List ℕ) → pipe_at capacity (reader_begun opening r) w s k acts l sources ≡ (stepped lent (Begin c) (at_first k acts')).pipe)
         → ((lent : List ℕ) → kind ∷ [] ≡ (stepped lent (Begin c) (at_first k acts')).events)
-        → ((lent : List ℕ) (q : Pipe) → Rattle.model.specs.Step.MayLend lent (Begin c) q)
+        → ((lent : List ℕ) (q : Pipe) → Rattle.piper_machine.specs.Step.MayLend lent (Begin c) q)
         → (before : List Event) → Made (at_first k acts') (Begin c) (pipe_at capacity (reader_begun opening r) w s k acts l sources) before (before ++ kind ∷ [])
     opened k acts acts' opening c kind next refusal draw past_none pipe events may before =
         let p : Pipe = at_first k acts' in
@@ -69,7 +69,7 @@ module _ (capacity : ℕ) (w : WriterAt) (l : Chance) (sources : List SourceAct)
         → ((lent : List ℕ) → pipe_at capacity (reader_begun opening r) w s k acts l sources ≡ (stepped lent (Begin c) (at_first k acts')).pipe)
         → ((lent : List ℕ) → kind ∷ [] ≡ (stepped lent (Begin c) (at_first k acts')).events)
         → Fits capacity (reader_begun opening r) w s
-        → ((lent : List ℕ) (q : Pipe) → Rattle.model.specs.Step.MayLend lent (Begin c) q)
+        → ((lent : List ℕ) (q : Pipe) → Rattle.piper_machine.specs.Step.MayLend lent (Begin c) q)
         → Leads capacity (at_first k acts') (pipe_at capacity (reader_begun opening r) w s k acts l sources) (kind ∷ [])
     opens k acts acts' opening c kind next refusal draw past_none pipe events after may =
         leads-step capacity (Begin c) (at_first k acts') (pipe_at capacity (reader_begun opening r) w s k acts l sources) (kind ∷ []) (sound capacity _ w s k acts l sources after) (opened k acts acts' opening c kind next refusal draw past_none pipe events may)

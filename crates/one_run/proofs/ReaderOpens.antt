@@ -10,11 +10,11 @@ use Rattle.piper_protocol.specs.declared.table.ReadPoint.TheVariants as at
 use Rattle.piper_protocol.specs.declared.table.WritePoint.{WritePoint}
 use Rattle.piper_protocol.specs.declared.table.WritePoint.TheVariants as on
 use Rattle.piper_protocol.specs.Table.{reader_looks_for}
-use Rattle.model_sides.specs.declared.refusals.StepRefusal.{StepRefusal}
-use Rattle.model_sides.specs.declared.scripted.DestAct.{DestAct}
-use Rattle.model_sides.specs.declared.scripted.DestAct.TheVariants as dest
-use Rattle.model.specs.Refusal.{unless}
-use Rattle.model.specs.Round.{found_of, left_of_destination, taken}
+use Rattle.piper_machine.specs.declared.refusals.StepRefusal.{StepRefusal}
+use Rattle.piper_machine.specs.declared.scripted.DestAct.{DestAct}
+use Rattle.piper_machine.specs.declared.scripted.DestAct.TheVariants as dest
+use Rattle.piper_machine.specs.Refusal.{unless}
+use Rattle.piper_machine.specs.Round.{found_of, left_of_destination, taken}
 use Rattle.one_run.specs.Reading.{MayTake, size_after}
 use Rattle.one_run.proofs.Joint.{destination_at, number_of, reader_drawn, reader_point, writer_point}
 

@@ -11,22 +11,22 @@ use Rattle.piper_protocol.specs.declared.table.Side.{Side}
 use Rattle.piper_protocol.specs.declared.table.Side.TheVariants.{Reader, Writer}
 use Rattle.piper_protocol.specs.declared.table.TheConstants.{MOST_A_ROUND}
 use Rattle.piper_protocol.specs.Table.{Next, read_action, read_after}
-use Rattle.model_sides.specs.Log.{answer_event}
-use Rattle.model_sides.specs.Open.{no_call}
-use Rattle.model_sides.specs.declared.calls.Step.TheVariants.{Go}
-use Rattle.model_sides.specs.declared.events.Event.{Event}
-use Rattle.model_sides.specs.declared.events.Event.TheVariants.{Consumed, Loaded}
-use Rattle.model_sides.specs.declared.events.Seen.TheVariants as seen
-use Rattle.model_sides.specs.declared.polling.Luck.{Luck}
-use Rattle.model_sides.specs.declared.scripted.DestAct.{DestAct}
-use Rattle.model_sides.specs.declared.scripted.DestAct.TheVariants as dest
-use Rattle.model_sides.specs.declared.scripted.SourceAct.{SourceAct}
-use Rattle.model.specs.declared.destination.Destination.{Destination}
-use Rattle.model.specs.declared.destination.Destination.TheVariants.{Slice}
-use Rattle.model.specs.Action.{found_by, logged_of, performed}
-use Rattle.model.specs.Pipe.{Pipe}
-use Rattle.model.specs.Sound.{IsSound}
-use Rattle.model.specs.Step.{call_after, destination_after, reader_stepped as machine_stepped}
+use Rattle.piper_machine.specs.Log.{answer_event}
+use Rattle.piper_machine.specs.Open.{no_call}
+use Rattle.piper_machine.specs.declared.calls.Step.TheVariants.{Go}
+use Rattle.piper_machine.specs.declared.events.Event.{Event}
+use Rattle.piper_machine.specs.declared.events.Event.TheVariants.{Consumed, Loaded}
+use Rattle.piper_machine.specs.declared.events.Seen.TheVariants as seen
+use Rattle.piper_machine.specs.declared.polling.Luck.{Luck}
+use Rattle.piper_machine.specs.declared.scripted.DestAct.{DestAct}
+use Rattle.piper_machine.specs.declared.scripted.DestAct.TheVariants as dest
+use Rattle.piper_machine.specs.declared.scripted.SourceAct.{SourceAct}
+use Rattle.piper_machine.specs.declared.destination.Destination.{Destination}
+use Rattle.piper_machine.specs.declared.destination.Destination.TheVariants.{Slice}
+use Rattle.piper_machine.specs.Action.{found_by, logged_of, performed}
+use Rattle.piper_machine.specs.Pipe.{Pipe}
+use Rattle.piper_machine.specs.Sound.{IsSound}
+use Rattle.piper_machine.specs.Step.{call_after, destination_after, reader_stepped as machine_stepped}
 use Rattle.one_run.specs.Reports.{reader_reports, reader_event}
 use Rattle.one_run.specs.Calling.{calling_after, may_wait_after}
 use Rattle.one_run.specs.Wide.{is_beyond}

@@ -9,37 +9,37 @@ use Rattle.piper_protocol.specs.declared.table.Side.TheVariants.{Writer}
 use Rattle.piper_protocol.specs.declared.table.WritePoint.{WritePoint}
 use Rattle.piper_protocol.specs.declared.table.WritePoint.TheVariants as on
 use Rattle.piper_protocol.specs.Table.{tail_store}
-use Rattle.model_sides.specs.Call.{has_good_draw}
-use Rattle.model_sides.specs.declared.calls.Call.{Call}
-use Rattle.model_sides.specs.declared.calls.Call.TheVariants as call
-use Rattle.model_sides.specs.declared.calls.Kind.TheVariants as kind
-use Rattle.model_sides.specs.declared.calls.Step.TheVariants.{Begin}
-use Rattle.model_sides.specs.declared.events.Event.{Event}
-use Rattle.model_sides.specs.declared.events.Event.TheVariants.{Answered, Began}
-use Rattle.model_sides.specs.declared.polling.Luck.{Luck}
-use Rattle.model_sides.specs.declared.refusals.StepRefusal.{StepRefusal}
-use Rattle.model_sides.specs.declared.refusals.StepRefusal.TheVariants.{BadDraw, PastLent}
-use Rattle.model_sides.specs.declared.scripted.DestAct.{DestAct}
-use Rattle.model_sides.specs.declared.scripted.SourceAct.{SourceAct}
-use Rattle.model.specs.Lend.{Lendable}
-use Rattle.model.specs.Pipe.{Pipe}
-use Rattle.model.specs.Refusal.{cannot_begin, or_else, past, refusal_of, unless, writer_state}
-use Rattle.model.specs.Round.{given}
-use Rattle.model.specs.Step.{MayLend as MachineMayLend, stepped}
+use Rattle.piper_machine.specs.Call.{has_good_draw}
+use Rattle.piper_machine.specs.declared.calls.Call.{Call}
+use Rattle.piper_machine.specs.declared.calls.Call.TheVariants as call
+use Rattle.piper_machine.specs.declared.calls.Kind.TheVariants as kind
+use Rattle.piper_machine.specs.declared.calls.Step.TheVariants.{Begin}
+use Rattle.piper_machine.specs.declared.events.Event.{Event}
+use Rattle.piper_machine.specs.declared.events.Event.TheVariants.{Answered, Began}
+use Rattle.piper_machine.specs.declared.polling.Luck.{Luck}
+use Rattle.piper_machine.specs.declared.refusals.StepRefusal.{StepRefusal}
+use Rattle.piper_machine.specs.declared.refusals.StepRefusal.TheVariants.{BadDraw, PastLent}
+use Rattle.piper_machine.specs.declared.scripted.DestAct.{DestAct}
+use Rattle.piper_machine.specs.declared.scripted.SourceAct.{SourceAct}
+use Rattle.piper_machine.specs.Lend.{Lendable}
+use Rattle.piper_machine.specs.Pipe.{Pipe}
+use Rattle.piper_machine.specs.Refusal.{cannot_begin, or_else, past, refusal_of, unless, writer_state}
+use Rattle.piper_machine.specs.Round.{given}
+use Rattle.piper_machine.specs.Step.{MayLend as MachineMayLend, stepped}
 use Rattle.one_run.specs.Line.{Opening, polls, try_fills, try_fills_with, poll_fills_bytes, poll_fills, produces, closes, drops, began}
 use Rattle.one_run.specs.OneList.{Words}
 use Rattle.one_run.specs.Reading.{ReaderAt}
 use Rattle.one_run.specs.Writing.{IsWriterNext, WriterAt, writer_begun}
 use Rattle.one_run.proofs.Fitting.{length-lent, sound}
 use Rattle.one_run.proofs.Joint.{MayLend, Chance, Fits, number_of, pipe_at}
-use Rattle.model.specs.Run.{Made}
+use Rattle.piper_machine.specs.Run.{Made}
 use Rattle.one_run.proofs.Leading.{leads-fills, Leads, leads-both, leads-none, leads-step}
 use Rattle.one_run.proofs.ReaderOpens.{good-draw, within, writer-idle-same}
 use Rattle.one_run.proofs.WriterOpens.{lends-these, closes-at, may-lend, number-is, shuts-at, stores-at}
 use Rattle.std.proofs.Common.{suc, length-append}
 use Rattle.std.proofs.lemmas.List.{append_assoc}
 use Rattle.std.proofs.Math.Seq.{set-append_seam}
-use Rattle.model_sides.specs.declared.calls.Step.TheVariants.{Put}
+use Rattle.piper_machine.specs.declared.calls.Step.TheVariants.{Put}
 use Rattle.one_run.specs.Writing.{contiguous}
 use Rattle.one_run.proofs.ReaderOpens.{below}
 use Rattle.one_run.proofs.WriterSteps.{WriterLeads}

@@ -6,8 +6,8 @@ use Rattle.piper_protocol.specs.declared.table.Action.TheVariants as does
 use Rattle.piper_protocol.specs.declared.table.Found.{Found}
 use Rattle.piper_protocol.specs.declared.table.WritePoint.{WritePoint}
 use Rattle.piper_protocol.specs.Table.{Next, ends_fill, write_action, write_after, tail_store, moved_in}
-use Rattle.model.specs.Refusal.{cannot_go, writer_state}
-use Rattle.model.specs.Step.{filled_out, lent_after, lent_at}
+use Rattle.piper_machine.specs.Refusal.{cannot_go, writer_state}
+use Rattle.piper_machine.specs.Step.{filled_out, lent_after, lent_at}
 use Rattle.one_run.specs.Writing.{HasDrawn}
 use Rattle.one_run.proofs.Joint.{writer_drawn, writer_point}
 

@@ -11,14 +11,14 @@ use Rattle.piper_protocol.specs.declared.table.TheConstants.{MOST_A_ROUND}
 use Rattle.piper_protocol.specs.declared.table.WritePoint.{WritePoint}
 use Rattle.piper_protocol.specs.declared.table.WritePoint.TheVariants as on
 use Rattle.piper_protocol.specs.Table.{write_action, write_after, writer_moved}
-use Rattle.model_sides.specs.Log.{answer_event}
-use Rattle.model_sides.specs.declared.scripted.DestAct.{DestAct}
-use Rattle.model_sides.specs.declared.scripted.SourceAct.{SourceAct}
-use Rattle.model_sides.specs.declared.scripted.SourceAct.TheVariants as source
-use Rattle.model.specs.Lend.{Lendable}
-use Rattle.model.specs.Pipe.{Pipe}
-use Rattle.model.specs.Round.{found_of, given, left_of_source, moved_by}
-use Rattle.model.specs.Source.{bytes_of}
+use Rattle.piper_machine.specs.Log.{answer_event}
+use Rattle.piper_machine.specs.declared.scripted.DestAct.{DestAct}
+use Rattle.piper_machine.specs.declared.scripted.SourceAct.{SourceAct}
+use Rattle.piper_machine.specs.declared.scripted.SourceAct.TheVariants as source
+use Rattle.piper_machine.specs.Lend.{Lendable}
+use Rattle.piper_machine.specs.Pipe.{Pipe}
+use Rattle.piper_machine.specs.Round.{found_of, given, left_of_source, moved_by}
+use Rattle.piper_machine.specs.Source.{bytes_of}
 use Rattle.one_run.specs.Line.{gave, failed}
 use Rattle.one_run.specs.OneList.{Words}
 use Rattle.one_run.specs.Reading.{ReaderAt}

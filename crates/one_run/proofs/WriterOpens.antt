@@ -11,15 +11,15 @@ use Rattle.piper_protocol.specs.declared.table.WritePoint.TheVariants as on
 use Rattle.piper_protocol.specs.declared.table.TheConstants.{MOST_A_ROUND}
 use Rattle.piper_protocol.specs.Index.{offset_of}
 use Rattle.piper_protocol.specs.Table.{write_action}
-use Rattle.model_sides.specs.declared.scripted.DestAct.{DestAct}
-use Rattle.model_sides.specs.declared.scripted.SourceAct.{SourceAct}
-use Rattle.model_sides.specs.declared.scripted.SourceAct.TheVariants as source
-use Rattle.model.specs.Lend.{Lendable}
-use Rattle.model.specs.Pipe.{Pipe}
-use Rattle.model.specs.Places.{places_left}
-use Rattle.model.specs.Round.{given, left_of_source, unspent}
-use Rattle.model.specs.Source.{bytes_of}
-use Rattle.model.specs.Step.{MayOffer, lent_at as lent_to}
+use Rattle.piper_machine.specs.declared.scripted.DestAct.{DestAct}
+use Rattle.piper_machine.specs.declared.scripted.SourceAct.{SourceAct}
+use Rattle.piper_machine.specs.declared.scripted.SourceAct.TheVariants as source
+use Rattle.piper_machine.specs.Lend.{Lendable}
+use Rattle.piper_machine.specs.Pipe.{Pipe}
+use Rattle.piper_machine.specs.Places.{places_left}
+use Rattle.piper_machine.specs.Round.{given, left_of_source, unspent}
+use Rattle.piper_machine.specs.Source.{bytes_of}
+use Rattle.piper_machine.specs.Step.{MayOffer, lent_at as lent_to}
 use Rattle.one_run.specs.OneList.{Words}
 use Rattle.one_run.specs.Reading.{ReaderAt}
 use Rattle.one_run.specs.Writing.{Source, own, these, nothing, source_of, MayGive, WriterAt, contiguous, shut_at, source_after, lent_for, most_lent, lendable, unless}

@@ -5,9 +5,9 @@ use Rattle.piper_protocol.specs.declared.table.Side.TheVariants.{Reader, Writer}
 use Rattle.piper_protocol.specs.declared.answer.Answer.{Answer}
 use Rattle.piper_protocol.specs.declared.answer.Answer.TheVariants.{Poll}
 use Rattle.piper_protocol.specs.declared.answer.Polled.TheVariants.{Ready}
-use Rattle.model.specs.Refusal.{IsIdle}
-use Rattle.model.specs.Remembered.{WaitsRegistered, WasCalled}
-use Rattle.model.specs.Wait.{Wait, wait_of}
+use Rattle.piper_machine.specs.Refusal.{IsIdle}
+use Rattle.piper_machine.specs.Remembered.{WaitsRegistered, WasCalled}
+use Rattle.piper_machine.specs.Wait.{Wait, wait_of}
 use Rattle.one_run.specs.Line.{Line}
 use Rattle.one_run.specs.Moved.{consumed, published}
 use Rattle.one_run.specs.Wide.{IsOneWideRun}

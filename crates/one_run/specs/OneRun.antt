@@ -1,11 +1,11 @@
 -- What both sides did is one accepted list of the machine's steps.
 use Rattle.std.specs.Prelude.{◌≡◌, ℕ, ◌≤◌, List, [], ◌++◌, drop}
 use Rattle.piper_protocol.specs.declared.table.Side.TheVariants.{Reader, Writer}
-use Rattle.model_sides.specs.declared.calls.Step.{Step}
-use Rattle.model.specs.Front.{Front}
-use Rattle.model.specs.Lawful.{IsLawful}
-use Rattle.model.specs.Pipe.{Pipe, fresh}
-use Rattle.model.specs.Run.{Runs}
+use Rattle.piper_machine.specs.declared.calls.Step.{Step}
+use Rattle.piper_machine.specs.Front.{Front}
+use Rattle.piper_machine.specs.Lawful.{IsLawful}
+use Rattle.piper_machine.specs.Pipe.{Pipe, fresh}
+use Rattle.piper_machine.specs.Run.{Runs}
 use Rattle.one_run.specs.Line.{Line}
 use Rattle.one_run.specs.Moved.{consumed, published}
 use Rattle.one_run.specs.OneList.{By, Words, did, words_of, AreInOrder, AreListed, AreOneList, FindsCount}

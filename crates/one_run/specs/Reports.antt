@@ -3,12 +3,12 @@ use Rattle.std.specs.Prelude.{ℕ, ◌-◌, List, [], ◌∷◌, ◌++◌, lengt
 use Rattle.piper_protocol.specs.declared.answer.Answer.TheVariants.{Lent}
 use Rattle.piper_protocol.specs.declared.table.Side.{Side}
 use Rattle.piper_protocol.specs.declared.table.Side.TheVariants.{Reader, Writer}
-use Rattle.model_sides.specs.Log.{answer_event}
-use Rattle.model_sides.specs.declared.calls.Kind.{Kind}
-use Rattle.model_sides.specs.declared.calls.Kind.TheVariants as kind
-use Rattle.model_sides.specs.declared.events.Event.{Event}
-use Rattle.model_sides.specs.declared.events.Event.TheVariants.{Answered, Began, Closed, Consumed, Loaded, Published, Registered, Woken}
-use Rattle.model_sides.specs.declared.events.Seen.TheVariants as seen
+use Rattle.piper_machine.specs.Log.{answer_event}
+use Rattle.piper_machine.specs.declared.calls.Kind.{Kind}
+use Rattle.piper_machine.specs.declared.calls.Kind.TheVariants as kind
+use Rattle.piper_machine.specs.declared.events.Event.{Event}
+use Rattle.piper_machine.specs.declared.events.Event.TheVariants.{Answered, Began, Closed, Consumed, Loaded, Published, Registered, Woken}
+use Rattle.piper_machine.specs.declared.events.Seen.TheVariants as seen
 use Rattle.one_run.specs.Line.{Opening, Line, polls, try_drains, try_drains_with, poll_drains_bytes, poll_drains, consumes, try_fills, try_fills_with, poll_fills_bytes, poll_fills, produces, closes, drops, began, loaded_head, loaded_tail, loaded_closed, stored_head, stored_tail, stored_closed, swapped, yielded, woke}
 use Rattle.one_run.specs.OneList.{By, by, did}
 use Rattle.one_run.specs.Reading.{ReaderAt, reader_answers, reader_at}

@@ -2,25 +2,25 @@
 use Rattle.std.specs.Prelude.{◌≡◌, ℕ, List, [], ◌∷◌, Bool, true, false}
 use Rattle.piper_protocol.specs.declared.table.Side.{Side}
 use Rattle.piper_protocol.specs.declared.table.Side.TheVariants.{Reader, Writer}
-use Rattle.model_sides.specs.declared.calls.Call.TheVariants.{TryDrain, TryFill}
-use Rattle.model_sides.specs.declared.calls.Step.{Step}
-use Rattle.model_sides.specs.declared.calls.Step.TheVariants.{Begin}
-use Rattle.model_sides.specs.declared.scripted.DestAct.{DestAct}
-use Rattle.model_sides.specs.declared.scripted.SourceAct.{SourceAct}
-use Rattle.model.specs.declared.destination.Destination.TheVariants.{Acts}
-use Rattle.model_sides.specs.declared.events.Event.{Event}
-use Rattle.model.specs.Action.{index_loaded_by}
-use Rattle.model.specs.Awake.{IsAwake}
-use Rattle.model.specs.Conservation.{IsConserved}
-use Rattle.model.specs.Disjoint.{IsDisjoint}
-use Rattle.model.specs.Final.{IsFinal}
-use Rattle.model.specs.Honest.{IsHonest}
-use Rattle.model.specs.Pipe.{Pipe, fresh}
-use Rattle.model.specs.Refusal.{IsIdle}
-use Rattle.model.specs.Remembered.{AreRemembered}
-use Rattle.model.specs.Run.{Made}
-use Rattle.model.specs.Sound.{IsSound}
-use Rattle.model.specs.StopsAtClose.{StopsAtClose}
+use Rattle.piper_machine.specs.declared.calls.Call.TheVariants.{TryDrain, TryFill}
+use Rattle.piper_machine.specs.declared.calls.Step.{Step}
+use Rattle.piper_machine.specs.declared.calls.Step.TheVariants.{Begin}
+use Rattle.piper_machine.specs.declared.scripted.DestAct.{DestAct}
+use Rattle.piper_machine.specs.declared.scripted.SourceAct.{SourceAct}
+use Rattle.piper_machine.specs.declared.destination.Destination.TheVariants.{Acts}
+use Rattle.piper_machine.specs.declared.events.Event.{Event}
+use Rattle.piper_machine.specs.Action.{index_loaded_by}
+use Rattle.piper_machine.specs.Awake.{IsAwake}
+use Rattle.piper_machine.specs.Conservation.{IsConserved}
+use Rattle.piper_machine.specs.Disjoint.{IsDisjoint}
+use Rattle.piper_machine.specs.Final.{IsFinal}
+use Rattle.piper_machine.specs.Honest.{IsHonest}
+use Rattle.piper_machine.specs.Pipe.{Pipe, fresh}
+use Rattle.piper_machine.specs.Refusal.{IsIdle}
+use Rattle.piper_machine.specs.Remembered.{AreRemembered}
+use Rattle.piper_machine.specs.Run.{Made}
+use Rattle.piper_machine.specs.Sound.{IsSound}
+use Rattle.piper_machine.specs.StopsAtClose.{StopsAtClose}
 use Rattle.one_run.specs.Line.{Line, try_drains_with, try_fills_with, began, met_head, met_tail}
 use Rattle.one_run.specs.OneList.{By, did, words_of, AreInOrder}
 use Rattle.one_run.specs.OneRun.{IsLeft}

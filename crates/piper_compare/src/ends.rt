@@ -2,8 +2,8 @@
 ghost use Rattle.std.specs.Prelude.{◌≡◌, ◌-◌, ◌^◌, ◌≤◌, length, IfOk, ⊤};
 ghost use Rattle.piper.specs.Like.{Counts};
 
-use model_sides::scripted::{DestAct, SourceAct};
 use piper::like::{ReadLike, WriteLike};
+use piper_machine::scripted::{DestAct, SourceAct};
 use piper_protocol::answer::Failed;
 use std::io;
 use std::io::{ErrorKind, Read, Write};

@@ -1,7 +1,7 @@
 //! Plays commands on the handles of a pipe.
 use crate::halt::Halt;
 use crate::pair::Pair;
-use model_sides::calls::{Call, Step};
+use piper_machine::calls::{Call, Step};
 use piper_protocol::table::Side;
 use piper_script::command::{Command, Refusal};
 use piper_script::parser::Draws;

@@ -5,7 +5,7 @@ ghost use Rattle.piper_script.specs.Played.{IsInLimits};
 
 use crate::halt::{Halt, finish};
 use crate::hands::{Hands, MOST_OF_ONE_LENGTH, is_open_lend};
-use model_sides::calls::Call;
+use piper_machine::calls::Call;
 use piper_script::command::{Command, MOST};
 use piper_script::number::number;
 use piper_script::parser::parse;

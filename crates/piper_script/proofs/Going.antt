@@ -1,11 +1,11 @@
 -- One step more of a side's open call.
 use Rattle.std.proofs.Common.{◌≡◌, ℕ, zero, suc, ◌+◌, List, [], ◌∷◌, ◌++◌, replicate, refl, ap, ◌∙◌, sym, add-one}
 use Rattle.piper_protocol.specs.declared.table.Side.{Side}
-use Rattle.model_sides.specs.declared.calls.Step.TheVariants.{Go}
-use Rattle.model_sides.specs.declared.events.Event.{Event}
-use Rattle.model.specs.Pipe.{Pipe}
-use Rattle.model.specs.Run.{Made}
-use Rattle.model.proofs.Runs.{runs_more}
+use Rattle.piper_machine.specs.declared.calls.Step.TheVariants.{Go}
+use Rattle.piper_machine.specs.declared.events.Event.{Event}
+use Rattle.piper_machine.specs.Pipe.{Pipe}
+use Rattle.piper_machine.specs.Run.{Made}
+use Rattle.piper_machine.proofs.Runs.{runs_more}
 use Rattle.piper_script.specs.Steps.{Goes}
 
 replicate-append : {A : Type 0} (n : ℕ) (x : A) → replicate n x ++ x ∷ [] ≡ replicate (n + 1) x

@@ -1,11 +1,11 @@
 -- What a command does to the pipe that is played on.
 use Rattle.std.specs.Prelude.{◌≡◌, ℕ, List, [], Option, None, Some}
-use Rattle.model_sides.specs.declared.calls.Call.{Call}
+use Rattle.piper_machine.specs.declared.calls.Call.{Call}
 use Rattle.piper_protocol.specs.Index.{IsCapacity}
 use Rattle.piper_protocol.specs.declared.answer.Answer.{Answer}
-use Rattle.model_sides.specs.declared.events.Event.{Event}
-use Rattle.model.specs.Pipe.{Pipe, fresh}
-use Rattle.model.specs.Run.{Made}
+use Rattle.piper_machine.specs.declared.events.Event.{Event}
+use Rattle.piper_machine.specs.Pipe.{Pipe, fresh}
+use Rattle.piper_machine.specs.Run.{Made}
 use Rattle.piper_script.specs.declared.command.Command.{Command}
 use Rattle.piper_script.specs.declared.command.Command.TheVariants.{Pipe as NewPipe, Peek, Whole, Step, Go}
 use Rattle.piper_script.specs.Steps.{GoesAs}

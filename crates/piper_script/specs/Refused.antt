@@ -1,13 +1,13 @@
 -- Why a line that says a command is refused, and what was done before.
 use Rattle.std.specs.Prelude.{◌≡◌, List, Option, None, Some}
 use Rattle.piper_protocol.specs.declared.table.Side.{Side}
-use Rattle.model_sides.specs.declared.calls.Step.{Step}
-use Rattle.model_sides.specs.declared.calls.Step.TheVariants as step
-use Rattle.model_sides.specs.declared.events.Event.{Event}
-use Rattle.model_sides.specs.declared.refusals.StepRefusal.{StepRefusal}
-use Rattle.model_sides.specs.declared.refusals.StepRefusal.TheVariants as reason
-use Rattle.model.specs.Pipe.{Pipe}
-use Rattle.model.specs.Refusal.{refusal_of}
+use Rattle.piper_machine.specs.declared.calls.Step.{Step}
+use Rattle.piper_machine.specs.declared.calls.Step.TheVariants as step
+use Rattle.piper_machine.specs.declared.events.Event.{Event}
+use Rattle.piper_machine.specs.declared.refusals.StepRefusal.{StepRefusal}
+use Rattle.piper_machine.specs.declared.refusals.StepRefusal.TheVariants as reason
+use Rattle.piper_machine.specs.Pipe.{Pipe}
+use Rattle.piper_machine.specs.Refusal.{refusal_of}
 use Rattle.piper_script.specs.declared.command.Steps.{Steps}
 use Rattle.piper_script.specs.declared.command.Command.{Command}
 use Rattle.piper_script.specs.declared.command.Command.TheVariants.{Pipe as NewPipe, Peek, Whole, Step as OneStep, Go}

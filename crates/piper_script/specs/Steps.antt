@@ -1,12 +1,12 @@
 -- Steps of one side's open call, made one after another.
 use Rattle.std.specs.Prelude.{◌≡◌, ◌≢◌, ◌≤◌, ◌<◌, ℕ, List, replicate}
 use Rattle.piper_protocol.specs.declared.table.Side.{Side}
-use Rattle.model_sides.specs.declared.calls.Step.TheVariants.{Go}
-use Rattle.model_sides.specs.declared.events.Event.{Event}
-use Rattle.model_sides.specs.declared.calls.SideState.TheVariants.{Busy}
-use Rattle.model.specs.Pipe.{Pipe}
-use Rattle.model.specs.Refusal.{state_of}
-use Rattle.model.specs.Run.{Runs}
+use Rattle.piper_machine.specs.declared.calls.Step.TheVariants.{Go}
+use Rattle.piper_machine.specs.declared.events.Event.{Event}
+use Rattle.piper_machine.specs.declared.calls.SideState.TheVariants.{Busy}
+use Rattle.piper_machine.specs.Pipe.{Pipe}
+use Rattle.piper_machine.specs.Refusal.{state_of}
+use Rattle.piper_machine.specs.Run.{Runs}
 use Rattle.piper_script.specs.declared.command.Steps.{Steps}
 use Rattle.piper_script.specs.declared.command.Steps.TheVariants.{Count, ToAnswer}
 

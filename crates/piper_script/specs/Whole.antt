@@ -1,17 +1,17 @@
 -- A call made whole: when it may be made, what it returns, and the pipe that it leaves.
 use Rattle.std.specs.Prelude.{◌≡◌, ℕ, ◌<◌, ◌≤◌, length, Ok}
-use Rattle.model_sides.specs.Call.{side_of}
-use Rattle.model_sides.specs.declared.calls.Call.{Call}
-use Rattle.model_sides.specs.declared.calls.Call.TheVariants as call
-use Rattle.model_sides.specs.declared.calls.Step.TheVariants.{Begin}
+use Rattle.piper_machine.specs.Call.{side_of}
+use Rattle.piper_machine.specs.declared.calls.Call.{Call}
+use Rattle.piper_machine.specs.declared.calls.Call.TheVariants as call
+use Rattle.piper_machine.specs.declared.calls.Step.TheVariants.{Begin}
 use Rattle.piper_protocol.specs.declared.answer.Answer.{Answer}
 use Rattle.piper_protocol.specs.declared.answer.Answer.TheVariants.{Count, Copy}
 use Rattle.piper_protocol.specs.declared.answer.Polled.TheVariants.{Ready}
-use Rattle.model.specs.Pipe.{Pipe}
-use Rattle.model.specs.Places.{peeked_count}
-use Rattle.model.specs.Refusal.{IsIdle}
-use Rattle.model.specs.Step.{MayLend}
-use Rattle.model.specs.BySteps.{whole}
+use Rattle.piper_machine.specs.Pipe.{Pipe}
+use Rattle.piper_machine.specs.Places.{peeked_count}
+use Rattle.piper_machine.specs.Refusal.{IsIdle}
+use Rattle.piper_machine.specs.Step.{MayLend}
+use Rattle.piper_machine.specs.BySteps.{whole}
 
 -- the call asks for no more than there is, and draws below 100
 abbrev pub IsWithin : Call → Pipe → Type 0

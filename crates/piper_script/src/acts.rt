@@ -4,7 +4,7 @@ use crate::command::{MOST, Refusal};
 use crate::list::List;
 use crate::number::number;
 use crate::stop::Stop;
-use model::scripted::{ActList, DestAct, SourceAct};
+use piper_machine::scripted::{ActList, DestAct, SourceAct};
 use std::alloc::Global;
 
 /// The acts of a source that are written right: their text.

@@ -1,8 +1,8 @@
 //! How the events of a step are printed.
 
 use crate::reply::Reply;
-use model::events::{Event, Seen};
-use model::table::Side;
+use piper_machine::events::{Event, Seen};
+use piper_machine::table::Side;
 use std::alloc::AllocError;
 use std::fmt::Write;
 

@@ -3,7 +3,7 @@
 use crate::command::{MOST, Refusal};
 use crate::number::{both, byte, is_at_most, number};
 use crate::stop::Stop;
-use model::bytes::Bytes;
+use piper_machine::bytes::Bytes;
 use std::alloc::{AllocError, Global};
 
 /// One item of a list.

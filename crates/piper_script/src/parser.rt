@@ -8,9 +8,9 @@ use crate::command::{Command, MOST, Refusal, Steps};
 use crate::list::List;
 use crate::number::{both, byte, name, number};
 use crate::stop::Stop;
-use model::calls::{Call, Step};
-use model::polling::Luck;
-use model::table::{Query, Side};
+use piper_machine::calls::{Call, Step};
+use piper_machine::polling::Luck;
+use piper_machine::table::{Query, Side};
 use std::alloc::Global;
 use std::str;
 

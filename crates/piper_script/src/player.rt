@@ -1,7 +1,7 @@
 //! Plays commands on a machine.
 
 ghost use Rattle.std.specs.Prelude.{◌≡◌, [], length, None, IfOk, IfErr, OnErr, OnOk};
-ghost use Rattle.model_sides.specs.Log.{events};
+ghost use Rattle.piper_machine.specs.Log.{events};
 ghost use Rattle.piper_script.specs.Played.{IsInLimits, IsOneMove, MakesWhole, NeedsPipe, OnPipe, Plays, PlaysUnlogged};
 ghost use Rattle.piper_script.specs.Refused.{IsRefused, RefusesLine, RefusesStep};
 
@@ -10,10 +10,10 @@ use crate::reply::Reply;
 use crate::steps::make_steps;
 use crate::stop::Stop;
 use crate::whole::{answer, drained, room_for};
-use model::answer::Answer;
-use model::calls::{Call, Step};
-use model::events::Log;
-use model::machine::Machine;
+use piper_machine::answer::Answer;
+use piper_machine::calls::{Call, Step};
+use piper_machine::events::Log;
+use piper_machine::machine::Machine;
 use std::alloc::{AllocError, Global};
 use std::marker::Model;
 
@@ -28,7 +28,7 @@ pub struct Player {
 
 impl Model for Player {
     ghost use Rattle.std.specs.Prelude.{Option};
-    ghost use Rattle.model.specs.Pipe.{Pipe};
+    ghost use Rattle.piper_machine.specs.Pipe.{Pipe};
 
     ghost Value = { Option Pipe };
 

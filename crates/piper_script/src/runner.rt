@@ -8,9 +8,9 @@ use crate::parser::{Draws, MOST_OF_A_LINE, is_silent, parse};
 use crate::reply::Reply;
 use crate::stop::Stop;
 use crate::stream::{Lines, stopped, write_reply};
-use model::calls::Step;
-use model::machine;
-use model::refusals::RunRefusal;
+use piper_machine::calls::Step;
+use piper_machine::machine;
+use piper_machine::refusals::RunRefusal;
 use std::alloc::Global;
 use std::io::{Read, Write};
 

@@ -1,16 +1,16 @@
 //! Steps of a side's open call.
 
 ghost use Rattle.std.specs.Prelude.{◌≡◌, OnOk, OnErr, IfErr};
-ghost use Rattle.model_sides.specs.Log.{events};
-ghost use Rattle.model.specs.Run.{Made, IsRefusal};
+ghost use Rattle.piper_machine.specs.Log.{events};
+ghost use Rattle.piper_machine.specs.Run.{Made, IsRefusal};
 ghost use Rattle.piper_script.specs.Steps.{Goes, GoesAs, GoesBefore, GoesFewer};
 
 use crate::command::Steps;
-use model::calls::{SideState, Step};
-use model::events::Log;
-use model::machine::Machine;
-use model::refusals::StepRefusal;
-use model::table::Side;
+use piper_machine::calls::{SideState, Step};
+use piper_machine::events::Log;
+use piper_machine::machine::Machine;
+use piper_machine::refusals::StepRefusal;
+use piper_machine::table::Side;
 
 /// Makes so many steps of the side. Those before a refused one are made.
 pub fn make_steps(

@@ -4,8 +4,8 @@ ghost use Rattle.std.specs.Prelude.{◌≡◌};
 ghost use Rattle.piper_script.specs.declared.stop.Stop.TheVariants.{Refused, Memory};
 
 use crate::command::Refusal;
-use model::memory::OutOfMemory;
-use model::refusals::StepRefusal;
+use piper_machine::OutOfMemory;
+use piper_machine::refusals::StepRefusal;
 use std::alloc::AllocError;
 
 /// Why a replay stops before the end of its script.

@@ -2,11 +2,11 @@
 
 use crate::reply::Reply;
 use crate::stop::Stop;
-use model::answer::Answer;
-use model::calls::{SideState, Step};
-use model::events::{Event, Log};
-use model::machine::Machine;
-use model::table::Side;
+use piper_machine::answer::Answer;
+use piper_machine::calls::{SideState, Step};
+use piper_machine::events::{Event, Log};
+use piper_machine::machine::Machine;
+use piper_machine::table::Side;
 use std::alloc::{AllocError, Global};
 use std::fmt::Write;
 

@@ -1,13 +1,13 @@
 //! Calls made whole: when a line may make one, and what it returns.
 
 ghost use Rattle.std.specs.Prelude.{◌≡◌, ◌++◌, length, take, drop};
-ghost use Rattle.model.specs.BySteps.{unfailing};
+ghost use Rattle.piper_machine.specs.BySteps.{unfailing};
 ghost use Rattle.piper_script.specs.Whole.{IsReady, IsSilent, Makes, drained_by, room_for};
 
-use model::answer::{Answer, Failed, Polled};
-use model::calls::Call;
-use model::machine::Machine;
-use model::table::Query;
+use piper_machine::answer::{Answer, Failed, Polled};
+use piper_machine::calls::Call;
+use piper_machine::machine::Machine;
+use piper_machine::table::Query;
 
 /// How many places the bytes need that the call moves out of the pipe.
 pub fn room_for(call: &Call) -> usize

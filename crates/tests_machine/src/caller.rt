@@ -1,8 +1,8 @@
 //! What the contracts leave open: that there is memory, and that a list of steps is accepted.
 use crate::compare::same;
-use model::calls::{Call, SideState, Step};
-use model::table::{Query, Side};
-use model_examples::{len_alone, made_by_the_laws, through};
+use piper_machine::calls::{Call, SideState, Step};
+use piper_machine::examples::{len_alone, made_by_the_laws, through};
+use piper_machine::table::{Query, Side};
 use std::test::Fail;
 
 #[test]

@@ -1,16 +1,16 @@
 //! What no contract says: that memory is granted, and that want of memory changes nothing.
 ghost use Rattle.std.specs.Prelude.{◌≡◌};
 ghost use Rattle.piper_protocol.specs.Index.{IsCapacity};
-ghost use Rattle.model.specs.Pipe.{fresh};
+ghost use Rattle.piper_machine.specs.Pipe.{fresh};
 
 use crate::compare::same;
-use model::machine::{Machine, run};
-use model_sides::bytes::Bytes;
-use model_sides::calls::{Call, Step};
-use model_sides::events::{Event, Log};
-use model_sides::polling::Luck;
-use model_sides::refusals::{RunRefusal, StepRefusal};
-use model_sides::scripted::{ActList, SourceAct};
+use piper_machine::bytes::Bytes;
+use piper_machine::calls::{Call, Step};
+use piper_machine::events::{Event, Log};
+use piper_machine::machine::{Machine, run};
+use piper_machine::polling::Luck;
+use piper_machine::refusals::{RunRefusal, StepRefusal};
+use piper_machine::scripted::{ActList, SourceAct};
 use piper_protocol::memory::OutOfMemory;
 use piper_protocol::table::Side;
 use std::alloc::Global;

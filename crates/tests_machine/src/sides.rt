@@ -1,7 +1,7 @@
 //! What no contract says: that memory is granted, and what an error prints.
 use crate::compare::same;
-use model_sides::bytes::Bytes;
-use model_sides::events::{Event, Log, answered};
+use piper_machine::bytes::Bytes;
+use piper_machine::events::{Event, Log, answered};
 use piper_protocol::answer::Answer;
 use piper_protocol::memory::OutOfMemory;
 use piper_protocol::table::Side;

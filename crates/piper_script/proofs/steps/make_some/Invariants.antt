@@ -1,4 +1,4 @@
-use Rattle.model_sides.specs.Log.{events}
+use Rattle.piper_machine.specs.Log.{events}
 use Rattle.piper_script.specs.Steps.{Goes}
 use Rattle.piper_script.proofs.steps.make_some.Given as goal
 

@@ -1,5 +1,5 @@
 use Rattle.std.proofs.Common.{rules, arith, ◌+◌}
-use Rattle.model_sides.specs.Log.{events}
+use Rattle.piper_machine.specs.Log.{events}
 use Rattle.piper_script.proofs.Going.{goes_more}
 use Rattle.piper_script.proofs.steps.make_to_answer.Goals as goal
 

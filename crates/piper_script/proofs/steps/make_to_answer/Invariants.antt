@@ -1,7 +1,7 @@
 use Rattle.std.proofs.Common.{◌≡◌, ◌≤◌}
-use Rattle.model_sides.specs.Log.{events}
-use Rattle.model_sides.specs.declared.calls.SideState.TheVariants.{Busy}
-use Rattle.model.specs.Refusal.{state_of}
+use Rattle.piper_machine.specs.Log.{events}
+use Rattle.piper_machine.specs.declared.calls.SideState.TheVariants.{Busy}
+use Rattle.piper_machine.specs.Refusal.{state_of}
 use Rattle.piper_script.specs.Steps.{Goes}
 use Rattle.piper_script.proofs.steps.make_to_answer.Given as goal
 

@@ -1,5 +1,0 @@
-use Rattle.model.proofs.Moves.{lend_length-Lendable}
-use Rattle.model.proofs.machine.Machine.lend.Goals as goal
-
-pub returns-clause-bounds : goal.returns-clause-bounds
-returns-clause-bounds c = rw (c.lend.ensures.count, ← c.self.view_is) (lend_length-Lendable c.self.inside c.self.invariant c.args.most)

@@ -1,0 +1,303 @@
+-- A step of a copying call leaves what remains of it, and it brings the answer nearer.
+use Rattle.std.proofs.Common.{◌≡◌, ℕ, ◌+◌, ◌-◌, ◌<◌, ◌≤◌, min, List, [], ◌∷◌, ◌++◌, take, drop, length, Bool, true, false, Option, None, Some, ◌==◌, is_some, refl, sym, ap, ◌∙◌, arith, Result, Ok, Err, length-take-le}
+use Rattle.std.proofs.lemmas.Bool.Decides.{nat_tests}
+use Rattle.std.proofs.lemmas.List.{drop-drop, take_at}
+use Rattle.piper_protocol.specs.declared.table.Side.TheVariants.{Reader, Writer}
+use Rattle.piper_protocol.specs.declared.answer.Polled.TheVariants.{Ready}
+use Rattle.piper_protocol.specs.declared.answer.Failed.{Failed}
+use Rattle.piper_machine.specs.declared.scripted.DestAct.{DestAct}
+use Rattle.piper_machine.specs.declared.scripted.DestAct.TheVariants as dest
+use Rattle.piper_machine.specs.declared.scripted.SourceAct.{SourceAct}
+use Rattle.piper_machine.specs.declared.scripted.SourceAct.TheVariants as source
+use Rattle.piper_protocol.specs.declared.table.TheConstants.{MOST_A_ROUND}
+use Rattle.piper_protocol.specs.declared.table.Form.{Form}
+use Rattle.piper_protocol.specs.declared.table.Form.TheVariants.{Try, Polling}
+use Rattle.piper_protocol.specs.declared.table.Purpose.TheVariants as purpose
+use Rattle.piper_protocol.specs.declared.table.AfterRead.TheVariants as after_read
+use Rattle.piper_protocol.specs.declared.table.AfterWrite.TheVariants as after_write
+use Rattle.piper_protocol.specs.declared.table.ReadPoint.{ReadPoint}
+use Rattle.piper_protocol.specs.declared.table.ReadPoint.TheVariants as at
+use Rattle.piper_protocol.specs.declared.table.WritePoint.{WritePoint}
+use Rattle.piper_protocol.specs.declared.table.WritePoint.TheVariants as on
+use Rattle.piper_protocol.specs.Index.{offset_of}
+use Rattle.piper_machine.specs.Open.{is_granted}
+use Rattle.piper_protocol.specs.Table.{Next, goes_on, count_answer, failed_answer, write_action, reader_looked, reader_looked_again, reader_registered, reader_is_true, reader_moved, writer_taken, read_after, writer_is_open, writer_looked, writer_looked_again, writer_registered, writer_is_true, writer_moved, writer_rounds, reader_taken, tail_store}
+use Rattle.piper_machine.specs.declared.destination.Destination.{Destination}
+use Rattle.piper_machine.specs.declared.destination.Destination.TheVariants.{Slice, Acts}
+use Rattle.piper_machine.specs.Pipe.{Pipe}
+use Rattle.piper_machine.specs.Move.{with_waker, consumed, published, writer_woken, reader_woken}
+use Rattle.piper_machine.specs.Copy.{Copied, answered, waker_after, woken_after, drained, filled, unlent}
+use Rattle.piper_machine.specs.Scripted.{drain_moves_to, taken_by, fill_moves_more}
+use Rattle.piper_machine.specs.Round.{taken, found_of, unspent}
+use Rattle.piper_machine.specs.Action.{index_loaded_by, registered_in, round_count, destination_called}
+use Rattle.piper_machine.specs.Lend.{Lendable}
+use Rattle.piper_machine.specs.Step.{Stepped, stepped, filled_out, MayOffer}
+use Rattle.piper_machine.specs.declared.calls.Step.TheVariants.{Go}
+use Rattle.piper_machine.specs.Alone.{Ended, heard, moved_answer, reader_left, reader_ended, reader_alone, reader_moves_alone, is_draining, reader_looks_alone, reader_again_alone, reader_granted_alone, reader_done_alone, reader_takes_alone, writer_ended, writer_filled, writer_open_alone, writer_looks_alone, writer_granted_alone, writer_again_alone, writer_takes_alone, writer_done_alone, writer_rounds_alone, writer_alone, writer_moves_alone, is_filling}
+use Rattle.piper_machine.proofs.Indices.{place_below}
+use Rattle.piper_machine.proofs.Alone.{reader_rest, read_step, reader_rest_at, writer_rest, writer_rest_at}
+use Rattle.piper_machine.proofs.Rounds.{waker_after-twice, woken_after-twice, drained_nothing, filled_nothing}
+use Rattle.piper_machine.proofs.Acts.{take-goes_on, take-ends, give-part, give-ends, give-fails, give-none, give-nothing, some_of}
+
+-- the look of a drain
+
+looks-rest : (none : Bool) (form : Form) (p : Pipe) → reader_looks_alone none (purpose.Copy form) (record p { reader = at.Idle }) ≡ reader_rest_at (goes_on (reader_looked none (purpose.Copy form))) p
+looks-rest true Try p = refl
+looks-rest true (Polling drawn) p = refl
+looks-rest false Try p = refl
+looks-rest false (Polling drawn) p = refl
+
+registers-rest : (granted : Bool) (form : Form) (p : Pipe) → reader_granted_alone granted (purpose.Copy form) (record p { reader = at.Idle }) ≡ reader_rest_at (reader_registered granted (purpose.Copy form)) p
+registers-rest true form p = refl
+registers-rest false form p = refl
+
+again-rest : (none was_closed : Bool) (form : Form) (p : Pipe) → reader_again_alone none (purpose.Copy form) was_closed (record p { reader = at.Idle }) ≡ reader_rest_at (reader_looked_again none (purpose.Copy form) was_closed) p
+again-rest true was_closed form p = refl
+again-rest false was_closed Try p = refl
+again-rest false was_closed (Polling drawn) p = refl
+
+takes-rest : (form : Form) (p : Pipe) → reader_takes_alone (purpose.Copy form) (record p { reader = at.Idle }) ≡ reader_rest_at (reader_is_true (purpose.Copy form)) (record p { reader_waker = None; reader_call = record p.reader_call { taken = p.reader_waker } })
+takes-rest Try p = refl
+takes-rest (Polling true) p = refl
+takes-rest (Polling false) p = refl
+
+-- the wake of a round
+wakes-rest : (form : Form) (sum : ℕ) (name : Option ℕ) (p : Pipe) → reader_done_alone (after_read.Round form sum) (record p { reader = at.Idle; writer_waker = None; woken = with_waker p.woken name }) ≡ reader_rest_at (writer_taken (after_read.Round form sum) (is_some name)) (record p { writer_waker = None; reader_call = record p.reader_call { taken = name } })
+wakes-rest form sum None p = refl
+wakes-rest form sum (Some name) p = refl
+
+-- a round that moves some bytes wakes the writer
+woken-drained : (n : ℕ) (p : Pipe) → (n == 0) ≡ false → drained n p ≡ writer_woken (consumed n p)
+woken-drained n p some =
+    let waker : waker_after n p.writer_waker ≡ None = rw some refl in
+    let woken : woken_after n p.woken p.writer_waker ≡ with_waker p.woken p.writer_waker = rw some refl in
+    λ j. record (consumed n p) { writer_waker = waker j; woken = woken j }
+
+-- the first part of the bytes, then the rest
+offset_of-parts : (c s m n : ℕ) → s < c → s + m ≤ c → 1 ≤ m → m + n ≤ c → offset_of c (offset_of c (s + m) + n) ≡ offset_of c (s + (m + n))
+offset_of-parts c s m n start flat some within = grind (arith, nat_tests)
+
+drained-parts : (m n : ℕ) (p : Pipe) → p.start < p.capacity → p.start + m ≤ p.capacity → 1 ≤ m → m + n ≤ p.capacity → drained n (drained m p) ≡ drained (m + n) p
+drained-parts m n p start flat some within =
+    let known : p.known - m - n ≡ p.known - (m + n) = omega arith in
+    let bytes = drop-drop n m p.unread in
+    let place = offset_of-parts p.capacity p.start m n start flat some within in
+    let waker = waker_after-twice m n p.writer_waker in
+    let woken = woken_after-twice m n p.woken p.writer_waker in
+    cc
+
+count-answer : (form : Form) (sum : ℕ) → moved_answer form (Ready (Ok sum)) ≡ count_answer form sum
+count-answer Try sum = refl
+count-answer (Polling drawn) sum = refl
+
+-- one call of the destination
+module _ (form : Form) (sum : ℕ) (p : Pipe) (start : p.start < p.capacity) (known : p.known ≤ p.capacity) where
+  abbrev left : Pipe
+  left = reader_left at.Idle p
+
+  abbrev moving : Copied (Result ℕ Failed) → Ended
+  moving moved = record { answer = moved_answer form moved.answer; pipe = moved.pipe }
+
+  abbrev counted : ℕ → Pipe → Ended
+  counted count q = record { answer = moved_answer form (Ready (Ok count)); pipe = q }
+
+  ended : counted sum left ≡ reader_ended at.Idle (count_answer form sum) p
+  ended = ap (λ answer. record { answer = answer; pipe = left }) (count-answer form sum)
+
+  slice : (size : ℕ) (none : Bool) → (min size (round_count p) == 0) ≡ none → let n = min size (round_count p) in
+      counted (sum + min size p.known) (drained (min size p.known) left) ≡ reader_rest_at (reader_moved none n form sum) (record p { destination = Slice (size - n) })
+  slice size true test =
+      let none : min size p.known ≡ 0 = grind (arith, nat_tests) in
+      let same : sum + 0 ≡ sum = omega arith in
+      ap (λ (n : ℕ). counted (sum + n) (drained n left)) none
+      ∙ ap (λ (n : ℕ). counted n (drained 0 left)) same
+      ∙ ap (λ (q : Pipe). counted sum q) (drained_nothing left start)
+      ∙ ended
+  slice size false test =
+      let n = min size (round_count p) in
+      let k = min (size - n) (p.known - n) in
+      let some : 1 ≤ n = grind (arith, nat_tests) in
+      let all : n + k ≡ min size p.known = omega arith in
+      let sums : sum + n + k ≡ sum + min size p.known = omega arith in
+      sym (
+      ap (λ (q : Pipe). counted (sum + n + k) (drained k q)) (sym (woken-drained n left test))
+      ∙ ap (λ (q : Pipe). counted (sum + n + k) q) (drained-parts n k left start (omega arith) some (omega arith))
+      ∙ ap (λ (m : ℕ). counted (sum + n + k) (drained m left)) all
+      ∙ ap (λ (m : ℕ). counted m (drained (min size p.known) left)) sums
+      )
+
+  act : (most : ℕ) (acts : List DestAct) (none : Bool) → (taken_by most left == 0) ≡ none → let n = taken_by most left in
+      moving (drain_moves_to (dest.Take most ∷ acts) sum left) ≡ reader_rest_at (reader_moved none n form sum) (record p { destination = Acts acts })
+  act most acts true test = ap moving (take-ends most sum (taken_by most left) acts left refl (grind (arith, nat_tests))) ∙ ended
+  act most acts false test =
+      let n = taken_by most left in
+      ap moving (take-goes_on most sum n acts left refl (some_of n test))
+      ∙ ap (λ (q : Pipe). moving (drain_moves_to acts (sum + n) q)) (woken-drained n left test)
+
+calls-rest : (destination : Destination) (form : Form) (sum : ℕ) (p : Pipe) → p.start < p.capacity → p.known ≤ p.capacity
+    → let q = record p { destination = destination } in reader_moves_alone form sum (record q { reader = at.Idle }) ≡ reader_rest_at (read_after p.capacity (at.CallDestination form sum) (found_of (taken (round_count p) destination))) (destination_called q)
+calls-rest (Slice size) form sum p start known = slice form sum p start known size (min size (round_count p) == 0) refl
+calls-rest (Acts []) Try sum p start known = refl
+calls-rest (Acts []) (Polling drawn) sum p start known = refl
+calls-rest (Acts (dest.Fail ∷ acts)) Try sum p start known = refl
+calls-rest (Acts (dest.Fail ∷ acts)) (Polling drawn) sum p start known = refl
+calls-rest (Acts (dest.Take most ∷ acts)) form sum p start known = act form sum p start known most acts (min most (round_count p) == 0) refl
+
+pub drain-rest : (point : ReadPoint) (p : Pipe) → is_draining point ≡ true → p.start < p.capacity → p.known ≤ p.capacity → let s = read_step point p in reader_alone point p ≡ reader_rest s.answer s.pipe
+drain-rest (at.LookTail (purpose.Copy form)) p drains start known = looks-rest (length p.unread == 0) form (index_loaded_by Reader p)
+drain-rest (at.LookRegister (purpose.Copy form)) p drains start known = registers-rest (is_granted p.reader_call.context) form (record p { reader_waker = registered_in p.reader_call.context p.reader_waker })
+drain-rest (at.LookClosed (purpose.Copy form)) p drains start known = refl
+drain-rest (at.LookTailAgain (purpose.Copy form) was_closed) p drains start known = again-rest (length p.unread == 0) was_closed form (index_loaded_by Reader p)
+drain-rest (at.LookTake (purpose.Copy form)) p drains start known = takes-rest form p
+drain-rest at.Yield p drains start known = refl
+drain-rest (at.CallDestination form sum) p drains start known = calls-rest p.destination form sum p start known
+drain-rest (at.StoreHead n (after_read.Round form sum)) p drains start known = refl
+drain-rest (at.TakeWriter (after_read.Round form sum)) p drains start known = wakes-rest form sum p.writer_waker p
+drain-rest (at.WakeWriter (after_read.Round form sum)) p drains start known = refl
+drain-rest point p drains start known = absurd (cc)
+
+-- the writer
+
+-- a fill that has returned leaves nothing lent
+abbrev pub fill_rest_at : Next WritePoint → Pipe → Ended
+fill_rest_at next p = writer_rest_at next (record p { lent = filled_out true next.answer p.lent })
+
+open-rest : (is_closed none : Bool) (form : Form) (p : Pipe) → writer_open_alone is_closed none (purpose.Copy form) (record p { writer = on.Idle }) ≡ fill_rest_at (writer_is_open is_closed none (purpose.Copy form)) p
+open-rest true none form p = refl
+open-rest false true form p = refl
+open-rest false false Try p = refl
+open-rest false false (Polling drawn) p = refl
+
+loads-rest : (none : Bool) (form : Form) (p : Pipe) → writer_looks_alone none (purpose.Copy form) (record p { writer = on.Idle }) ≡ fill_rest_at (goes_on (writer_looked none (purpose.Copy form))) p
+loads-rest true Try p = refl
+loads-rest true (Polling drawn) p = refl
+loads-rest false Try p = refl
+loads-rest false (Polling drawn) p = refl
+
+writer_registers-rest : (granted : Bool) (form : Form) (p : Pipe) → writer_granted_alone granted (purpose.Copy form) (record p { writer = on.Idle }) ≡ fill_rest_at (writer_registered granted (purpose.Copy form)) p
+writer_registers-rest true form p = refl
+writer_registers-rest false form p = refl
+
+writer_again-rest : (none : Bool) (form : Form) (p : Pipe) → writer_again_alone none (purpose.Copy form) (record p { writer = on.Idle }) ≡ fill_rest_at (goes_on (writer_looked_again none (purpose.Copy form))) p
+writer_again-rest true form p = refl
+writer_again-rest false Try p = refl
+writer_again-rest false (Polling drawn) p = refl
+
+writer_takes-rest : (form : Form) (p : Pipe) → writer_takes_alone (purpose.Copy form) (record p { writer = on.Idle }) ≡ fill_rest_at (writer_is_true (purpose.Copy form)) (record p { writer_waker = None; writer_call = record p.writer_call { taken = p.writer_waker } })
+writer_takes-rest Try p = refl
+writer_takes-rest (Polling true) p = refl
+writer_takes-rest (Polling false) p = refl
+
+reader_wakes-rest : (form : Form) (sum : ℕ) (name : Option ℕ) (p : Pipe) → writer_done_alone (after_write.Round form sum) (record p { writer = on.Idle; reader_waker = None; woken = with_waker p.woken name }) ≡ writer_rest_at (reader_taken (after_write.Round form sum) (is_some name)) (record p { reader_waker = None; writer_call = record p.writer_call { taken = name } })
+reader_wakes-rest form sum None p = refl
+reader_wakes-rest form sum (Some name) p = refl
+
+rounds-rest : (is_closed : Bool) (n : ℕ) (form : Form) (sum : ℕ) (p : Pipe) → writer_rounds_alone is_closed n form sum (record p { writer = on.Idle }) ≡ fill_rest_at (writer_rounds is_closed n form sum) p
+rounds-rest true n form sum p = refl
+rounds-rest false n form sum p = refl
+
+-- a round that moves some bytes wakes the reader
+woken-filled : (n : ℕ) (bytes lent : List ℕ) (p : Pipe) → 1 ≤ n → n ≤ length bytes → p.lent ≡ take n bytes ++ drop n lent → filled (take n bytes) p ≡ unlent (reader_woken (published n p))
+woken-filled n bytes lent p some within front =
+    let long : length (take n bytes) ≡ n = length-take-le n bytes within in
+    let test : (length (take n bytes) == 0) ≡ false = grind (arith, nat_tests) in
+    let same : take n p.lent ≡ take n bytes = ap (take n) front ∙ take_at (take n bytes) (drop n lent) n long in
+    let unread : p.unread ++ take n bytes ≡ p.unread ++ take n p.lent = ap (λ (xs : List ℕ). p.unread ++ xs) (sym same) in
+    let room : p.room - length (take n bytes) ≡ p.room - n = omega arith in
+    let waker : waker_after (length (take n bytes)) p.reader_waker ≡ None = rw test refl in
+    let woken : woken_after (length (take n bytes)) p.woken p.reader_waker ≡ with_waker p.woken p.reader_waker = rw test refl in
+    λ j. record p { unread = unread j; room = room j; lent = []; reader_waker = waker j; woken = woken j }
+
+-- one call of the source
+module _ (form : Form) (sum : ℕ) (p : Pipe) (unclosed : p.is_closed ≡ false) where
+  abbrev writer_moving : Copied (Result ℕ Failed) → Ended
+  writer_moving moved = writer_ended on.Idle (moved_answer form moved.answer) moved.pipe
+
+  abbrev spent : Pipe
+  spent = record p { writer = on.Idle; lent = [] }
+
+  writer_counted : writer_moving (answered (Ready (Ok sum)) spent) ≡ writer_filled (count_answer form sum) p
+  writer_counted = ap (λ answer. writer_filled answer p) (count-answer form sum)
+
+  gives : (byte : ℕ) (bytes : List ℕ) (acts : List SourceAct) (lent : List ℕ) (none : Bool) → let xs = byte ∷ bytes in let n = min (length lent) (length xs) in
+      (n == 0) ≡ none → length lent ≤ p.room → (length lent ≡ 0 → p.room ≡ 0) →
+      writer_moving (fill_moves_more sum (source.Bytes xs ∷ acts) p) ≡ fill_rest_at (writer_moved none n form sum) (record p { lent = take n xs ++ drop n lent; source = unspent (drop n xs) acts })
+  gives byte bytes acts lent true test within least =
+      let full : p.room ≡ 0 = least (grind (arith, nat_tests)) in
+      let none : min (length (byte ∷ bytes)) p.room ≡ 0 = omega arith in
+      let same : sum + 0 ≡ sum = omega arith in
+      ap writer_moving (give-ends sum 0 (byte ∷ bytes) acts spent (λ some. absurd (cc)) (sym none) (omega arith))
+      ∙ ap (λ (k : ℕ). writer_moving (answered (Ready (Ok k)) (filled [] spent))) same
+      ∙ ap (λ (q : Pipe). writer_moving (answered (Ready (Ok sum)) q)) (filled_nothing spent refl)
+      ∙ writer_counted
+  gives byte bytes acts lent false test within least =
+      let xs = byte ∷ bytes in
+      let n = min (length lent) (length xs) in
+      let q : Pipe = record p { lent = take n xs ++ drop n lent; source = unspent (drop n xs) acts; writer = on.Idle } in
+      let some : 1 ≤ n = grind (arith, nat_tests) in
+      ap writer_moving (give-part sum n xs acts spent some (omega arith) (omega arith))
+      ∙ ap (λ (r : Pipe). writer_moving (fill_moves_more (sum + n) (unspent (drop n xs) acts) r)) (woken-filled n xs lent q some (omega arith) refl)
+      ∙ rw unclosed refl
+
+-- what a fill that runs alone depends on: it has seen the pipe open, and nobody else closes it
+abbrev pub saw_open : WritePoint → Bool
+saw_open (on.LookClosed l) = false
+saw_open point = is_filling point
+
+pub record WriterValid (point : WritePoint) (p : Pipe) : Type 0 where
+  pub unread : length p.unread ≤ p.capacity
+  pub start : p.start < p.capacity
+  pub room : p.room ≤ p.capacity - length p.unread
+  pub store : tail_store point ≤ p.room
+  pub shut : p.is_shut ≡ true → p.is_closed ≡ true
+  pub unclosed : saw_open point ≡ true → p.is_closed ≡ false
+
+not_shut : (is_shut is_closed : Bool) → (is_shut ≡ true → is_closed ≡ true) → is_closed ≡ false → is_shut ≡ false
+not_shut false is_closed shut unclosed = refl
+not_shut true is_closed shut unclosed = absurd (let yes = shut refl in cc)
+
+-- an open pipe with room lends some places
+lends_some : (p : Pipe) (n : ℕ) → length p.unread ≤ p.capacity → p.start < p.capacity → p.is_shut ≡ false → Lendable MOST_A_ROUND p n → n ≡ 0 → p.room ≡ 0
+lends_some p n unread start not_shut lendable none =
+    let below : offset_of p.capacity (p.start + length p.unread) < p.capacity = place_below p.capacity (p.start + length p.unread) (omega arith) in
+    let least = lendable.at_least not_shut in
+    omega arith
+
+failed-answer : (form : Form) (p : Pipe) → writer_ended on.Idle (moved_answer form (Ready (Err (record {})))) p ≡ writer_ended on.Idle failed_answer p
+failed-answer Try p = refl
+failed-answer (Polling drawn) p = refl
+
+source-rest : (form : Form) (sum : ℕ) (acts : List SourceAct) (lent : List ℕ) (p : Pipe) → WriterValid (on.CallSource form sum) p → let asked = record p { writer = on.CallSource form sum; source = acts } in MayOffer (on.CallSource form sum) acts lent asked
+    → let s = stepped lent (Go Writer) asked in writer_moves_alone form sum (record p { writer = on.Idle; source = acts }) ≡ writer_rest s.answer s.pipe
+source-rest form sum [] lent p valid may = ap (writer_moving form sum p (valid.unclosed refl)) (give-none sum (record p { writer = on.Idle; lent = [] }) refl) ∙ writer_counted form sum p (valid.unclosed refl)
+source-rest form sum (source.Fail ∷ acts) lent p valid may = ap (writer_moving form sum p (valid.unclosed refl)) (give-fails sum acts (record p { writer = on.Idle; lent = [] }) refl) ∙ failed-answer form (record p { lent = [] })
+source-rest form sum (source.Bytes [] ∷ acts) lent p valid may =
+    let none : (min (length lent) 0 == 0) ≡ true = grind (arith, nat_tests) in
+    ap (writer_moving form sum p (valid.unclosed refl)) (give-nothing sum acts (record p { writer = on.Idle; lent = [] }) refl)
+    ∙ writer_counted form sum p (valid.unclosed refl)
+    ∙ ap (λ (b : Bool). fill_rest_at (writer_moved b (min (length lent) 0) form sum) (record p { lent = take (min (length lent) 0) [] ++ drop (min (length lent) 0) lent; source = unspent (drop (min (length lent) 0) []) acts })) (sym none)
+source-rest form sum (source.Bytes (byte ∷ bytes) ∷ acts) lent p valid may =
+    let most = may.at_most in
+    gives form sum p (valid.unclosed refl) byte bytes acts lent (min (length lent) (length (byte ∷ bytes)) == 0) refl (omega arith)
+    (lends_some (record p { writer = on.CallSource form sum; source = source.Bytes (byte ∷ bytes) ∷ acts }) (length lent) valid.unread valid.start (not_shut p.is_shut p.is_closed valid.shut (valid.unclosed refl)) may)
+
+-- the writer's step from a point, with these bytes in what it lends
+abbrev pub fill_step : WritePoint → List ℕ → Pipe → Stepped
+fill_step point lent p = stepped lent (Go Writer) (heard Writer (write_action point) (record p { writer = point }))
+
+pub fill-rest : (point : WritePoint) (lent : List ℕ) (p : Pipe) → is_filling point ≡ true → WriterValid point p → MayOffer point p.source lent (record p { writer = point })
+    → let s = fill_step point lent p in writer_alone point p ≡ writer_rest s.answer s.pipe
+fill-rest (on.LookClosed (purpose.Copy form)) lent p fills valid may = open-rest p.is_closed (p.room == 0) form p
+fill-rest (on.LookHead (purpose.Copy form)) lent p fills valid may = loads-rest (p.capacity - length p.unread == 0) form (index_loaded_by Writer p)
+fill-rest (on.LookRegister (purpose.Copy form)) lent p fills valid may = writer_registers-rest (is_granted p.writer_call.context) form (record p { writer_waker = registered_in p.writer_call.context p.writer_waker })
+fill-rest (on.LookHeadAgain (purpose.Copy form)) lent p fills valid may = writer_again-rest (p.capacity - length p.unread == 0) form (index_loaded_by Writer p)
+fill-rest (on.LookClosedAgain (purpose.Copy form)) lent p fills valid may = refl
+fill-rest (on.LookTake (purpose.Copy form)) lent p fills valid may = writer_takes-rest form p
+fill-rest on.Yield lent p fills valid may = refl
+fill-rest (on.CallSource form sum) lent p fills valid may = source-rest form sum p.source lent p valid may
+fill-rest (on.RoundClosed n form sum) lent p fills valid may = rounds-rest p.is_closed n form sum p
+fill-rest (on.StoreTail n (after_write.Round form sum)) lent p fills valid may = refl
+fill-rest (on.TakeReader (after_write.Round form sum)) lent p fills valid may = reader_wakes-rest form sum p.reader_waker p
+fill-rest (on.WakeReader (after_write.Round form sum)) lent p fills valid may = refl
+fill-rest (on.StoreClosed (after_write.Round form sum)) lent p fills valid may = refl
+fill-rest point lent p fills valid may = absurd (cc)

@@ -1,0 +1,216 @@
+-- What each side knows, and how many steps its call has made, and calls of its destination or
+-- source: what one step does to them.
+use Rattle.std.proofs.Common.{◌≡◌, ℕ, ◌+◌, ◌*◌, ◌≤◌, List, ◌++◌, Bool, true, false, Option, None, Some, ◌==◌, refl, sym, subst, ◌∙◌, arith}
+use Rattle.piper_protocol.specs.declared.table.Side.{Side}
+use Rattle.piper_protocol.specs.declared.table.Side.TheVariants.{Reader, Writer}
+use Rattle.piper_machine.specs.declared.calls.Call.{Call}
+use Rattle.piper_machine.specs.declared.calls.Call.TheVariants as call
+use Rattle.piper_machine.specs.declared.calls.Step.{Step}
+use Rattle.piper_machine.specs.declared.calls.Step.TheVariants.{Begin, Go, Put}
+use Rattle.piper_protocol.specs.declared.answer.Answer.{Answer}
+use Rattle.piper_machine.specs.declared.events.Event.{Event}
+use Rattle.piper_protocol.specs.declared.table.Form.{Form}
+use Rattle.piper_protocol.specs.declared.table.Form.TheVariants.{Try, Polling}
+use Rattle.piper_protocol.specs.declared.table.Purpose.TheVariants as purpose
+use Rattle.piper_protocol.specs.declared.table.AfterWrite.TheVariants as after_write
+use Rattle.piper_protocol.specs.declared.table.ReadPoint.{ReadPoint}
+use Rattle.piper_protocol.specs.declared.table.ReadPoint.TheVariants as at
+use Rattle.piper_protocol.specs.declared.table.WritePoint.{WritePoint}
+use Rattle.piper_protocol.specs.declared.table.WritePoint.TheVariants as on
+use Rattle.piper_protocol.specs.declared.table.Action.{Action}
+use Rattle.piper_protocol.specs.declared.table.Action.TheVariants as does
+use Rattle.piper_machine.specs.declared.refusals.StepRefusal.{StepRefusal}
+use Rattle.piper_machine.specs.Log.{answer_event}
+use Rattle.piper_protocol.specs.Table.{read_action, write_action, reader_looks_for}
+use Rattle.piper_machine.specs.Pipe.{Pipe}
+use Rattle.piper_machine.specs.Action.{performed, logged_of}
+use Rattle.piper_machine.specs.Step.{went, stepped, offering, MayLend}
+use Rattle.piper_machine.specs.Refusal.{writer_state, cannot_begin, or_else, refusal_of}
+use Rattle.piper_machine.specs.Alone.{read_steps, write_steps}
+use Rattle.piper_machine.specs.Known.{Knowledge, knowledge_from}
+use Rattle.piper_machine.specs.Counts.{Tally, most_of, most_steps, tallied}
+use Rattle.piper_machine.specs.Called.{called}
+use Rattle.piper_machine.proofs.Knowing.{knowledge-append, answer-shows, learns, learned, learned-enough, writer-shows, reader-shows}
+use Rattle.piper_machine.proofs.ReaderCounts.{read_calls, read_least, ReaderSees, reader-fits, reader-goes, reader_next, some-known}
+use Rattle.piper_machine.proofs.WriterCounts.{write_calls, write_least, WriterSees, writer-fits, writer-goes, writer_next}
+
+-- The steps and calls made so far, with those that are left, are within what the look finds, or can
+-- still find.
+pub record IsWithin (f steps_made calls_made steps_left calls_left : ℕ) (c : Option Call) : Type 0 where
+  pub steps : steps_made + steps_left ≤ most_of f c
+  pub calls : calls_made + calls_left ≤ f + 1
+
+pub record ReaderCounts (point : ReadPoint) (known : ℕ) (k : Knowledge) (t : Tally) (calls : ℕ) : Type 0 where
+  pub sees : ReaderSees point known k
+  pub enough : known ≤ k.known
+  pub within : (f : ℕ) → read_least k.found point ≤ f → IsWithin f t.made calls (read_steps f known point) (read_calls f known point) t.call
+
+pub record WriterCounts (point : WritePoint) (room : ℕ) (k : Knowledge) (t : Tally) (calls : ℕ) : Type 0 where
+  pub sees : WriterSees point room k
+  pub enough : room ≤ k.known
+  pub within : (f : ℕ) → write_least k.found point ≤ f → IsWithin f t.made calls (write_steps f room point) (write_calls f room point) t.call
+
+abbrev pub Counts : Side → Pipe → Knowledge → Tally → ℕ → Type 0
+Counts Reader p k t calls = ReaderCounts p.reader p.known k t calls
+Counts Writer p k t calls = WriterCounts p.writer p.room k t calls
+
+read_least-found : (found : ℕ) (point : ReadPoint) → read_least found point ≤ found
+read_least-found found (at.LookTail l) = omega arith
+read_least-found found (at.LookRegister l) = omega arith
+read_least-found found (at.LookClosed l) = omega arith
+read_least-found found (at.LookTailAgain l was_closed) = omega arith
+read_least-found found point = omega arith
+
+write_least-found : (found : ℕ) (point : WritePoint) → write_least found point ≤ found
+write_least-found found (on.LookClosed l) = omega arith
+write_least-found found (on.LookHead l) = omega arith
+write_least-found found (on.LookRegister l) = omega arith
+write_least-found found (on.LookHeadAgain l) = omega arith
+write_least-found found (on.LookClosedAgain l) = omega arith
+write_least-found found point = omega arith
+
+pub counts-found : (side : Side) (p : Pipe) (k : Knowledge) (t : Tally) (calls : ℕ) → Counts side p k t calls → (t.made ≤ most_of k.found t.call) × (calls ≤ k.found + 1)
+counts-found Reader p k t calls held = let within = held.within k.found (read_least-found k.found p.reader) in (omega (arith, within.steps), omega (arith, within.calls))
+counts-found Writer p k t calls held = let within = held.within k.found (write_least-found k.found p.writer) in (omega (arith, within.steps), omega (arith, within.calls))
+
+-- a side's step leaves where the other is, and what it knows
+pub reader_leaves-writer : (action : Action) (p : Pipe) → ((n : ℕ) → action ≡ does.StoreTail n → ⊥) → let q = performed Reader action p in (q.writer ≡ p.writer) × (q.room ≡ p.room) × (q.capacity ≡ p.capacity)
+reader_leaves-writer (does.StoreTail n) p never = absurd (never n refl)
+reader_leaves-writer (does.StoreClosed true) p never = (refl, refl, refl)
+reader_leaves-writer (does.StoreClosed false) p never = (refl, refl, refl)
+reader_leaves-writer (does.Take Reader) p never = (refl, refl, refl)
+reader_leaves-writer (does.Take Writer) p never = (refl, refl, refl)
+reader_leaves-writer action p never = (refl, refl, refl)
+
+pub writer_leaves-reader : (action : Action) (p : Pipe) → ((n : ℕ) → action ≡ does.StoreHead n → ⊥) → let q = performed Writer action p in (q.reader ≡ p.reader) × (q.known ≡ p.known) × (q.capacity ≡ p.capacity)
+writer_leaves-reader (does.StoreHead n) p never = absurd (never n refl)
+writer_leaves-reader (does.StoreClosed true) p never = (refl, refl, refl)
+writer_leaves-reader (does.StoreClosed false) p never = (refl, refl, refl)
+writer_leaves-reader (does.Take Reader) p never = (refl, refl, refl)
+writer_leaves-reader (does.Take Writer) p never = (refl, refl, refl)
+writer_leaves-reader action p never = (refl, refl, refl)
+
+pub reader_never-tail : (point : ReadPoint) (n : ℕ) → read_action point ≡ does.StoreTail n → ⊥
+reader_never-tail at.Idle n e = absurd (cc)
+reader_never-tail point n e = absurd (cc)
+
+pub writer_never-head : (point : WritePoint) (n : ℕ) → write_action point ≡ does.StoreHead n → ⊥
+writer_never-head (on.StoreClosed after_write.Answer) n e = absurd (cc)
+writer_never-head (on.StoreClosed after_write.Drop) n e = absurd (cc)
+writer_never-head (on.StoreClosed after_write.WakeWriter) n e = absurd (cc)
+writer_never-head (on.StoreClosed (after_write.Round form sum)) n e = absurd (cc)
+writer_never-head point n e = absurd (cc)
+
+-- how a call begins
+
+-- of a call without a look
+plain : (f most : ℕ) (c : Call) → most ≤ most_steps f c → IsWithin f 0 0 most 0 (Some c)
+plain f most c few = record { steps = omega (arith, few); calls = omega arith }
+
+abbrev opened_with : Knowledge → Bool → Knowledge
+opened_with k asks = record { known = k.known; found = k.known; is_query = asks }
+
+drains-count : (known : ℕ) (k : Knowledge) (none : Bool) (form : Form) (c : Call) → (known == 0) ≡ none → known ≤ k.known → ((f : ℕ) → most_steps f c ≡ 6 + 4 * f)
+    → ReaderCounts (reader_looks_for none (purpose.Copy form)) known (opened_with k false) (record { made = 0; call = Some c }) 0
+drains-count known k true form c test enough most = record { sees = refl; enough = enough; within = λ f least. let is = most f in record { steps = omega arith; calls = omega arith } }
+drains-count known k false Try c test enough most = record { sees = tt; enough = enough; within = λ f least. let is = most f in record { steps = omega arith; calls = omega arith } }
+drains-count known k false (Polling is_drawn) c test enough most = record { sees = some-known known test; enough = enough; within = λ f least. let is = most f in record { steps = omega arith; calls = omega arith } }
+
+polls-count : (known : ℕ) (k : Knowledge) (none : Bool) (c : Call) → (known == 0) ≡ none → known ≤ k.known → ((f : ℕ) → most_steps f c ≡ 5)
+    → ReaderCounts (reader_looks_for none purpose.Poll) known (opened_with k false) (record { made = 0; call = Some c }) 0
+polls-count known k true c test enough most = record { sees = refl; enough = enough; within = λ f least. let is = most f in record { steps = omega arith; calls = omega arith } }
+polls-count known k false c test enough most = record { sees = some-known known test; enough = enough; within = λ f least. let is = most f in record { steps = omega arith; calls = omega arith } }
+
+fills-count : (room : ℕ) (k : Knowledge) (form : Form) (c : Call) → room ≤ k.known → ((f : ℕ) → most_steps f c ≡ 6 + 5 * f)
+    → WriterCounts (on.LookClosed (purpose.Copy form)) room (opened_with k false) (record { made = 0; call = Some c }) 0
+fills-count room k form c enough most = record { sees = (refl, enough); enough = enough; within = λ f least. let is = most f in record { steps = omega arith; calls = omega arith } }
+
+idle_writer : (point : WritePoint) (more : Option StepRefusal) → or_else (cannot_begin (writer_state point)) more ≡ None → point ≡ on.Idle
+idle_writer on.Idle more accepted = refl
+idle_writer point more accepted = absurd (cc)
+
+lends-count : (point : WritePoint) (room most : ℕ) (k : Knowledge) → point ≡ on.Idle → room ≤ k.known → WriterCounts point room (opened_with k false) (record { made = 0; call = Some (call.WriteBuf most) }) 0
+lends-count on.Idle room most k idle enough = record { sees = tt; enough = enough; within = λ f least. record { steps = omega arith; calls = omega arith } }
+lends-count point room most k idle enough = absurd (cc)
+
+-- the call that is opened begins anew, and leaves the other side as it is
+begin-counts : (side : Side) (cap : ℕ) (lent : List ℕ) (c : Call) (p : Pipe) (k : Knowledge) (t : Tally) (calls : ℕ) → refusal_of (Begin c) p ≡ None → Counts side p k t calls
+    → let new = stepped lent (Begin c) p in Counts side new.pipe (knowledge_from cap side k new.events) (tallied side t (Begin c)) (called side p (Begin c) calls)
+begin-counts Reader cap lent (call.Query Reader query) p k t calls accepted held = record { sees = refl; enough = held.enough; within = λ f least. plain f 2 (call.Query Reader query) (omega arith) }
+begin-counts Reader cap lent (call.IsClosed Reader) p k t calls accepted held = record { sees = tt; enough = held.enough; within = λ f least. plain f 1 (call.IsClosed Reader) (omega arith) }
+begin-counts Reader cap lent (call.Poll Reader waker luck) p k t calls accepted held = polls-count p.known k (p.known == 0) (call.Poll Reader waker luck) refl held.enough (λ f. refl)
+begin-counts Reader cap lent (call.TryDrain size) p k t calls accepted held = drains-count p.known k (p.known == 0) _ (call.TryDrain size) refl held.enough (λ f. refl)
+begin-counts Reader cap lent (call.PollDrainBytes waker luck size) p k t calls accepted held = drains-count p.known k (p.known == 0) _ (call.PollDrainBytes waker luck size) refl held.enough (λ f. refl)
+begin-counts Reader cap lent (call.PollDrain waker luck acts) p k t calls accepted held = drains-count p.known k (p.known == 0) _ (call.PollDrain waker luck acts) refl held.enough (λ f. refl)
+begin-counts Reader cap lent (call.Consume n) p k t calls accepted held = record { sees = tt; enough = held.enough; within = λ f least. plain f 3 (call.Consume n) (omega arith) }
+begin-counts Reader cap lent (call.Drop Reader) p k t calls accepted held = record { sees = tt; enough = held.enough; within = λ f least. plain f 3 (call.Drop Reader) (omega arith) }
+begin-counts Reader cap lent c p k t calls accepted held = held
+begin-counts Writer cap lent (call.Query Writer query) p k t calls accepted held = record { sees = refl; enough = held.enough; within = λ f least. plain f 2 (call.Query Writer query) (omega arith) }
+begin-counts Writer cap lent (call.IsClosed Writer) p k t calls accepted held = record { sees = tt; enough = held.enough; within = λ f least. plain f 1 (call.IsClosed Writer) (omega arith) }
+begin-counts Writer cap lent (call.Poll Writer waker luck) p k t calls accepted held = record { sees = (refl, held.enough); enough = held.enough; within = λ f least. plain f 5 (call.Poll Writer waker luck) (omega arith) }
+begin-counts Writer cap lent (call.TryFill bytes) p k t calls accepted held = fills-count p.room k _ (call.TryFill bytes) held.enough (λ f. refl)
+begin-counts Writer cap lent (call.PollFillBytes waker luck bytes) p k t calls accepted held = fills-count p.room k _ (call.PollFillBytes waker luck bytes) held.enough (λ f. refl)
+begin-counts Writer cap lent (call.PollFill waker luck acts) p k t calls accepted held = fills-count p.room k _ (call.PollFill waker luck acts) held.enough (λ f. refl)
+begin-counts Writer cap lent (call.WriteBuf most) p k t calls accepted held = lends-count p.writer p.room most k (idle_writer p.writer _ accepted) held.enough
+begin-counts Writer cap lent (call.Produced n) p k t calls accepted held = record { sees = tt; enough = held.enough; within = λ f least. plain f 3 (call.Produced n) (omega arith) }
+begin-counts Writer cap lent call.Close p k t calls accepted held = record { sees = tt; enough = held.enough; within = λ f least. plain f 5 call.Close (omega arith) }
+begin-counts Writer cap lent (call.Drop Writer) p k t calls accepted held = record { sees = tt; enough = held.enough; within = λ f least. plain f 3 (call.Drop Writer) (omega arith) }
+begin-counts Writer cap lent c p k t calls accepted held = held
+
+-- what a step reports to a side, with the answer after it
+pub noted : (c : ℕ) (side actor : Side) (k j : Knowledge) (es : List Event) (answer : Option Answer) → knowledge_from c side k es ≡ j → knowledge_from c side k (es ++ answer_event actor answer) ≡ j
+noted c side actor k j es answer same = knowledge-append c side k es (answer_event actor answer) ∙ answer-shows c side actor _ answer ∙ same
+
+reader-counts : (p : Pipe) (k : Knowledge) (t : Tally) (calls : ℕ) → refusal_of (Go Reader) p ≡ None → Counts Reader p k t calls
+    → let new = went Reader p in Counts Reader new.pipe (knowledge_from p.capacity Reader k new.events) (tallied Reader t (Go Reader)) (called Reader p (Go Reader) calls)
+reader-counts p k t calls accepted held =
+    let action = read_action p.reader in
+    let goes = reader-goes p.reader p k held.sees accepted in
+    let j = learned Reader action p k in
+    let next : ReaderCounts (reader_next p.reader p).point (performed Reader action p).known j (tallied Reader t (Go Reader)) (called Reader p (Go Reader) calls) = record {
+      sees = goes.sees;
+      enough = learned-enough Reader action p k held.enough;
+      within = λ f least.
+          let nearer = goes.nearer f least in
+          let within = held.within f nearer.from in
+          record { steps = omega (arith, nearer.steps, within.steps); calls = omega (arith, nearer.calls, within.calls) };
+    } in
+    subst (λ (i : Knowledge). Counts Reader (went Reader p).pipe i (tallied Reader t (Go Reader)) (called Reader p (Go Reader) calls))
+    (sym (noted p.capacity Reader Reader k j (logged_of Reader action p) (went Reader p).answer (learns Reader action p k (reader-fits p.reader p.known k held.sees)))) next
+
+writer-counts : (lent : List ℕ) (p : Pipe) (k : Knowledge) (t : Tally) (calls : ℕ) → MayLend lent (Go Writer) p → refusal_of (Go Writer) p ≡ None → Counts Writer p k t calls
+    → let new = went Writer (offering lent p) in Counts Writer new.pipe (knowledge_from p.capacity Writer k new.events) (tallied Writer t (Go Writer)) (called Writer p (Go Writer) calls)
+writer-counts lent p k t calls may accepted held =
+    let action = write_action p.writer in
+    let q = offering lent p in
+    let goes = writer-goes p.writer lent p k held.sees may accepted in
+    let j = learned Writer action q k in
+    let next : WriterCounts (writer_next p.writer q).point (performed Writer action q).room j (tallied Writer t (Go Writer)) (called Writer p (Go Writer) calls) = record {
+      sees = goes.sees;
+      enough = learned-enough Writer action q k held.enough;
+      within = λ f least.
+          let nearer = goes.nearer f least in
+          let within = held.within f nearer.from in
+          record { steps = omega (arith, nearer.steps, within.steps); calls = omega (arith, nearer.calls, within.calls) };
+    } in
+    subst (λ (i : Knowledge). Counts Writer (went Writer q).pipe i (tallied Writer t (Go Writer)) (called Writer p (Go Writer) calls))
+    (sym (noted p.capacity Writer Writer k j (logged_of Writer action q) (went Writer q).answer (learns Writer action q k (writer-fits p.writer p.room k held.sees)))) next
+
+pub counts-step : (side : Side) (s : Step) (lent : List ℕ) (p : Pipe) (k : Knowledge) (t : Tally) (calls : ℕ) → MayLend lent s p → refusal_of s p ≡ None → Counts side p k t calls
+    → let new = stepped lent s p in Counts side new.pipe (knowledge_from p.capacity side k new.events) (tallied side t s) (called side p s calls)
+counts-step side (Begin c) lent p k t calls may accepted held = begin-counts side p.capacity lent c p k t calls accepted held
+counts-step Reader (Go Reader) lent p k t calls may accepted held = reader-counts p k t calls accepted held
+counts-step Writer (Go Writer) lent p k t calls may accepted held = writer-counts lent p k t calls may accepted held
+counts-step Writer (Go Reader) lent p k t calls may accepted held =
+    let action = read_action p.reader in
+    let same = reader_leaves-writer action p (reader_never-tail p.reader) in
+    let quiet = noted p.capacity Writer Reader k k (logged_of Reader action p) (went Reader p).answer (reader-shows p.capacity action p k (reader_never-tail p.reader)) in
+    rw (quiet, same.0, same.1) held
+counts-step Reader (Go Writer) lent p k t calls may accepted held =
+    let action = write_action p.writer in
+    let q = offering lent p in
+    let same = writer_leaves-reader action q (writer_never-head p.writer) in
+    let quiet = noted p.capacity Reader Writer k k (logged_of Writer action q) (went Writer q).answer (writer-shows p.capacity action q k (writer_never-head p.writer)) in
+    rw (quiet, same.0, same.1) held
+counts-step Reader (Put offset byte) lent p k t calls may accepted held = held
+counts-step Writer (Put offset byte) lent p k t calls may accepted held = held

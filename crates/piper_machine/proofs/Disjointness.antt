@@ -1,0 +1,69 @@
+-- The places of the two sides are apart in every sound pipe, and no step of the writer changes a
+-- byte that the reader knows.
+use Rattle.std.proofs.Common.{◌≡◌, ◌≢◌, ℕ, ◌+◌, ◌-◌, ◌<◌, ◌≤◌, List, length, take, true, false, Result, Ok, Err, refl, sym, ap, subst, ◌∙◌, arith}
+use Rattle.std.specs.Prelude.{OnOk, OnErr}
+use Rattle.std.proofs.lemmas.List.{take-append-le}
+use Rattle.std.proofs.lemmas.Bool.Decides.{nat_tests}
+use Rattle.piper_protocol.specs.declared.table.Side.TheVariants.{Reader, Writer}
+use Rattle.piper_machine.specs.declared.events.Event.{Event}
+use Rattle.piper_machine.specs.declared.refusals.StepRefusal.{StepRefusal}
+use Rattle.piper_machine.specs.declared.calls.Step.{Step}
+use Rattle.piper_machine.specs.declared.calls.Step.TheVariants.{Begin, Go, Put}
+use Rattle.piper_protocol.specs.declared.table.Action.{Action}
+use Rattle.piper_protocol.specs.declared.table.Action.TheVariants as does
+use Rattle.piper_protocol.specs.Index.{offset_of}
+use Rattle.piper_machine.specs.Pipe.{Pipe}
+use Rattle.piper_machine.specs.Sound.{IsSound}
+use Rattle.piper_protocol.specs.Table.{write_action}
+use Rattle.piper_machine.specs.Action.{performed}
+use Rattle.piper_machine.specs.Run.{Made}
+use Rattle.piper_machine.specs.Step.{stepped, offering}
+use Rattle.piper_machine.proofs.Opened.{opened-leaves}
+use Rattle.piper_machine.proofs.Counting.{writer_never-head}
+use Rattle.piper_machine.specs.Disjoint.{IsDisjoint, KeepsKnown, IsWriterStep}
+
+apart : (c s u k r i j : ℕ) → s < c → u ≤ c → k ≤ u → r ≤ c - u → i < k → j < r → j < c - offset_of c (s + u) → offset_of c (s + i) ≢ offset_of c (s + u) + j
+apart c s u k r i j start fits known room first second flat = grind (arith, nat_tests)
+
+pub disjoint : (p : Pipe) → IsSound p → IsDisjoint p
+disjoint p sound place reads writes =
+    apart p.capacity p.start (length p.unread) p.known p.room reads.number writes.number sound.start sound.unread sound.known sound.room reads.is_known
+    (let h = writes.is_lent in omega (arith, sound.lent_room)) (let h = writes.is_lent in omega (arith, sound.lent_place))
+    (sym reads.valid ∙ writes.valid)
+
+keeps_all : (p q : Pipe) → q.capacity ≡ p.capacity → q.start ≡ p.start → q.known ≡ p.known → q.unread ≡ p.unread → KeepsKnown p q
+keeps_all p q capacity start known unread = record { capacity = capacity; start = start; known = known; bytes = ap (take p.known) unread }
+
+-- the writer's own kinds of step
+writer-keeps : (action : Action) (p : Pipe) → p.known ≤ length p.unread → ((n : ℕ) → action ≡ does.StoreHead n → ⊥) → KeepsKnown p (performed Writer action p)
+writer-keeps (does.StoreHead n) p known never = absurd (never n refl)
+writer-keeps (does.StoreTail n) p known never = record { capacity = refl; start = refl; known = refl; bytes = take-append-le p.known p.unread (take n p.lent) known }
+writer-keeps does.Rest p known never = keeps_all p _ refl refl refl refl
+writer-keeps does.LoadHead p known never = keeps_all p _ refl refl refl refl
+writer-keeps does.LoadTail p known never = keeps_all p _ refl refl refl refl
+writer-keeps does.LoadIndex p known never = keeps_all p _ refl refl refl refl
+writer-keeps does.LoadClosed p known never = keeps_all p _ refl refl refl refl
+writer-keeps does.Register p known never = keeps_all p _ refl refl refl refl
+writer-keeps (does.StoreClosed true) p known never = keeps_all p _ refl refl refl refl
+writer-keeps (does.StoreClosed false) p known never = keeps_all p _ refl refl refl refl
+writer-keeps (does.Take Reader) p known never = keeps_all p _ refl refl refl refl
+writer-keeps (does.Take Writer) p known never = keeps_all p _ refl refl refl refl
+writer-keeps does.Wake p known never = keeps_all p _ refl refl refl refl
+writer-keeps does.Yield p known never = keeps_all p _ refl refl refl refl
+writer-keeps does.CallDestination p known never = keeps_all p _ refl refl refl refl
+writer-keeps does.CallSource p known never = keeps_all p _ refl refl refl refl
+
+pub step-keeps : (lent : List ℕ) (s : Step) (p : Pipe) → IsSound p → IsWriterStep s → KeepsKnown p (stepped lent s p).pipe
+step-keeps lent (Begin c) p sound writer =
+    let same = opened-leaves lent c p in
+    keeps_all p _ same.capacity same.start same.known same.unread
+step-keeps lent (Go Writer) p sound writer =
+    let kept = writer-keeps (write_action p.writer) (offering lent p) sound.known (writer_never-head p.writer) in
+    record { capacity = kept.capacity; start = kept.start; known = kept.known; bytes = kept.bytes }
+step-keeps lent (Go Reader) p sound writer = absurd (cc)
+step-keeps lent (Put offset byte) p sound writer = keeps_all p _ refl refl refl refl
+
+-- a step that is refused leaves the pipe as it is
+pub tried-keeps : (r : Result Unit StepRefusal) (s : Step) (p q : Pipe) (before after : List Event) → IsSound p → OnOk r (Made p s q before after) → OnErr r (q ≡ p) → IsWriterStep s → KeepsKnown p q
+tried-keeps (Ok done) s p q before after sound made same writer = subst (KeepsKnown p) (sym made.made.pipe) (step-keeps q.lent s p sound writer)
+tried-keeps (Err refusal) s p q before after sound made same writer = rw same (keeps_all p p refl refl refl refl)

@@ -1,0 +1,462 @@
+-- A drain run whole: its destination stays with the caller, and each step is that of a call which
+-- holds this destination.
+use Rattle.std.proofs.Common.{◌≡◌, ℕ, ◌+◌, ◌-◌, ◌<◌, ◌≤◌, min, List, [], ◌∷◌, ◌++◌, take, drop, length, Bool, true, false, Option, None, Some, ◌==◌, is_some, refl, sym, ap, subst, ◌∙◌, arith, length-append, length-drop, length-take}
+use Rattle.std.proofs.lemmas.Bool.Decides.{nat_tests}
+use Rattle.std.proofs.lemmas.List.{drop-drop}
+use borrow.Rule.Slice.PartMut.{put_mid}
+use Rattle.piper_protocol.specs.declared.table.Side.TheVariants.{Reader}
+use Rattle.piper_machine.specs.declared.calls.OpenCall.{OpenCall}
+use Rattle.piper_machine.specs.declared.calls.SideState.TheVariants.{Busy}
+use Rattle.piper_protocol.specs.declared.answer.Answer.{Answer}
+use Rattle.piper_machine.specs.declared.polling.Context.{Context}
+use Rattle.piper_machine.specs.declared.scripted.DestAct.TheVariants as dest
+use Rattle.piper_protocol.specs.declared.table.Action.{Action}
+use Rattle.piper_protocol.specs.declared.table.Action.TheVariants as does
+use Rattle.piper_protocol.specs.declared.table.Form.{Form}
+use Rattle.piper_protocol.specs.declared.table.Form.TheVariants.{Try, Polling}
+use Rattle.piper_protocol.specs.declared.table.Purpose.TheVariants as purpose
+use Rattle.piper_protocol.specs.declared.table.AfterRead.TheVariants as after_read
+use Rattle.piper_protocol.specs.declared.table.ReadPoint.{ReadPoint}
+use Rattle.piper_protocol.specs.declared.table.ReadPoint.TheVariants as at
+use Rattle.piper_machine.specs.Open.{is_granted}
+use Rattle.piper_protocol.specs.Table.{Next, goes_on, head_store, moved_in, read_action, read_after, reader_is_true, reader_looked, reader_looked_again, reader_looks_for, reader_moved, reader_registered, writer_taken}
+use Rattle.piper_protocol.specs.declared.table.Found.{Found}
+use Rattle.piper_protocol.specs.declared.table.Found.TheVariants.{Nothing as nothing, IndexLoaded as index_loaded, Granted as granted, Waker as waker}
+use Rattle.piper_machine.specs.declared.destination.Destination.{Destination}
+use Rattle.piper_machine.specs.declared.destination.Destination.TheVariants.{Slice, Acts}
+use Rattle.piper_machine.specs.Pipe.{Pipe, begun}
+use Rattle.piper_machine.specs.Sound.{IsSound}
+use Rattle.piper_machine.specs.Move.{with_waker}
+use Rattle.piper_machine.specs.Copy.{Copied, count_of, copied_after, drawn, drain_moves, drain}
+use Rattle.piper_machine.specs.Look.{reader_look, reader_looks, reader_registers}
+use Rattle.piper_machine.specs.LoadIfNone.{tail_loaded_if_empty}
+use Rattle.piper_protocol.specs.declared.answer.Polled.{Polled}
+use Rattle.piper_protocol.specs.declared.answer.Polled.TheVariants.{Ready, Pending, Memory}
+use Rattle.piper_machine.specs.declared.scripted.DestAct.{DestAct}
+use Rattle.piper_machine.specs.Round.{taken, found_of, left_of_acts, left_of_destination}
+use Rattle.piper_machine.specs.Refusal.{reader_state}
+use Rattle.piper_machine.specs.Action.{round_count, destination_called}
+use Rattle.piper_machine.specs.Step.{Stepped, went, form_of, drain_opened, call_after, destination_after, drain_left, drain_answer}
+use Rattle.piper_machine.specs.Alone.{Ended, heard, is_draining, reader_alone}
+use Rattle.piper_machine.proofs.Alone.{reader_rest, reads_left, read_step}
+use Rattle.piper_machine.proofs.Copies.{drain-rest}
+use Rattle.piper_machine.proofs.Falling.{drain-falls}
+use Rattle.piper_machine.proofs.Validity.{IsSettled, ReaderValid, reads-on, reader-settled, reader-valid}
+use Rattle.piper_machine.proofs.Rounds.{next_part, HasOneWake, one_wake-room, one_wake-none}
+
+-- the pipe of a call that holds this destination
+abbrev pub placing : Destination → Pipe → Pipe
+placing destination p = record p { destination = destination }
+
+-- the waker that the call has taken, and calls next
+abbrev pub errand : ReadPoint → OpenCall → Option ℕ
+errand (at.WakeWriter next) c = c.taken
+errand point c = None
+
+abbrev pub WakesOne : ReadPoint → Pipe → Type 0
+WakesOne point p = HasOneWake (with_waker p.woken (errand point p.reader_call)) p.writer_waker
+
+longer : (names : List ℕ) (name : Option ℕ) → length names ≤ length (with_waker names name)
+longer names None = omega arith
+longer names (Some name) = let long = length-append names (name ∷ []) in omega arith
+
+pub wake-room : (point : ReadPoint) (p : Pipe) → WakesOne point p → length p.woken < 2
+wake-room point p wakes =
+    let few = one_wake-room (with_waker p.woken (errand point p.reader_call)) p.writer_waker wakes in
+    let names = longer p.woken (errand point p.reader_call) in
+    omega arith
+
+-- a step of a drain that gives no answer leads to a point of a drain, and a waker is called once
+abbrev IsKept : List ℕ → Option ℕ → Next ReadPoint → OpenCall → Type 0
+IsKept woken name next c = next.answer ≡ None → (is_draining next.point ≡ true) × HasOneWake (with_waker woken (errand next.point (call_after next.answer c))) name
+
+module _ (woken : List ℕ) (name : Option ℕ) (c : OpenCall) (one : HasOneWake woken name) where
+  looks-kept : (none : Bool) (form : Form) → IsKept woken name (goes_on (reader_looked none (purpose.Copy form))) c
+  looks-kept true Try goes = (refl, one)
+  looks-kept true (Polling drawn) goes = (refl, one)
+  looks-kept false Try goes = (refl, one)
+  looks-kept false (Polling drawn) goes = (refl, one)
+
+  registers-kept : (granted : Bool) (form : Form) → IsKept woken name (reader_registered granted (purpose.Copy form)) c
+  registers-kept true form goes = (refl, one)
+  registers-kept false form goes = absurd (cc)
+
+  again-kept : (none was_closed : Bool) (form : Form) → IsKept woken name (reader_looked_again none (purpose.Copy form) was_closed) c
+  again-kept true was_closed form goes = absurd (cc)
+  again-kept false was_closed Try goes = (refl, one)
+  again-kept false was_closed (Polling drawn) goes = (refl, one)
+
+  takes-kept : (form : Form) → IsKept woken name (reader_is_true (purpose.Copy form)) c
+  takes-kept Try goes = (refl, one)
+  takes-kept (Polling true) goes = (refl, one)
+  takes-kept (Polling false) goes = (refl, one)
+
+  moves-kept : (n : ℕ) (none : Bool) (form : Form) (sum : ℕ) → IsKept woken name (reader_moved none n form sum) c
+  moves-kept n true form sum goes = absurd (cc)
+  moves-kept n false form sum goes = (refl, one)
+
+  calls-kept : (destination : Destination) (most : ℕ) (form : Form) (sum capacity : ℕ) → IsKept woken name (read_after capacity (at.CallDestination form sum) (found_of (taken most destination))) c
+  calls-kept (Slice size) most form sum capacity = moves-kept (min size most) (min size most == 0) form sum
+  calls-kept (Acts []) most form sum capacity = moves-kept 0 true form sum
+  calls-kept (Acts (dest.Fail ∷ acts)) most form sum capacity = λ goes. absurd (cc)
+  calls-kept (Acts (dest.Take size ∷ acts)) most form sum capacity = moves-kept (min size most) (min size most == 0) form sum
+
+wakes-kept : (name : Option ℕ) (form : Form) (sum : ℕ) (woken : List ℕ) (c : OpenCall) → HasOneWake woken name → IsKept woken None (writer_taken (after_read.Round form sum) (is_some name)) (record c { taken = name })
+wakes-kept None form sum woken c one goes = (refl, one)
+wakes-kept (Some name) form sum woken c one goes = (refl, one)
+
+drain-kept : (point : ReadPoint) (p : Pipe) → is_draining point ≡ true → WakesOne point p → let s = read_step point p in s.answer ≡ None → (is_draining s.pipe.reader ≡ true) × WakesOne s.pipe.reader s.pipe
+drain-kept (at.LookTail (purpose.Copy form)) p drains one goes = looks-kept p.woken p.writer_waker p.reader_call one (length p.unread == 0) form goes
+drain-kept (at.LookRegister (purpose.Copy form)) p drains one goes = registers-kept p.woken p.writer_waker p.reader_call one (is_granted p.reader_call.context) form goes
+drain-kept (at.LookClosed (purpose.Copy form)) p drains one goes = (refl, one)
+drain-kept (at.LookTailAgain (purpose.Copy form) was_closed) p drains one goes = again-kept p.woken p.writer_waker p.reader_call one (length p.unread == 0) was_closed form goes
+drain-kept (at.LookTake (purpose.Copy form)) p drains one goes = takes-kept p.woken p.writer_waker (record p.reader_call { taken = p.reader_waker }) one form goes
+drain-kept at.Yield p drains one goes = absurd (cc)
+drain-kept (at.CallDestination form sum) p drains one goes = calls-kept p.woken p.writer_waker p.reader_call one p.destination (round_count p) form sum p.capacity goes
+drain-kept (at.StoreHead n (after_read.Round form sum)) p drains one goes = (refl, one)
+drain-kept (at.TakeWriter (after_read.Round form sum)) p drains one goes = wakes-kept p.writer_waker form sum p.woken p.reader_call one goes
+drain-kept (at.WakeWriter (after_read.Round form sum)) p drains one goes = (refl, one)
+drain-kept point p drains one goes = absurd (cc)
+
+-- a drain that was opened at p has come to u
+pub record Draining (p u : Pipe) : Type 0 where
+  pub drains : is_draining u.reader ≡ true
+  pub busy : reader_state u.reader ≡ Busy
+  pub valid : ReaderValid u.reader u
+  pub wakes : WakesOne u.reader u
+  pub rest : reader_alone p.reader p ≡ reader_alone u.reader u
+
+abbrev pub left_of : Pipe → ℕ
+left_of p = reads_left p.reader p
+
+-- what a step of it comes to: nearer to the answer, or the answer
+abbrev pub IsDrained : Pipe → Pipe → Option Answer → Pipe → Type 0
+IsDrained p u None r = Draining p r × (left_of r < left_of u)
+IsDrained p u (Some answer) r = reader_alone p.reader p ≡ record { answer = answer; pipe = r }
+
+drained-by : (p u : Pipe) (answer : Option Answer) → Draining p u → (read_step u.reader u).answer ≡ answer → IsDrained p u answer (read_step u.reader u).pipe
+drained-by p u None draining is =
+    let s = read_step u.reader u in
+    let kept = drain-kept u.reader u draining.drains draining.wakes is in
+    let valid = draining.valid in (
+      record {
+        drains = kept.0;
+        busy = subst (λ (a : Option Answer). IsSettled a (reader_state s.pipe.reader)) is (reader-settled u.reader u draining.busy);
+        valid = reader-valid u.reader u draining.busy valid;
+        wakes = kept.1;
+        rest = draining.rest ∙ drain-rest u.reader u draining.drains valid.start (omega (arith, valid.unread, valid.known)) ∙ ap (λ (a : Option Answer). reader_rest a s.pipe) is;
+      },
+      drain-falls u.reader u draining.drains valid is,
+    )
+drained-by p u (Some answer) draining is =
+    let s = read_step u.reader u in
+    let valid = draining.valid in
+    draining.rest ∙ drain-rest u.reader u draining.drains valid.start (omega (arith, valid.unread, valid.known)) ∙ ap (λ (a : Option Answer). reader_rest a s.pipe) is
+
+-- a step that does not call the destination leaves it as it is
+pub record IsApart (point : ReadPoint) (destination : Destination) (p : Pipe) : Type 0 where
+  pub answer : (read_step point (placing destination p)).answer ≡ (read_step point p).answer
+  pub pipe : (read_step point (placing destination p)).pipe ≡ placing (destination_after (read_step point p).answer destination) (read_step point p).pipe
+  pub destination_is : (read_step point p).pipe.destination ≡ destination_after (read_step point p).answer p.destination
+
+apart : (point : ReadPoint) (destination : Destination) (p : Pipe) → (read_action point ≡ does.CallDestination → ⊥) → IsApart point destination p
+apart (at.CallDestination form sum) destination p other = absurd (other refl)
+apart point destination p other = record { answer = refl; pipe = refl; destination_is = refl }
+
+-- the same of a pipe whose call holds no destination
+abbrev pub IsGoneOn : Pipe → Destination → Pipe → Option Answer → Pipe → Type 0
+IsGoneOn p destination q None r = Draining p (placing destination r) × (left_of r < left_of q)
+IsGoneOn p destination q (Some answer) r = reader_alone p.reader p ≡ record { answer = answer; pipe = r }
+
+pub record IsGone (p : Pipe) (destination : Destination) (q : Pipe) (found : Option Answer) (r : Pipe) : Type 0 where
+  pub on : IsGoneOn p destination q found r
+
+-- what that shows in an arm without an answer, and in one with it
+pub goes : {p : Pipe} {destination : Destination} {q r : Pipe} {found : Option Answer} → IsGone p destination q found r → found ≡ None → Draining p (placing destination r) × (left_of r < left_of q)
+goes {p} {destination} {q} {r} gone is = subst (λ (a : Option Answer). IsGoneOn p destination q a r) is gone.on
+
+pub record IsAnswered (p : Pipe) (answer : Answer) (r : Pipe) : Type 0 where
+  pub answer_is : answer ≡ (reader_alone p.reader p).answer
+  pub after : r ≡ (reader_alone p.reader p).pipe
+
+pub ends : {p : Pipe} {destination : Destination} {q r : Pipe} {found : Option Answer} {answer : Answer} → IsGone p destination q found r → found ≡ Some answer → IsAnswered p answer r
+ends {p} {destination} {q} {r} gone is =
+    let ended = subst (λ (a : Option Answer). IsGoneOn p destination q a r) is gone.on in
+    record { answer_is = sym (ap (λ (e : Ended). e.answer) ended); after = sym (ap (λ (e : Ended). e.pipe) ended) }
+
+gone-on : (p q r : Pipe) (destination : Destination) (answer : Option Answer) (s : Pipe) → s ≡ placing (destination_after answer destination) r → r.destination ≡ destination_after answer r.destination → IsDrained p (placing destination q) answer s → IsGoneOn p destination q answer r
+gone-on p q r destination None s is kept drained = subst (λ (v : Pipe). Draining p v × (left_of v < left_of q)) is drained
+gone-on p q r destination (Some answer) s is kept drained = drained ∙ ap (λ (v : Pipe). record { answer = answer; pipe = v }) (is ∙ λ j. record r { destination = sym kept j })
+
+settled-destination : (answer : Option Answer) (left held : Destination) → left ≡ destination_after answer held → left ≡ destination_after answer left
+settled-destination None left held is = refl
+settled-destination (Some answer) left held is = is
+
+-- a step that the machine makes with no destination of its own: the waker that it calls is heard,
+-- and then it goes
+pub goes-on : (p q h r : Pipe) (destination : Destination) (answer : Option Answer) → Draining p (placing destination q) → (read_action q.reader ≡ does.CallDestination → ⊥) → h ≡ heard Reader (read_action q.reader) q
+    → answer ≡ (went Reader h).answer → r ≡ (went Reader h).pipe → IsGoneOn p destination q answer r
+goes-on p q h r destination answer draining other hears answers after =
+    let s = read_step q.reader q in
+    let answer_is : answer ≡ s.answer = answers ∙ ap (λ (v : Pipe). (went Reader v).answer) hears in
+    let pipe_is : r ≡ s.pipe = after ∙ ap (λ (v : Pipe). (went Reader v).pipe) hears in
+    let same = apart q.reader destination q other in
+    let u = placing destination q in
+    let drained = drained-by p u answer draining (same.answer ∙ sym answer_is) in
+    let is : (read_step q.reader u).pipe ≡ placing (destination_after answer destination) r = same.pipe ∙ ap (λ (a : Option Answer). placing (destination_after a destination) s.pipe) (sym answer_is) ∙ ap (placing (destination_after answer destination)) (sym pipe_is) in
+    let kept : r.destination ≡ destination_after answer q.destination = ap (λ (v : Pipe). v.destination) pipe_is ∙ same.destination_is ∙ ap (λ (a : Option Answer). destination_after a q.destination) (sym answer_is) in
+    gone-on p q r destination answer (read_step q.reader u).pipe is (settled-destination answer r.destination q.destination kept) drained
+
+-- a call of the destination
+pub record IsCalled (point : ReadPoint) (p : Pipe) : Type 0 where
+  pub answer : (read_step point p).answer ≡ drain_answer (found_of (taken (round_count p) p.destination)) (record p { reader = point })
+  pub pipe : (read_step point p).pipe ≡ drain_left (found_of (taken (round_count p) p.destination)) (destination_called (record p { reader = point }))
+
+call-step : (point : ReadPoint) (p : Pipe) → read_action point ≡ does.CallDestination → IsCalled point p
+call-step (at.CallDestination form sum) p calls = record { answer = refl; pipe = refl }
+call-step point p calls = absurd (cc)
+
+-- what a call of the destination finds leads to r
+pub record IsRound (found : Found) (q : Pipe) (answer : Option Answer) (r : Pipe) : Type 0 where
+  pub answer_is : answer ≡ drain_answer found q
+  pub after : r ≡ drain_left found q
+
+pub called : (destination : Destination) (found : Found) (p q r : Pipe) (answer : Option Answer) → read_action q.reader ≡ does.CallDestination → Draining p (placing destination q)
+    → found_of (taken (round_count q) destination) ≡ found → IsRound found q answer r → IsGoneOn p (left_of_destination (round_count q) destination) q answer r
+called destination found p q r answer calls draining found_is round =
+    let u = placing destination q in
+    let rest = left_of_destination (round_count q) destination in
+    let step = call-step q.reader u calls in
+    let answer_is : (read_step q.reader u).answer ≡ answer = step.answer ∙ ap (λ (f : Found). drain_answer f u) found_is ∙ sym round.answer_is in
+    let pipe : (read_step q.reader u).pipe ≡ placing (destination_after answer rest) r =
+    step.pipe
+    ∙ ap (λ (f : Found). drain_left f (destination_called u)) found_is
+    ∙ ap (λ (a : Option Answer). placing (destination_after a rest) (drain_left found q)) (sym round.answer_is)
+    ∙ ap (placing (destination_after answer rest)) (sym round.after) in
+    let kept : r.destination ≡ destination_after answer q.destination = ap (λ (v : Pipe). v.destination) round.after ∙ ap (λ (a : Option Answer). destination_after a q.destination) (sym round.answer_is) in
+    gone-on p q r rest answer (read_step q.reader u).pipe pipe (settled-destination answer r.destination q.destination kept) (drained-by p u answer draining answer_is)
+
+-- the unread bytes: a store that is next gives them up
+no-store : (capacity : ℕ) (point : ReadPoint) (found : Found) → reader_state point ≡ Busy → moved_in found ≡ 0 → head_store (read_after capacity point found).point ≡ 0
+no-store capacity point found busy none = let store = (reads-on capacity point found busy).store in omega arith
+
+pub calls-store : (point : ReadPoint) → read_action point ≡ does.CallDestination → head_store point ≡ 0
+calls-store (at.CallDestination form sum) calls = refl
+calls-store point calls = absurd (cc)
+
+-- how many bytes such a step takes in, where a slice has so many places left
+abbrev pub took : Action → ℕ → Pipe → ℕ
+took does.CallDestination size p = min size (round_count p)
+took action size p = 0
+
+pub took-none : (action : Action) (size : ℕ) (p : Pipe) → (action ≡ does.CallDestination → ⊥) → took action size p ≡ 0
+took-none does.CallDestination size p other = absurd (other refl)
+took-none action size p other = refl
+
+record Reads (store n size : ℕ) (unread : List ℕ) (s : Stepped) : Type 0 where
+  pub unread_is : drop (head_store s.pipe.reader) s.pipe.unread ≡ drop n (drop store unread)
+  pub ends : is_some s.answer ≡ true → head_store s.pipe.reader ≡ 0
+  pub destination : s.pipe.destination ≡ destination_after s.answer (Slice (size - n))
+
+reads-none : (store size : ℕ) (unread : List ℕ) (s : Stepped) → head_store s.pipe.reader ≡ 0 → s.pipe.unread ≡ drop store unread → s.pipe.destination ≡ destination_after s.answer (Slice size) → Reads store 0 size unread s
+reads-none store size unread s none is held =
+    let all : size - 0 ≡ size = omega arith in
+    record {
+      unread_is = ap (λ (k : ℕ). drop k s.pipe.unread) none ∙ is;
+      ends = λ ends. none;
+      destination = held ∙ ap (λ (k : ℕ). destination_after s.answer (Slice k)) (sym all);
+    }
+
+moves-read : (n : ℕ) (none : Bool) (form : Form) (sum : ℕ) (unread : List ℕ) → (n == 0) ≡ none → let next = reader_moved none n form sum in
+    (drop (head_store next.point) unread ≡ drop n unread) × (is_some next.answer ≡ true → head_store next.point ≡ 0)
+moves-read n true form sum unread test = let none : 0 ≡ n = grind (arith, nat_tests) in (ap (λ (k : ℕ). drop k unread) none, λ ends. refl)
+moves-read n false form sum unread test = (refl, λ ends. absurd (cc))
+
+reads : (point : ReadPoint) (size : ℕ) (p : Pipe) → is_draining point ≡ true → Reads (head_store point) (took (read_action point) size p) size p.unread (read_step point (placing (Slice size) p))
+reads (at.LookTail (purpose.Copy form)) size p drains = reads-none 0 size p.unread (read_step (at.LookTail (purpose.Copy form)) (placing (Slice size) p)) (no-store p.capacity (at.LookTail (purpose.Copy form)) (index_loaded (length p.unread == 0)) refl refl) refl refl
+reads (at.LookRegister (purpose.Copy form)) size p drains = reads-none 0 size p.unread (read_step (at.LookRegister (purpose.Copy form)) (placing (Slice size) p)) (no-store p.capacity (at.LookRegister (purpose.Copy form)) (granted (is_granted p.reader_call.context)) refl refl) refl refl
+reads (at.LookClosed (purpose.Copy form)) size p drains = reads-none 0 size p.unread (read_step (at.LookClosed (purpose.Copy form)) (placing (Slice size) p)) refl refl refl
+reads (at.LookTailAgain (purpose.Copy form) was_closed) size p drains = reads-none 0 size p.unread (read_step (at.LookTailAgain (purpose.Copy form) was_closed) (placing (Slice size) p)) (no-store p.capacity (at.LookTailAgain (purpose.Copy form) was_closed) (index_loaded (length p.unread == 0)) refl refl) refl refl
+reads (at.LookTake (purpose.Copy form)) size p drains = reads-none 0 size p.unread (read_step (at.LookTake (purpose.Copy form)) (placing (Slice size) p)) (no-store p.capacity (at.LookTake (purpose.Copy form)) nothing refl refl) refl refl
+reads at.Yield size p drains = reads-none 0 size p.unread (read_step at.Yield (placing (Slice size) p)) refl refl refl
+reads (at.CallDestination form sum) size p drains =
+    let n = min size (round_count p) in
+    let moved = moves-read n (n == 0) form sum p.unread refl in
+    record { unread_is = moved.0; ends = moved.1; destination = refl }
+reads (at.StoreHead n (after_read.Round form sum)) size p drains = reads-none n size p.unread (read_step (at.StoreHead n (after_read.Round form sum)) (placing (Slice size) p)) refl refl refl
+reads (at.TakeWriter (after_read.Round form sum)) size p drains = reads-none 0 size p.unread (read_step (at.TakeWriter (after_read.Round form sum)) (placing (Slice size) p)) (no-store p.capacity (at.TakeWriter (after_read.Round form sum)) (waker (is_some p.writer_waker)) refl refl) refl refl
+reads (at.WakeWriter (after_read.Round form sum)) size p drains = reads-none 0 size p.unread (read_step (at.WakeWriter (after_read.Round form sum)) (placing (Slice size) p)) refl refl refl
+reads point size p drains = absurd (cc)
+
+-- so many bytes have left the pipe, or leave it by the store that is next
+pub record IsRead (before : List ℕ) (size done : ℕ) (p : Pipe) : Type 0 where
+  pub unread : drop (head_store p.reader) p.unread ≡ drop done before
+  pub destination : p.destination ≡ Slice (size - done)
+
+pub record IsReadOn (before : List ℕ) (size done : ℕ) (answer : Option Answer) (r : Pipe) : Type 0 where
+  pub on : answer ≡ None → IsRead before size done r
+  pub ends : is_some answer ≡ true → r.unread ≡ drop done before
+
+is-read-on : (before : List ℕ) (size done : ℕ) (answer : Option Answer) (r : Pipe) → drop (head_store r.reader) r.unread ≡ drop done before → (is_some answer ≡ true → head_store r.reader ≡ 0) → r.destination ≡ destination_after answer (Slice (size - done)) → IsReadOn before size done answer r
+is-read-on before size done None r unread ends held = record { on = λ none. record { unread = unread; destination = held }; ends = λ some. absurd (cc) }
+is-read-on before size done (Some answer) r unread ends held = record { on = λ none. absurd (cc); ends = λ some. sym (ap (λ (k : ℕ). drop k r.unread) (ends refl)) ∙ unread }
+
+-- a step of the call takes in what is read
+pub takes-in : (before : List ℕ) (size done : ℕ) (q h r : Pipe) (answer : Option Answer) → is_draining q.reader ≡ true → IsRead before size done q → h ≡ heard Reader (read_action q.reader) q → answer ≡ (went Reader h).answer → r ≡ (went Reader h).pipe
+    → IsReadOn before size (done + took (read_action q.reader) (size - done) q) answer r
+takes-in before size done q h r answer drains is hears answers after =
+    let n = took (read_action q.reader) (size - done) q in
+    let held : placing (Slice (size - done)) q ≡ q = λ j. record q { destination = sym is.destination j } in
+    let read = subst (λ (v : Pipe). Reads (head_store q.reader) n (size - done) q.unread (read_step q.reader v)) held (reads q.reader (size - done) q drains) in
+    let s = read_step q.reader q in
+    let answer_is : answer ≡ s.answer = answers ∙ ap (λ (v : Pipe). (went Reader v).answer) hears in
+    let pipe_is : r ≡ s.pipe = after ∙ ap (λ (v : Pipe). (went Reader v).pipe) hears in
+    let sizes : size - done - n ≡ size - (done + n) = omega arith in
+    is-read-on before size (done + n) answer r
+    (ap (λ (v : Pipe). drop (head_store v.reader) v.unread) pipe_is ∙ read.unread_is ∙ ap (drop n) is.unread ∙ drop-drop n done before)
+    (λ some. ap (λ (v : Pipe). head_store v.reader) pipe_is ∙ read.ends (ap (λ (a : Option Answer). is_some a) (sym answer_is) ∙ some))
+    (ap (λ (v : Pipe). v.destination) pipe_is ∙ read.destination ∙ ap (λ (k : ℕ). destination_after s.answer (Slice k)) sizes ∙ ap (λ (a : Option Answer). destination_after a (Slice (size - (done + n)))) (sym answer_is))
+
+along : (p q r : Pipe) (answer : Option Answer) → IsDrained p q answer r → IsGoneOn p r.destination q answer r
+along p q r None drained = drained
+along p q r (Some answer) drained = drained
+
+pub goes-along : (p q h r : Pipe) (answer : Option Answer) → Draining p q → h ≡ heard Reader (read_action q.reader) q → answer ≡ (went Reader h).answer → r ≡ (went Reader h).pipe → IsGone p r.destination q answer r
+goes-along p q h r answer draining hears answers after =
+    let answer_is : answer ≡ (read_step q.reader q).answer = answers ∙ ap (λ (v : Pipe). (went Reader v).answer) hears in
+    let pipe_is : r ≡ (read_step q.reader q).pipe = after ∙ ap (λ (v : Pipe). (went Reader v).pipe) hears in
+    record { on = along p q r answer (subst (λ (v : Pipe). IsDrained p q answer v) (sym pipe_is) (drained-by p q answer draining (sym answer_is))) }
+
+-- what is copied to a slice just before a step that takes it in
+pub record IsCopied (before dest : List ℕ) (n done : ℕ) (filled_now : List ℕ) : Type 0 where
+  pub count : done ≡ n
+  pub within : done ≤ length filled_now
+  pub known : done ≤ length before
+  pub bytes : filled_now ≡ take done before ++ drop done dest
+
+pub copies : (before dest so_far part : List ℕ) (done n sum : ℕ) → done ≤ length before → so_far ≡ take done before ++ drop done dest → length so_far ≡ length dest → done + n ≤ length dest → done + n ≤ length before
+    → part ≡ take n (drop done before) ++ drop n (drop done so_far) → done + n ≡ sum → IsCopied before dest sum (done + n) (put_mid done (length so_far - done) so_far part)
+copies before dest so_far part done n sum known is long fits more part_is same =
+    let whole = ap (put_mid done (length so_far - done) so_far) part_is ∙ next_part done n before dest so_far known fits is long in
+    record {
+      count = same;
+      within = rw whole (omega (arith, more, fits, length-append (take (done + n) before) (drop (done + n) dest), length-take (done + n) before, length-drop (done + n) dest));
+      known = more;
+      bytes = whole;
+    }
+
+-- as many bytes are in the slice as have left the pipe
+pub drained-bytes : (n : ℕ) (before after dest filled_so_far : List ℕ) → n ≤ length before → after ≡ drop n before → filled_so_far ≡ take n before ++ drop n dest
+    → let count = length before - length after in filled_so_far ≡ take count before ++ drop count dest
+drained-bytes n before after dest so_far known left is =
+    let count : n ≡ length before - length after = omega (arith, ap (λ (xs : List ℕ). length xs) left, length-drop n before) in
+    is ∙ ap (λ (k : ℕ). take k before ++ drop k dest) count
+
+-- a drain is opened
+looks-drain : (none : Bool) (form : Form) → is_draining (reader_looks_for none (purpose.Copy form)) ≡ true
+looks-drain true form = refl
+looks-drain false Try = refl
+looks-drain false (Polling drawn) = refl
+
+looks-busy : (none : Bool) (form : Form) → reader_state (reader_looks_for none (purpose.Copy form)) ≡ Busy
+looks-busy true form = refl
+looks-busy false Try = refl
+looks-busy false (Polling drawn) = refl
+
+looks-store : (none : Bool) (form : Form) → head_store (reader_looks_for none (purpose.Copy form)) ≡ 0
+looks-store true form = refl
+looks-store false Try = refl
+looks-store false (Polling drawn) = refl
+
+looks-errand : (none : Bool) (form : Form) (c : OpenCall) → errand (reader_looks_for none (purpose.Copy form)) c ≡ None
+looks-errand true form c = refl
+looks-errand false Try c = refl
+looks-errand false (Polling drawn) c = refl
+
+pub opened : (cx : Option Context) (destination : Destination) (p q : Pipe) → IsSound p → p.woken ≡ [] → q ≡ drain_opened cx (Slice 0) p → Draining (drain_opened cx destination p) (placing destination q)
+opened cx destination p q sound unwoken is =
+    let none = p.known == 0 in
+    let form = form_of cx in
+    let store = looks-store none form in
+    let o = drain_opened cx destination p in
+    subst (λ (v : Pipe). Draining o (placing destination v)) (sym is) (record {
+      drains = looks-drain none form;
+      busy = looks-busy none form;
+      valid = record { unread = sound.unread; start = sound.start; known = sound.known; store = omega arith };
+      wakes = subst (λ (names : List ℕ). HasOneWake (with_waker names (errand o.reader o.reader_call)) p.writer_waker) (sym unwoken) (subst (λ (name : Option ℕ). HasOneWake (with_waker [] name) p.writer_waker) (sym (looks-errand none form o.reader_call)) (one_wake-none p.writer_waker));
+      rest = refl;
+    })
+
+pub opened-slice : (cx : Option Context) (size : ℕ) (p q : Pipe) → IsSound p → p.woken ≡ [] → q ≡ drain_opened cx (Slice size) p → Draining (drain_opened cx (Slice size) p) q × IsRead p.unread size 0 q
+opened-slice cx size p q sound unwoken is =
+    let o = drain_opened cx (Slice size) p in
+    let store = looks-store (p.known == 0) (form_of cx) in
+    let all : size ≡ size - 0 = omega arith in
+    subst (λ (v : Pipe). Draining o v × IsRead p.unread size 0 v) (sym is) (
+      opened cx (Slice size) p (drain_opened cx (Slice 0) p) sound unwoken refl,
+      record { unread = ap (λ (n : ℕ). drop n p.unread) store; destination = ap (λ (n : ℕ). Slice n) all },
+    )
+
+-- the acts of a script are spent one after the other
+acts-left : (acts : List DestAct) → left_of_acts acts ≡ drop 1 acts
+acts-left [] = refl
+acts-left (act ∷ acts) = refl
+
+pub next-act : (spent : ℕ) (acts : List DestAct) → left_of_acts (drop spent acts) ≡ drop (spent + 1) acts
+next-act spent acts = acts-left (drop spent acts) ∙ drop-drop 1 spent acts
+
+-- a drain to a slice returns how many bytes have left the pipe
+pub record IsCounted (before : List ℕ) (count : ℕ) (after : List ℕ) : Type 0 where
+  pub within : count ≤ length before
+  pub left : after ≡ drop count before
+
+abbrev CountsTo : Pipe → Copied ℕ → Type 0
+CountsTo p copied = IsCounted p.unread (count_of copied.answer) copied.pipe.unread
+
+none-moved : (bytes : List ℕ) → IsCounted bytes 0 bytes
+none-moved bytes = record { within = omega arith; left = refl }
+
+drawn-counts : (is_drawn yields : Bool) (cx : Context) (size : ℕ) (p : Pipe) → cx.luck.yield_granted ≡ yields → p.known ≤ length p.unread → CountsTo p (drawn is_drawn cx (drain_moves size) p)
+drawn-counts true true cx size p y known = rw y (none-moved p.unread)
+drawn-counts true false cx size p y known = rw y (none-moved p.unread)
+drawn-counts false yields cx size p y known = record { within = omega arith; left = refl }
+
+after-counts : (cx : Option Context) (size : ℕ) (answer : Polled Bool) (p : Pipe) → p.known ≤ length p.unread → CountsTo p (copied_after cx 0 (drain_moves size) answer p)
+after-counts None size (Ready true) p known = record { within = omega arith; left = refl }
+after-counts (Some cx) size (Ready true) p known = drawn-counts (cx.luck.draw == 0) cx.luck.yield_granted cx size p refl known
+after-counts cx size (Ready false) p known = none-moved p.unread
+after-counts cx size Pending p known = none-moved p.unread
+after-counts cx size Memory p known = none-moved p.unread
+
+abbrev KeepsUnread : Pipe → Pipe → Type 0
+KeepsUnread p q = (q.unread ≡ p.unread) × (q.known ≡ p.known)
+
+registers-keep : (granted : Bool) (name : ℕ) (p : Pipe) → KeepsUnread p (reader_registers granted name p).pipe
+registers-keep true name p = (refl, refl)
+registers-keep false name p = (refl, refl)
+
+looks-keep : (none : Bool) (cx : Option Context) (p : Pipe) → KeepsUnread p (reader_looks none cx p).pipe
+looks-keep true None p = (refl, refl)
+looks-keep true (Some cx) p = registers-keep cx.luck.register_granted cx.waker p
+looks-keep false None p = (refl, refl)
+looks-keep false (Some cx) p = (refl, refl)
+
+loaded-known : (p : Pipe) → p.known ≤ length p.unread → (tail_loaded_if_empty p).known ≤ length p.unread
+loaded-known p known = grind (arith, nat_tests)
+
+pub drain-counts : (cx : Option Context) (size : ℕ) (p : Pipe) → p.known ≤ length p.unread → CountsTo p (drain cx size p)
+drain-counts cx size p known =
+    let look = reader_look cx (begun p) in
+    let kept = looks-keep ((tail_loaded_if_empty (begun p)).known == 0) cx (tail_loaded_if_empty (begun p)) in
+    let long = loaded-known (begun p) known in
+    let unread = kept.0 in
+    let same = ap (λ (xs : List ℕ). length xs) unread in
+    let counts = after-counts cx size look.answer look.pipe (omega (arith, kept.1)) in
+    subst (λ (bytes : List ℕ). IsCounted bytes (count_of (drain cx size p).answer) (drain cx size p).pipe.unread) unread counts
+
+-- the front of the slice, by that count
+pub counted-bytes : (count : ℕ) (before after dest filled_now : List ℕ) → IsCounted before count after → (let n = length before - length after in filled_now ≡ take n before ++ drop n dest) → filled_now ≡ take count before ++ drop count dest
+counted-bytes count before after dest filled_now is bytes =
+    let long = ap (λ (xs : List ℕ). length xs) is.left in
+    let same : length before - length after ≡ count = omega (arith, long, is.within, length-drop count before) in
+    bytes ∙ ap (λ (k : ℕ). take k before ++ drop k dest) same

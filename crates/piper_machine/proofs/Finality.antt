@@ -1,0 +1,252 @@
+-- Each step keeps a reported end final: the pipe is closed for good, with nothing unread and
+-- nothing lent that could still be published.
+use Rattle.std.proofs.Common.{◌≡◌, inl, inr, ℕ, List, [], ◌∷◌, ◌++◌, length, take, Bool, true, false, Option, None, Some, ◌==◌, refl, sym, ap, subst, ◌∙◌, slice_set, arith}
+use Rattle.std.proofs.lemmas.Bool.Decides.{nat_tests}
+use Rattle.piper_protocol.specs.declared.table.Side.TheVariants.{Reader, Writer}
+use Rattle.piper_machine.specs.declared.calls.OpenCall.{OpenCall}
+use Rattle.piper_machine.specs.declared.calls.Call.{Call}
+use Rattle.piper_machine.specs.declared.calls.Call.TheVariants as call
+use Rattle.piper_machine.specs.declared.calls.Step.{Step}
+use Rattle.piper_machine.specs.declared.calls.Step.TheVariants.{Begin, Go, Put}
+use Rattle.piper_protocol.specs.declared.answer.Answer.{Answer}
+use Rattle.piper_machine.specs.declared.events.Event.{Event}
+use Rattle.piper_machine.specs.declared.polling.Context.{Context}
+use Rattle.piper_protocol.specs.declared.table.Action.{Action}
+use Rattle.piper_protocol.specs.declared.table.Action.TheVariants as does
+use Rattle.piper_machine.specs.declared.scripted.SourceAct.{SourceAct}
+use Rattle.piper_machine.specs.declared.scripted.SourceAct.TheVariants as source
+use Rattle.piper_protocol.specs.declared.table.Form.TheVariants.{Try, Polling}
+use Rattle.piper_protocol.specs.declared.table.Purpose.{Purpose}
+use Rattle.piper_protocol.specs.declared.table.Purpose.TheVariants as purpose
+use Rattle.piper_protocol.specs.declared.table.AfterRead.TheVariants as after_read
+use Rattle.piper_protocol.specs.declared.table.AfterWrite.TheVariants as after_write
+use Rattle.piper_protocol.specs.declared.table.ReadPoint.{ReadPoint}
+use Rattle.piper_protocol.specs.declared.table.ReadPoint.TheVariants as at
+use Rattle.piper_protocol.specs.declared.table.WritePoint.{WritePoint}
+use Rattle.piper_protocol.specs.declared.table.WritePoint.TheVariants as on
+use Rattle.piper_machine.specs.Open.{called_with}
+use Rattle.piper_protocol.specs.Table.{read_action, write_action, reader_looks_for}
+use Rattle.piper_machine.specs.Log.{answer_event}
+use Rattle.piper_machine.specs.Pipe.{Pipe, fresh}
+use Rattle.piper_machine.specs.Sound.{IsSound}
+use Rattle.piper_machine.specs.Action.{logged_of}
+use Rattle.piper_machine.specs.Step.{Stepped, went, stepped, offering, lent_at}
+use Rattle.piper_machine.specs.declared.destination.Destination.{Destination}
+use Rattle.piper_machine.specs.declared.destination.Destination.TheVariants.{Slice, Acts}
+use Rattle.piper_machine.specs.Refusal.{refusal_of}
+use Rattle.piper_machine.specs.Look.{context}
+use Rattle.piper_machine.specs.Lend.{lending}
+use Rattle.piper_machine.specs.Run.{Made}
+use Rattle.piper_machine.specs.End.{saw_closed_from, saw_closed, found_none}
+use Rattle.piper_machine.specs.Final.{told_end, IsOver, IsFinal}
+use Rattle.piper_machine.proofs.Ends.{ended_after, ended_from, IsFinalFrom, saw-append, ended-append, final-append, final-after, found-here}
+use Rattle.piper_machine.proofs.Causes.{read_leaves, write_leaves, IsEnded, IsCaused, is_known, reader-caused, writer_after, writer-ended, writer-known, writer-caused}
+use Rattle.piper_machine.proofs.Honesty.{loaded, saw_close, writer-flag, opens-unloaded, Honest}
+use Rattle.piper_machine.proofs.Counting.{writer_leaves-reader, writer_never-head}
+use Rattle.piper_machine.proofs.Remembering.{reader_leaves, reader-idle, writer-idle}
+use Rattle.piper_machine.proofs.After.{is_over, Over, take_none, Quiet, context-quiet, wake-quiet, yield-quiet, IsLinked, unlinked, Sees, reader-logs, reader-sees, reader-ends}
+
+-- kept by every step
+pub record Lasts (p : Pipe) (saw ended : Bool) : Type 0 where
+  pub known : is_known p.writer ≡ true
+  pub caused : p.is_closed ≡ true → IsCaused p
+  pub over : ended ≡ true → Over p
+  pub sees : Sees saw p
+
+-- once an end was reported nothing is lent that could be stored
+none_lent : (p : Pipe) → IsSound p → write_leaves p.writer ≡ false → IsEnded p → p.lent ≡ []
+none_lent p sound stays ended = elim ended [ inl leaves ↦ absurd (cc) | inr shut ↦ sound.shut shut ]
+
+stored_none : (n : ℕ) (xs ys : List ℕ) → xs ≡ [] → ys ≡ [] → xs ++ take n ys ≡ []
+stored_none n xs ys h k = rw (h, take_none n ys k) refl
+
+writer-over : (offered : List ℕ) (point : WritePoint) (p : Pipe) → IsSound (record p { writer = point }) → Over (record p { writer = point }) → Over (writer_after offered point p)
+writer-over offered (on.StoreTail n next) p sound o =
+    let lent = none_lent (record p { writer = on.StoreTail n next }) sound refl o.ended in
+    record { closed = o.closed; ended = writer-ended offered (on.StoreTail n next) p o.ended; unread = stored_none n p.unread p.lent o.unread lent; valid = o.valid }
+writer-over offered (on.StoreClosed after_write.Answer) p sound o = record { closed = refl; ended = writer-ended offered (on.StoreClosed after_write.Answer) p o.ended; unread = o.unread; valid = o.valid }
+writer-over offered (on.StoreClosed (after_write.Round form sum)) p sound o = record { closed = refl; ended = writer-ended offered (on.StoreClosed (after_write.Round form sum)) p o.ended; unread = o.unread; valid = o.valid }
+writer-over offered (on.StoreClosed after_write.Drop) p sound o = record { closed = refl; ended = writer-ended offered (on.StoreClosed after_write.Drop) p o.ended; unread = o.unread; valid = o.valid }
+writer-over offered (on.StoreClosed after_write.WakeWriter) p sound o = record { closed = refl; ended = writer-ended offered (on.StoreClosed after_write.WakeWriter) p o.ended; unread = o.unread; valid = o.valid }
+writer-over offered point p sound o = record { closed = o.closed; ended = writer-ended offered point p o.ended; unread = o.unread; valid = o.valid }
+
+-- what the writer's step logs, and returns
+
+module _ (saw ended : Bool) (q : Pipe) (unread : ended ≡ true → q.unread ≡ []) (closed : ended ≡ true → q.is_closed ≡ true) where
+  writer-logs : (action : Action) → ((n : ℕ) → action ≡ does.StoreTail n → ended ≡ true → q.lent ≡ []) → Quiet saw ended (logged_of Writer action q)
+  writer-logs does.Rest unlent = (tt, refl, refl)
+  writer-logs does.LoadHead unlent = ((λ t. rw (unread t) refl, tt), refl, refl)
+  writer-logs does.LoadTail unlent = ((λ t. rw (unread t) refl, tt), refl, refl)
+  writer-logs does.LoadIndex unlent = ((λ t. rw (unread t) refl, tt), refl, refl)
+  writer-logs does.LoadClosed unlent = ((closed, tt), refl, refl)
+  writer-logs does.Register unlent = context-quiet saw ended Writer q.writer_call.context
+  writer-logs (does.StoreHead n) unlent = ((λ t. take_none n q.unread (unread t), tt), refl, refl)
+  writer-logs (does.StoreTail n) unlent = ((λ t. take_none n q.lent (unlent n refl t), tt), refl, refl)
+  writer-logs (does.StoreClosed is_shut) unlent = ((λ t. tt, tt), refl, refl)
+  writer-logs (does.Take slot) unlent = (tt, refl, refl)
+  writer-logs does.Wake unlent = wake-quiet saw ended q.writer_call.taken
+  writer-logs does.Yield unlent = yield-quiet saw ended q.writer_call.context
+  writer-logs does.CallDestination unlent = (tt, refl, refl)
+  writer-logs does.CallSource unlent = (tt, refl, refl)
+
+writer-answers : (saw ended : Bool) (answer : Option Answer) → Quiet saw ended (answer_event Writer answer)
+writer-answers saw ended None = (tt, refl, refl)
+writer-answers saw ended (Some answer) = ((λ t. tt, tt), refl, refl)
+
+writer-publishes : (point : WritePoint) (n : ℕ) → write_action point ≡ does.StoreTail n → write_leaves point ≡ false
+writer-publishes (on.StoreTail m next) n e = refl
+writer-publishes (on.StoreClosed after_write.Answer) n e = absurd (cc)
+writer-publishes (on.StoreClosed (after_write.Round form sum)) n e = absurd (cc)
+writer-publishes (on.StoreClosed after_write.Drop) n e = absurd (cc)
+writer-publishes (on.StoreClosed after_write.WakeWriter) n e = absurd (cc)
+writer-publishes point n e = absurd (cc)
+
+-- a store publishes what was lent before
+publishes-lent : (point : WritePoint) (n : ℕ) (offered lent : List ℕ) → write_action point ≡ does.StoreTail n → lent_at point offered lent ≡ lent
+publishes-lent (on.StoreTail m next) n offered lent e = refl
+publishes-lent (on.StoreClosed after_write.Answer) n offered lent e = refl
+publishes-lent (on.StoreClosed (after_write.Round form sum)) n offered lent e = refl
+publishes-lent (on.StoreClosed after_write.Drop) n offered lent e = refl
+publishes-lent (on.StoreClosed after_write.WakeWriter) n offered lent e = refl
+publishes-lent (on.CallSource form sum) n offered lent e = absurd (cc)
+publishes-lent point n offered lent e = refl
+
+-- a call is opened outside any other call of its side
+
+opens-over : (none : Bool) (l : Purpose) → none ≡ true → is_over (reader_looks_for none l) ≡ true
+opens-over true l e = refl
+opens-over false l e = absurd (cc)
+
+none_known : (p : Pipe) → IsSound p → p.unread ≡ [] → (p.known == 0) ≡ true
+none_known p sound empty = let zero : length p.unread ≡ 0 = ap (λ (xs : List ℕ). length xs) empty in let within = sound.known in grind (arith, nat_tests)
+
+module _ (p : Pipe) (saw ended : Bool) (h : Lasts p saw ended) where
+  reader-opens : (point : ReadPoint) (c : OpenCall) (destination : Destination) → p.reader ≡ at.Idle → (p.unread ≡ [] → is_over point ≡ true) → loaded point ≡ None
+      → Lasts (record p { reader = point; reader_call = c; destination = destination }) false ended
+  reader-opens point c destination idle valid unloaded = record {
+    known = h.known;
+    caused = λ closed. elim (h.caused closed) [ inl leaves ↦ absurd (let stays = ap read_leaves idle in cc) | inr is_ended ↦ inr is_ended ];
+    over = λ t. let o = h.over t in record { closed = o.closed; ended = o.ended; unread = o.unread; valid = valid o.unread };
+    sees = (λ seen. absurd (cc), unlinked _ _ unloaded);
+  }
+
+  stays-ended : p.writer ≡ on.Idle → (point : WritePoint) → IsEnded p → IsEnded (record p { writer = point })
+  stays-ended idle point is_ended = elim is_ended [ inl leaves ↦ absurd (let stays = ap write_leaves idle in cc) | inr shut ↦ inr shut ]
+
+  writer-opens : (point : WritePoint) (c : OpenCall) (source : List SourceAct) → p.writer ≡ on.Idle → is_known point ≡ true → Lasts (record p { writer = point; writer_call = c; source = source }) saw ended
+  writer-opens point c source idle known = record {
+    known = known;
+    caused = λ closed. elim (h.caused closed) [ inl leaves ↦ inl leaves | inr is_ended ↦ inr (stays-ended idle point is_ended) ];
+    over = λ t. let o = h.over t in record { closed = o.closed; ended = stays-ended idle point o.ended; unread = o.unread; valid = o.valid };
+    sees = h.sees;
+  }
+
+  lends : (lent : List ℕ) → Lasts (lending lent p) saw ended
+  lends lent = record { known = h.known; caused = h.caused; over = λ t. let o = h.over t in record { closed = o.closed; ended = o.ended; unread = o.unread; valid = o.valid }; sees = h.sees }
+
+  looks : (l : Purpose) (context : Option Context) (destination : Destination) → IsSound p → p.reader ≡ at.Idle → Lasts (record p { reader = reader_looks_for (p.known == 0) l; reader_call = called_with context; destination = destination }) false ended
+  looks l context destination sound idle = reader-opens (reader_looks_for (p.known == 0) l) (called_with context) destination idle (λ empty. opens-over (p.known == 0) l (none_known p sound empty)) (opens-unloaded (p.known == 0) l)
+
+  fills : (l : Purpose) (context : Option Context) (source : List SourceAct) → p.writer ≡ on.Idle → Lasts (record p { writer = on.LookClosed l; writer_call = called_with context; source = source }) saw ended
+  fills l context source idle = writer-opens (on.LookClosed l) (called_with context) source idle refl
+
+abbrev Adds : Bool → Bool → Stepped → Type 0
+Adds saw ended new = IsFinalFrom saw ended new.events × Lasts new.pipe (saw_closed_from Reader saw new.events) (ended_from saw ended new.events)
+
+begin-lasts : (lent : List ℕ) (c : Call) (p : Pipe) (saw ended : Bool) → IsSound p → refusal_of (Begin c) p ≡ None → Lasts p saw ended → Adds saw ended (stepped lent (Begin c) p)
+begin-lasts lent (call.Query Reader query) p saw ended sound accepted h = ((λ t. tt, tt), reader-opens p saw ended h (at.QueryHead query) p.reader_call p.destination (reader-idle p.reader _ accepted) (λ empty. refl) refl)
+begin-lasts lent (call.IsClosed Reader) p saw ended sound accepted h = ((λ t. tt, tt), reader-opens p saw ended h at.QueryClosed p.reader_call p.destination (reader-idle p.reader _ accepted) (λ empty. refl) refl)
+begin-lasts lent (call.Poll Reader waker luck) p saw ended sound accepted h = ((λ t. tt, tt), looks p saw ended h purpose.Poll (Some (context waker luck)) p.destination sound (reader-idle p.reader _ accepted))
+begin-lasts lent (call.TryDrain size) p saw ended sound accepted h = ((λ t. tt, tt), looks p saw ended h (purpose.Copy Try) None (Slice size) sound (reader-idle p.reader _ accepted))
+begin-lasts lent (call.PollDrainBytes waker luck size) p saw ended sound accepted h = ((λ t. tt, tt), looks p saw ended h (purpose.Copy (Polling (luck.draw == 0))) (Some (context waker luck)) (Slice size) sound (reader-idle p.reader _ accepted))
+begin-lasts lent (call.PollDrain waker luck acts) p saw ended sound accepted h = ((λ t. tt, tt), looks p saw ended h (purpose.Copy (Polling (luck.draw == 0))) (Some (context waker luck)) (Acts acts) sound (reader-idle p.reader _ accepted))
+begin-lasts lent (call.Consume n) p saw ended sound accepted h = ((λ t. tt, tt), reader-opens p saw ended h (at.StoreHead n after_read.Answer) p.reader_call p.destination (reader-idle p.reader _ accepted) (λ empty. refl) refl)
+begin-lasts lent (call.Drop Reader) p saw ended sound accepted h = ((λ t. tt, tt), reader-opens p saw ended h at.StoreClosed p.reader_call p.destination (reader-idle p.reader _ accepted) (λ empty. refl) refl)
+begin-lasts lent (call.Query Writer query) p saw ended sound accepted h = ((λ t. tt, tt), writer-opens p saw ended h (on.QueryHead query) p.writer_call p.source (writer-idle p.writer _ accepted) refl)
+begin-lasts lent (call.IsClosed Writer) p saw ended sound accepted h = ((λ t. tt, tt), writer-opens p saw ended h on.QueryClosed p.writer_call p.source (writer-idle p.writer _ accepted) refl)
+begin-lasts lent (call.Poll Writer waker luck) p saw ended sound accepted h = ((λ t. tt, tt), fills p saw ended h purpose.Poll (Some (context waker luck)) p.source (writer-idle p.writer _ accepted))
+begin-lasts lent (call.TryFill bytes) p saw ended sound accepted h = ((λ t. tt, tt), fills p saw ended h (purpose.Copy Try) None (source.Bytes bytes ∷ []) (writer-idle p.writer _ accepted))
+begin-lasts lent (call.PollFillBytes waker luck bytes) p saw ended sound accepted h = ((λ t. tt, tt), fills p saw ended h (purpose.Copy (Polling (luck.draw == 0))) (Some (context waker luck)) (source.Bytes bytes ∷ []) (writer-idle p.writer _ accepted))
+begin-lasts lent (call.PollFill waker luck acts) p saw ended sound accepted h = ((λ t. tt, tt), fills p saw ended h (purpose.Copy (Polling (luck.draw == 0))) (Some (context waker luck)) acts (writer-idle p.writer _ accepted))
+begin-lasts lent (call.WriteBuf most) p saw ended sound accepted h = ((λ t. tt, (λ t. tt, tt)), lends p saw ended h lent)
+begin-lasts lent (call.Produced n) p saw ended sound accepted h = ((λ t. tt, tt), writer-opens p saw ended h (on.StoreTail n after_write.Answer) p.writer_call p.source (writer-idle p.writer _ accepted) refl)
+begin-lasts lent call.Close p saw ended sound accepted h = ((λ t. tt, tt), writer-opens p saw ended h (on.StoreClosed after_write.WakeWriter) p.writer_call p.source (writer-idle p.writer _ accepted) refl)
+begin-lasts lent (call.Drop Writer) p saw ended sound accepted h = ((λ t. tt, tt), writer-opens p saw ended h (on.StoreClosed after_write.Drop) p.writer_call p.source (writer-idle p.writer _ accepted) refl)
+
+-- the events of the answer after those of the action
+adds : (saw ended : Bool) (es fs : List Event) (q : Pipe) → IsFinalFrom saw ended es → IsFinalFrom (saw_closed_from Reader saw es) (ended_from saw ended es) fs
+    → Lasts q (saw_closed_from Reader (saw_closed_from Reader saw es) fs) (ended_from (saw_closed_from Reader saw es) (ended_from saw ended es) fs)
+    → IsFinalFrom saw ended (es ++ fs) × Lasts q (saw_closed_from Reader saw (es ++ fs)) (ended_from saw ended (es ++ fs))
+adds saw ended es fs q first then lasts = (
+  final-append saw ended es fs first then,
+  subst (λ (b : Bool). Lasts q b (ended_from saw ended (es ++ fs))) (sym (saw-append saw es fs)) (subst (λ (b : Bool). Lasts q (saw_closed_from Reader (saw_closed_from Reader saw es) fs) b) (sym (ended-append saw ended es fs)) lasts),
+)
+
+answers-saw : (saw : Bool) (answer : Option Answer) → saw_closed_from Reader saw (answer_event Reader answer) ≡ saw
+answers-saw saw None = refl
+answers-saw saw (Some answer) = refl
+
+step-lasts : (lent : List ℕ) (s : Step) (p : Pipe) (saw ended : Bool) → IsSound p → refusal_of s p ≡ None → (saw_close p.reader ≡ true → p.is_closed ≡ true) → Lasts p saw ended → Adds saw ended (stepped lent s p)
+step-lasts lent (Begin c) p saw ended sound accepted seen h = begin-lasts lent c p saw ended sound accepted h
+step-lasts lent (Go Reader) p saw ended sound accepted seen h =
+    let es = logged_of Reader (read_action p.reader) p in
+    let to = went Reader p in
+    let logs = reader-logs saw ended p h.sees.0 p.reader h.sees.1 h.caused h.over in
+    let ends = reader-ends (saw_closed_from Reader saw es) (ended_from saw ended es) p p.reader seen h.caused logs.1 in
+    let sees = reader-sees saw p h.sees.0 p.reader h.sees.1 in
+    adds saw ended es (answer_event Reader to.answer) to.pipe logs.0 ends.0 (record {
+      known = rw (reader_leaves (read_action p.reader) p).0 h.known;
+      caused = reader-caused p.reader p h.caused;
+      over = ends.1;
+      sees = subst (λ (b : Bool). Sees b to.pipe) (sym (answers-saw (saw_closed_from Reader saw es) to.answer)) sees;
+    })
+step-lasts lent (Go Writer) p saw ended sound accepted seen h =
+    let action = write_action p.writer in
+    let offered = offering lent p in
+    let es = logged_of Writer action offered in
+    let to = went Writer offered in
+    let unlent : (n : ℕ) → action ≡ does.StoreTail n → ended ≡ true → offered.lent ≡ [] = λ n e t. publishes-lent p.writer n lent p.lent e ∙ none_lent p sound (writer-publishes p.writer n e) (h.over t).ended in
+    let logs = writer-logs saw ended offered (λ t. (h.over t).unread) (λ t. (h.over t).closed) action unlent in
+    let answers = writer-answers (saw_closed_from Reader saw es) (ended_from saw ended es) to.answer in
+    let leaves = (writer_leaves-reader action offered (writer_never-head p.writer)).0 in
+    let sees : Sees saw to.pipe = (λ closed. writer-flag action offered (h.sees.0 closed), subst (λ (point : ReadPoint). IsLinked (loaded point) saw) (sym leaves) h.sees.1) in
+    adds saw ended es (answer_event Writer to.answer) to.pipe logs.0 answers.0 (record {
+      known = writer-known lent p.writer p;
+      caused = writer-caused lent p.writer p h.known h.caused;
+      over = λ t. writer-over lent p.writer p sound (h.over (sym (answers.1 ∙ logs.1) ∙ t));
+      sees = subst (λ (b : Bool). Sees b to.pipe) (sym (answers.2 ∙ logs.2)) sees;
+    })
+step-lasts lent (Put offset byte) p saw ended sound accepted seen h = (tt, lends p saw ended h (slice_set p.lent offset byte))
+
+-- what that says of every list of steps
+
+pub record Final (p : Pipe) (events : List Event) : Type 0 where
+  pub lasts : Lasts p (saw_closed Reader events) (ended_from false false events)
+  pub so_far : IsFinalFrom false false events
+  pub final : IsFinal p events
+
+final : (p : Pipe) (events : List Event) → Lasts p (saw_closed Reader events) (ended_from false false events) → IsFinalFrom false false events → Final p events
+final p events lasts so_far = record { lasts = lasts; so_far = so_far; final = record { found = found; noted = noted } }
+  where
+    over : (before after : List Event) (e : Event) → events ≡ before ++ e ∷ after → ended_after (saw_closed Reader before) (ended_from false false before) e ≡ true → IsOver p after
+    over before after e parts here =
+        let following = final-after false false before after e here (subst (λ (es : List Event). IsFinalFrom false false es) parts so_far) in
+        (following.0, (lasts.over (ap (λ (es : List Event). ended_from false false es) parts ∙ following.1)).unread)
+
+    found : (before after : List Event) → events ≡ before ++ found_none ∷ after → saw_closed Reader before ≡ true → IsOver p after
+    found before after parts seen = over before after found_none parts (found-here (saw_closed Reader before) (ended_from false false before) seen)
+
+    noted : (before after : List Event) → events ≡ before ++ told_end ∷ after → IsOver p after
+    noted before after parts = over before after told_end parts refl
+
+pub final_none : (capacity : ℕ) → Final (fresh capacity) []
+final_none capacity = final (fresh capacity) [] (record { known = refl; caused = λ closed. absurd (cc); over = λ t. absurd (cc); sees = (λ seen. absurd (cc), tt) }) tt
+
+pub final_more : (p q : Pipe) (s : Step) (before after : List Event) → IsSound p → Honest p before → Final p before → Made p s q before after → Final q after
+final_more p q s before after sound honest kept made =
+    let new = stepped q.lent s p in
+    let es = before ++ new.events in
+    let on = step-lasts q.lent s p (saw_closed Reader before) (ended_from false false before) sound made.accepted honest.aware.saw kept.lasts in
+    let added = adds false false before new.events new.pipe kept.so_far on.0 on.1 in
+    let next : Final new.pipe es = final new.pipe es added.1 added.0 in
+    subst (λ (fs : List Event). Final q fs) (sym made.made.events) (subst (λ (x : Pipe). Final x es) (sym made.made.pipe) next)

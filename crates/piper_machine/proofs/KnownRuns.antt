@@ -1,0 +1,315 @@
+-- What the laws say of what the sides know, over a run from a fresh pipe.
+use Rattle.std.proofs.Common.{◌≡◌, ℕ, ◌≤◌, List, [], ◌∷◌, ◌++◌, length, Bool, true, false, Option, None, Some, refl, sym, subst, ◌∙◌, arith}
+use Rattle.piper_protocol.specs.declared.table.Side.{Side}
+use Rattle.piper_protocol.specs.declared.table.Side.TheVariants.{Reader, Writer}
+use Rattle.piper_machine.specs.declared.calls.Call.{Call}
+use Rattle.piper_machine.specs.declared.calls.Call.TheVariants as call
+use Rattle.piper_machine.specs.declared.calls.Kind.{Kind}
+use Rattle.piper_machine.specs.declared.calls.Step.{Step}
+use Rattle.piper_machine.specs.declared.calls.Step.TheVariants.{Begin, Go, Put}
+use Rattle.piper_protocol.specs.declared.answer.Answer.{Answer}
+use Rattle.piper_machine.specs.declared.events.Event.{Event}
+use Rattle.piper_machine.specs.declared.events.Event.TheVariants.{Began}
+use Rattle.piper_machine.specs.declared.polling.Context.{Context}
+use Rattle.piper_protocol.specs.declared.table.AfterWrite.TheVariants as after_write
+use Rattle.piper_protocol.specs.declared.table.ReadPoint.{ReadPoint}
+use Rattle.piper_protocol.specs.declared.table.ReadPoint.TheVariants as at
+use Rattle.piper_protocol.specs.declared.table.WritePoint.{WritePoint}
+use Rattle.piper_protocol.specs.declared.table.WritePoint.TheVariants as on
+use Rattle.piper_protocol.specs.declared.table.Action.{Action}
+use Rattle.piper_protocol.specs.declared.table.Action.TheVariants as does
+use Rattle.piper_machine.specs.Call.{side_of, kind_of, waker_of}
+use Rattle.piper_machine.specs.Log.{answer_event}
+use Rattle.piper_protocol.specs.Table.{head_store, read_action, tail_store, write_action}
+use Rattle.piper_machine.specs.Pipe.{Pipe, fresh}
+use Rattle.piper_machine.specs.Action.{logged_of, registration_of, registration, wake_of, yield_of, woken_if}
+use Rattle.piper_machine.specs.Sound.{IsSound}
+use Rattle.piper_machine.specs.Step.{went, opened, stepped, offering, answer_at_once, MayLend}
+use Rattle.piper_machine.specs.Places.{peeked_count}
+use Rattle.piper_machine.specs.Refusal.{refusal_of}
+use Rattle.piper_machine.specs.Known.{Knowledge, opened_with, knowledge_after, knowledge_from, knowledge_first, knowledge_of, IsKnown}
+use Rattle.piper_machine.specs.Ready.{IsReadyFrom, IsReady}
+use Rattle.piper_machine.specs.Counts.{Tally, tallied, tally_from, tally_of, IsCounted, is_same}
+use Rattle.piper_machine.specs.Called.{called, calls_from, AreCallsCounted}
+use Rattle.piper_machine.specs.Run.{Made, Runs}
+use Rattle.piper_machine.proofs.Opened.{opened-leaves}
+use Rattle.piper_machine.proofs.Knowing.{knowledge-append, answer-shows, learns, learned, learned-enough, learned-exactly, Stores, knows, writer-shows, reader-shows, IsReadyNext}
+use Rattle.piper_machine.proofs.ReaderCounts.{reader-fits, reader-goes}
+use Rattle.piper_machine.proofs.WriterCounts.{writer-fits, writer-goes}
+use Rattle.piper_machine.proofs.Counting.{Counts, noted, counts-step, counts-found, reader_leaves-writer, writer_leaves-reader, reader_never-tail, writer_never-head}
+
+-- a poll that is true leaves something to do
+
+ready-append : (c : ℕ) (side : Side) (k : Knowledge) (es fs : List Event) → IsReadyFrom c side k es → IsReadyFrom c side (knowledge_from c side k es) fs → IsReadyFrom c side k (es ++ fs)
+ready-append c side k [] fs first then = then
+ready-append c side k (e ∷ es) fs first then = (first.0, ready-append c side (knowledge_after c side k e) es fs first.1 then)
+
+registration-ready : (c : ℕ) (side actor : Side) (k : Knowledge) (b : Bool) (name : ℕ) → IsReadyFrom c side k (registration actor b name)
+registration-ready c side actor k false name = tt
+registration-ready c Reader actor k true name = (tt, tt)
+registration-ready c Writer actor k true name = (tt, tt)
+
+context-ready : (c : ℕ) (side actor : Side) (k : Knowledge) (context : Option Context) → IsReadyFrom c side k (registration_of actor context)
+context-ready c side actor k None = tt
+context-ready c side actor k (Some cx) = registration-ready c side actor k cx.luck.register_granted cx.waker
+
+wake-ready : (c : ℕ) (side : Side) (k : Knowledge) (name : Option ℕ) → IsReadyFrom c side k (wake_of name)
+wake-ready c side k None = tt
+wake-ready c Reader k (Some name) = (tt, tt)
+wake-ready c Writer k (Some name) = (tt, tt)
+
+woken-ready : (c : ℕ) (side : Side) (k : Knowledge) (b : Bool) (name : ℕ) → IsReadyFrom c side k (woken_if b name)
+woken-ready c side k false name = tt
+woken-ready c Reader k true name = (tt, tt)
+woken-ready c Writer k true name = (tt, tt)
+
+yield-ready : (c : ℕ) (side : Side) (k : Knowledge) (context : Option Context) → IsReadyFrom c side k (yield_of context)
+yield-ready c side k None = tt
+yield-ready c side k (Some cx) = woken-ready c side k cx.luck.yield_granted cx.waker
+
+-- a step returns only after what it does
+logged-ready : (c : ℕ) (side actor : Side) (k : Knowledge) (action : Action) (p : Pipe) → IsReadyFrom c side k (logged_of actor action p)
+logged-ready c side Reader k does.Register p = context-ready c side Reader k p.reader_call.context
+logged-ready c side Writer k does.Register p = context-ready c side Writer k p.writer_call.context
+logged-ready c side Reader k does.Wake p = wake-ready c side k p.reader_call.taken
+logged-ready c side Writer k does.Wake p = wake-ready c side k p.writer_call.taken
+logged-ready c side Reader k does.Yield p = yield-ready c side k p.reader_call.context
+logged-ready c side Writer k does.Yield p = yield-ready c side k p.writer_call.context
+logged-ready c side actor k does.Rest p = tt
+logged-ready c side actor k (does.Take slot) p = tt
+logged-ready c side actor k does.CallDestination p = tt
+logged-ready c side actor k does.CallSource p = tt
+logged-ready c Reader Reader k does.LoadIndex p = (tt, tt)
+logged-ready c Reader Writer k does.LoadIndex p = (tt, tt)
+logged-ready c Writer Reader k does.LoadIndex p = (tt, tt)
+logged-ready c Writer Writer k does.LoadIndex p = (tt, tt)
+logged-ready c Reader actor k action p = (tt, tt)
+logged-ready c Writer actor k action p = (tt, tt)
+
+writer-answers : (c : ℕ) (k : Knowledge) (answer : Option Answer) → IsReadyFrom c Reader k (answer_event Writer answer)
+writer-answers c k None = tt
+writer-answers c k (Some answer) = (tt, tt)
+
+reader-answers : (c : ℕ) (k : Knowledge) (answer : Option Answer) → IsReadyFrom c Writer k (answer_event Reader answer)
+reader-answers c k None = tt
+reader-answers c k (Some answer) = (tt, tt)
+
+-- a call that returns as it is opened lends
+begin-answers : (cap : ℕ) (side : Side) (k : Knowledge) (lent : List ℕ) (c : Call) → IsReadyFrom cap side k (answer_event (side_of c) (answer_at_once lent c))
+begin-answers cap Reader k lent (call.WriteBuf most) = (tt, tt)
+begin-answers cap Writer k lent (call.WriteBuf most) = (tt, tt)
+begin-answers cap side k lent c = tt
+
+own-ready : (c : ℕ) (side : Side) (k : Knowledge) (answer : Option Answer) → IsReadyNext side k answer → IsReadyFrom c side k (answer_event side answer)
+own-ready c side k None ready = tt
+own-ready c side k (Some answer) ready = (ready, tt)
+
+ready-step : (side : Side) (s : Step) (lent : List ℕ) (p : Pipe) (k : Knowledge) (t : Tally) (calls : ℕ) → MayLend lent s p → refusal_of s p ≡ None → Counts side p k t calls
+    → IsReadyFrom p.capacity side k (stepped lent s p).events
+ready-step Reader (Begin c) lent p k t calls may accepted held = (tt, begin-answers p.capacity Reader _ lent c)
+ready-step Writer (Begin c) lent p k t calls may accepted held = (tt, begin-answers p.capacity Writer _ lent c)
+ready-step Reader (Go Reader) lent p k t calls may accepted held =
+    let action = read_action p.reader in
+    let answer = (went Reader p).answer in
+    let goes = reader-goes p.reader p k held.sees accepted in
+    let ready = own-ready p.capacity Reader (learned Reader action p k) answer (goes.ready (learned-enough Reader action p k held.enough)) in
+    ready-append p.capacity Reader k (logged_of Reader action p) (answer_event Reader answer) (logged-ready p.capacity Reader Reader k action p)
+    (subst (λ (i : Knowledge). IsReadyFrom p.capacity Reader i (answer_event Reader answer)) (sym (learns Reader action p k (reader-fits p.reader p.known k held.sees))) ready)
+ready-step Writer (Go Writer) lent p k t calls may accepted held =
+    let action = write_action p.writer in
+    let q = offering lent p in
+    let answer = (went Writer q).answer in
+    let goes = writer-goes p.writer lent p k held.sees may accepted in
+    let ready = own-ready p.capacity Writer (learned Writer action q k) answer (goes.ready (learned-enough Writer action q k held.enough)) in
+    ready-append p.capacity Writer k (logged_of Writer action q) (answer_event Writer answer) (logged-ready p.capacity Writer Writer k action q)
+    (subst (λ (i : Knowledge). IsReadyFrom p.capacity Writer i (answer_event Writer answer)) (sym (learns Writer action q k (writer-fits p.writer p.room k held.sees))) ready)
+ready-step Writer (Go Reader) lent p k t calls may accepted held =
+    ready-append p.capacity Writer k (logged_of Reader (read_action p.reader) p) (answer_event Reader (went Reader p).answer) (logged-ready p.capacity Writer Reader k (read_action p.reader) p)
+    (reader-answers p.capacity _ (went Reader p).answer)
+ready-step Reader (Go Writer) lent p k t calls may accepted held =
+    let q = offering lent p in
+    ready-append p.capacity Reader k (logged_of Writer (write_action p.writer) q) (answer_event Writer (went Writer q).answer) (logged-ready p.capacity Reader Writer k (write_action p.writer) q)
+    (writer-answers p.capacity _ (went Writer q).answer)
+ready-step side (Put offset byte) lent p k t calls may accepted held = tt
+
+-- a step leaves the capacity, and a call as it is opened what is known
+
+opened-knows : (side : Side) (lent : List ℕ) (c : Call) (p : Pipe) → knows side (opened lent c p) ≡ knows side p
+opened-knows Reader lent c p = (opened-leaves lent c p).known
+opened-knows Writer lent c p = (opened-leaves lent c p).room
+
+step-capacity : (s : Step) (lent : List ℕ) (p : Pipe) → (stepped lent s p).pipe.capacity ≡ p.capacity
+step-capacity (Begin c) lent p = (opened-leaves lent c p).capacity
+step-capacity (Go Reader) lent p = (reader_leaves-writer (read_action p.reader) p (reader_never-tail p.reader)).2
+step-capacity (Go Writer) lent p = (writer_leaves-reader (write_action p.writer) (offering lent p) (writer_never-head p.writer)).2
+step-capacity (Put offset byte) lent p = refl
+
+-- along a run of a pipe of capacity c
+
+pub record Along (c : ℕ) (side : Side) (p : Pipe) (events : List Event) (t : Tally) (calls : ℕ) : Type 0 where
+  pub capacity : p.capacity ≡ c
+  pub counts : Counts side p (knowledge_of c side events) t calls
+  pub ready : IsReadyFrom c side (knowledge_first c side) events
+
+abbrev no_tally : Tally
+no_tally = record { made = 0; call = None }
+
+along_none : (c : ℕ) (side : Side) → Along c side (fresh c) [] no_tally 0
+along_none c Reader = record { capacity = refl; counts = record { sees = tt; enough = omega arith; within = λ f least. record { steps = omega arith; calls = omega arith } }; ready = tt }
+along_none c Writer = record { capacity = refl; counts = record { sees = tt; enough = omega arith; within = λ f least. record { steps = omega arith; calls = omega arith } }; ready = tt }
+
+along-step : (c : ℕ) (side : Side) (s : Step) (p q : Pipe) (before after : List Event) (t : Tally) (calls : ℕ) → Along c side p before t calls → Made p s q before after → Along c side q after (tallied side t s) (called side p s calls)
+along-step c side s p q before after t calls held made =
+    let new = stepped q.lent s p in
+    let k = knowledge_of c side before in
+    let counts = counts-step side s q.lent p k t calls made.made.lent made.accepted held.counts in
+    let ready = ready-step side s q.lent p k t calls made.made.lent made.accepted held.counts in
+    let next : Along c side new.pipe (before ++ new.events) (tallied side t s) (called side p s calls) = record {
+      capacity = step-capacity s q.lent p ∙ held.capacity;
+      counts =
+          subst (λ (i : Knowledge). Counts side new.pipe i (tallied side t s) (called side p s calls)) (sym (knowledge-append c side (knowledge_first c side) before new.events))
+          (subst (λ (d : ℕ). Counts side new.pipe (knowledge_from d side k new.events) (tallied side t s) (called side p s calls)) held.capacity counts);
+      ready = ready-append c side (knowledge_first c side) before new.events held.ready (subst (λ (d : ℕ). IsReadyFrom d side k new.events) held.capacity ready);
+    } in
+    subst (λ (es : List Event). Along c side q es (tallied side t s) (called side p s calls)) (sym made.made.events)
+    (subst (λ (x : Pipe). Along c side x (before ++ new.events) (tallied side t s) (called side p s calls)) (sym made.made.pipe) next)
+
+along-runs : (c : ℕ) (side : Side) (ss : List Step) (p : Pipe) (before : List Event) (q : Pipe) (after : List Event) (t : Tally) (calls : ℕ) → Along c side p before t calls
+    → (run : Runs p before ss q after) → Along c side q after (tally_from side t ss) (calls_from side calls ss p before q after run)
+along-runs c side [] p before q after t calls held run =
+    subst (λ (es : List Event). Along c side q es t calls) (sym run.1) (subst (λ (x : Pipe). Along c side x before t calls) (sym run.0) held)
+along-runs c side (s ∷ ss) p before q after t calls held run =
+    along-runs c side ss run.0 run.1 q after (tallied side t s) (called side p s calls) (along-step c side s p run.0 before run.1 t calls held run.2) run.3
+
+along : (c : ℕ) (side : Side) (ss : List Step) (p : Pipe) (events : List Event) → (run : Runs (fresh c) [] ss p events) → Along c side p events (tally_of side ss) (calls_from side 0 ss (fresh c) [] p events run)
+along c side ss p events run = along-runs c side ss (fresh c) [] p events no_tally 0 (along_none c side) run
+
+-- the laws
+
+pub counted-run : (c : ℕ) (ss : List Step) (p : Pipe) (events : List Event) → Runs (fresh c) [] ss p events → IsCounted c ss events
+counted-run c ss p events run side = (counts-found side p _ _ _ (along c side ss p events run).counts).0
+
+pub calls-counted : (c : ℕ) (ss : List Step) (p : Pipe) (events : List Event) → AreCallsCounted c ss p events
+calls-counted c ss p events side run = (counts-found side p _ _ _ (along c side ss p events run).counts).1
+
+pub ready-run : (c : ℕ) (ss : List Step) (p : Pipe) (events : List Event) → Runs (fresh c) [] ss p events → IsReady c events
+ready-run c ss p events run side = (along c side ss p events run).ready
+
+-- what the log reports is what is known: a store stays within what there is
+
+reader-stores : (point : ReadPoint) (p : Pipe) → head_store point ≤ peeked_count p → p.known ≤ length p.unread → Stores Reader (read_action point) p
+reader-stores (at.StoreHead n next) p store known = omega arith
+reader-stores point p store known = tt
+
+writer-stores : (point : WritePoint) (lent : List ℕ) (p : Pipe) → tail_store point ≤ length p.lent → Stores Writer (write_action point) (offering lent (record p { writer = point }))
+writer-stores (on.StoreTail n next) lent p store = store
+writer-stores (on.StoreClosed after_write.Answer) lent p store = tt
+writer-stores (on.StoreClosed after_write.Drop) lent p store = tt
+writer-stores (on.StoreClosed after_write.WakeWriter) lent p store = tt
+writer-stores (on.StoreClosed (after_write.Round form sum)) lent p store = tt
+writer-stores point lent p store = tt
+
+-- what the log reports of a side is what the pipe has, and what a look found is no more than the
+-- capacity
+record Known (c : ℕ) (side : Side) (p : Pipe) (k : Knowledge) : Type 0 where
+  known : k.known ≡ knows side p
+  found : k.found ≤ c
+
+knows-within : (side : Side) (p : Pipe) → IsSound p → knows side p ≤ p.capacity
+knows-within Reader p sound = omega (arith, sound.known, sound.unread)
+knows-within Writer p sound = omega (arith, sound.room)
+
+began_if : Bool → Kind → Knowledge → Knowledge
+began_if true kind k = opened_with kind k
+began_if false kind k = k
+
+began-shows : (cap : ℕ) (side other : Side) (kind : Kind) (waker : Option ℕ) (k : Knowledge) → knowledge_after cap side k (Began other kind waker) ≡ began_if (is_same side other) kind k
+unfolding began_if
+began-shows cap Reader Reader kind waker k = refl
+began-shows cap Reader Writer kind waker k = refl
+began-shows cap Writer Reader kind waker k = refl
+began-shows cap Writer Writer kind waker k = refl
+
+began-known : (side : Side) (b : Bool) (kind : Kind) (p : Pipe) (k : Knowledge) → IsSound p → Known p.capacity side p k → Known p.capacity side p (began_if b kind k)
+unfolding began_if
+began-known side true kind p k sound held = record { known = held.known; found = let fits = knows-within side p sound in omega (arith, held.known) }
+began-known side false kind p k sound held = held
+
+learned-within : (side : Side) (action : Action) (p : Pipe) (k : Knowledge) → length p.unread ≤ p.capacity → k.found ≤ p.capacity → (learned side action p k).found ≤ p.capacity
+learned-within Reader does.LoadIndex p k fits held = fits
+learned-within Writer does.LoadIndex p k fits held = omega arith
+learned-within Reader action p k fits held = held
+learned-within Writer action p k fits held = held
+
+known-step : (side : Side) (s : Step) (lent : List ℕ) (p : Pipe) (k : Knowledge) (t : Tally) (calls : ℕ) → IsSound p → Counts side p k t calls → Known p.capacity side p k
+    → let new = stepped lent s p in Known p.capacity side new.pipe (knowledge_from p.capacity side k new.events)
+known-step side (Begin c) lent p k t calls sound held same =
+    let answer = answer_at_once lent c in
+    let begins = knowledge_after p.capacity side k (Began (side_of c) (kind_of c) (waker_of c)) in
+    let noted = answer-shows p.capacity side (side_of c) begins answer ∙ began-shows p.capacity side (side_of c) (kind_of c) (waker_of c) k in
+    let next = began-known side (is_same side (side_of c)) (kind_of c) p k sound same in
+    let here = subst (λ (j : Knowledge). Known p.capacity side p j) (sym noted) next in
+    record { known = here.known ∙ sym (opened-knows side lent c p); found = here.found }
+known-step Reader (Go Reader) lent p k t calls sound held same =
+    let action = read_action p.reader in
+    let j = learned Reader action p k in
+    let next : Known p.capacity Reader (went Reader p).pipe j = record {
+      known = learned-exactly Reader action p k (reader-stores p.reader p sound.head_store sound.known) same.known;
+      found = learned-within Reader action p k sound.unread same.found;
+    } in
+    subst (λ (i : Knowledge). Known p.capacity Reader (went Reader p).pipe i) (sym (noted p.capacity Reader Reader k j (logged_of Reader action p) (went Reader p).answer (learns Reader action p k (reader-fits p.reader p.known k held.sees)))) next
+known-step Writer (Go Writer) lent p k t calls sound held same =
+    let action = write_action p.writer in
+    let q = offering lent p in
+    let j = learned Writer action q k in
+    let next : Known p.capacity Writer (went Writer q).pipe j = record {
+      known = learned-exactly Writer action q k (writer-stores p.writer lent p sound.tail_store) same.known;
+      found = learned-within Writer action q k sound.unread same.found;
+    } in
+    subst (λ (i : Knowledge). Known p.capacity Writer (went Writer q).pipe i) (sym (noted p.capacity Writer Writer k j (logged_of Writer action q) (went Writer q).answer (learns Writer action q k (writer-fits p.writer p.room k held.sees)))) next
+known-step Writer (Go Reader) lent p k t calls sound held same =
+    let action = read_action p.reader in
+    let never = reader_never-tail p.reader in
+    let quiet = noted p.capacity Writer Reader k k (logged_of Reader action p) (went Reader p).answer (reader-shows p.capacity action p k never) in
+    subst (λ (i : Knowledge). Known p.capacity Writer (went Reader p).pipe i) (sym quiet) (record { known = same.known ∙ sym (reader_leaves-writer action p never).1; found = same.found })
+known-step Reader (Go Writer) lent p k t calls sound held same =
+    let action = write_action p.writer in
+    let q = offering lent p in
+    let never = writer_never-head p.writer in
+    let quiet = noted p.capacity Reader Writer k k (logged_of Writer action q) (went Writer q).answer (writer-shows p.capacity action q k never) in
+    subst (λ (i : Knowledge). Known p.capacity Reader (went Writer q).pipe i) (sym quiet) (record { known = same.known ∙ sym (writer_leaves-reader action q never).1; found = same.found })
+known-step Reader (Put offset byte) lent p k t calls sound held same = record { known = same.known; found = same.found }
+known-step Writer (Put offset byte) lent p k t calls sound held same = record { known = same.known; found = same.found }
+
+known-made : (c : ℕ) (side : Side) (s : Step) (p q : Pipe) (before after : List Event) (t : Tally) (calls : ℕ) → IsSound p → Along c side p before t calls → Made p s q before after
+    → Known c side p (knowledge_of c side before) → Known c side q (knowledge_of c side after)
+known-made c side s p q before after t calls sound held made same =
+    let new = stepped q.lent s p in
+    let k = knowledge_of c side before in
+    let at_p = subst (λ (d : ℕ). Known d side p k) (sym held.capacity) same in
+    let next = subst (λ (d : ℕ). Known d side new.pipe (knowledge_from d side k new.events)) held.capacity (known-step side s q.lent p k t calls sound held.counts at_p) in
+    let joined = subst (λ (i : Knowledge). Known c side new.pipe i) (sym (knowledge-append c side (knowledge_first c side) before new.events)) next in
+    subst (λ (es : List Event). Known c side q (knowledge_of c side es)) (sym made.made.events)
+    (subst (λ (x : Pipe). Known c side x (knowledge_of c side (before ++ new.events))) (sym made.made.pipe) joined)
+
+abbrev AreKnown : ℕ → Pipe → List Event → Type 0
+AreKnown c p events = Known c Reader p (knowledge_of c Reader events) × Known c Writer p (knowledge_of c Writer events)
+
+noted-known : (p : Pipe) (events : List Event) → AreKnown p.capacity p events → IsKnown p events
+noted-known p events both = record { reader = both.0.known; writer = both.1.known; within = within }
+  where
+    within : (side : Side) → (knowledge_of p.capacity side events).found ≤ p.capacity
+    within Reader = both.0.found
+    within Writer = both.1.found
+
+pub known_none : (c : ℕ) → IsKnown (fresh c) []
+known_none c = noted-known (fresh c) [] (record { known = refl; found = omega arith }, record { known = refl; found = omega arith })
+
+pub known_more : (c : ℕ) (ss : List Step) (s : Step) (p q : Pipe) (before after : List Event) → IsSound p → p.capacity ≡ c → q.capacity ≡ p.capacity → Runs (fresh c) [] ss p before → IsKnown p before → Made p s q before after → IsKnown q after
+known_more c ss s p q before after sound capacity same run held made =
+    let reader : Known p.capacity Reader p (knowledge_of p.capacity Reader before) = record { known = held.reader; found = held.within Reader } in
+    let writer : Known p.capacity Writer p (knowledge_of p.capacity Writer before) = record { known = held.writer; found = held.within Writer } in
+    let at_c = subst (λ (d : ℕ). AreKnown d p before) capacity (reader, writer) in
+    let reads = known-made c Reader s p q before after _ _ sound (along c Reader ss p before run) made at_c.0 in
+    let writes = known-made c Writer s p q before after _ _ sound (along c Writer ss p before run) made at_c.1 in
+    noted-known q after (subst (λ (d : ℕ). AreKnown d q after) (sym (same ∙ capacity)) (reads, writes))

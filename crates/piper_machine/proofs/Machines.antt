@@ -1,0 +1,132 @@
+-- A machine after a step of one of its sides: it is a machine again, and which pipe it represents.
+use Rattle.std.proofs.Common.{◌≡◌, ◌+◌, ◌-◌, ◌≤◌, ℕ, Bool, true, false, List, [], take, Option, None, Some, IsSome, refl, ap, ◌∙◌, arith}
+use Rattle.piper_machine.specs.declared.calls.OpenCall.{OpenCall}
+use Rattle.piper_protocol.specs.declared.answer.Answer.{Answer}
+use Rattle.piper_machine.specs.declared.scripted.SourceAct.{SourceAct}
+use Rattle.piper_machine.specs.declared.destination.Destination.{Destination}
+use Rattle.piper_machine.specs.declared.destination.Destination.TheVariants.{Slice}
+use Rattle.piper_protocol.specs.declared.table.Action.TheVariants as does
+use Rattle.piper_protocol.specs.declared.table.ReadPoint.{ReadPoint}
+use Rattle.piper_protocol.specs.declared.table.ReadPoint.TheVariants as at
+use Rattle.piper_protocol.specs.declared.table.WritePoint.{WritePoint}
+use Rattle.piper_protocol.specs.declared.table.WritePoint.TheVariants as on
+use Rattle.piper_machine.specs.Open.{no_call}
+use Rattle.piper_protocol.specs.Index.{distance, offset_of, advanced}
+use Rattle.piper_protocol.specs.Table.{Next, read_action, tail_store, write_action, write_after}
+use Rattle.piper_machine.specs.Side.{Reading, Writing, IsReading, IsWriting, known_of, peekable_of, room_of}
+use Rattle.piper_machine.specs.SideSteps.{writing_answer}
+use Rattle.piper_protocol.specs.declared.table.Found.{Found}
+use Rattle.piper_machine.specs.Pipe.{Pipe}
+use Rattle.piper_machine.specs.Step.{filled_out, lent_count_after, round_answer}
+use Rattle.piper_machine.specs.Machine.{pipe_of, IsMachine}
+use Rattle.piper_machine.specs.declared.machine.Machine.TheInside.{Inside}
+use Rattle.piper_machine.proofs.Indices.{distance-advanced_to, distance-advanced_from, place_below}
+use Rattle.piper_machine.proofs.Soundness.{tail_below}
+use Rattle.piper_machine.proofs.Conserving.{read_store, write_store}
+
+-- a store that is next stays within what its side holds
+pub head-within : (m : Inside) (i : IsMachine m) (p : Pipe) (n : ℕ) → pipe_of m ≡ p → read_action p.reader ≡ does.StoreHead n → n ≤ peekable_of m.read
+head-within m i p n is next =
+    let stores = read_store m.read.point n (ap (λ (q : Pipe). read_action q.reader) is ∙ next) in
+    omega (arith, stores, i.reading.store)
+
+pub tail-within : (m : Inside) (i : IsMachine m) (p : Pipe) (n : ℕ) → pipe_of m ≡ p → write_action p.writer ≡ does.StoreTail n → n ≤ m.write.lent
+tail-within m i p n is next =
+    let stores = write_store m.write.point n (ap (λ (q : Pipe). write_action q.writer) is ∙ next) in
+    omega (arith, stores, i.writing.store)
+
+-- the reader has passed n bytes
+pub reader-passed : (m : Inside) (i : IsMachine m) (n : ℕ) (r : Reading) (point : ReadPoint) (call : OpenCall) (destination : Destination) → r ≡ record m.read { head = advanced m.read.capacity m.read.head n; point = point }
+    → IsReading r → n ≤ known_of m.read → offset_of m.read.capacity m.read.head + n ≤ m.read.capacity → (r.point ≡ at.Idle → call ≡ no_call) → (r.point ≡ at.Idle → destination ≡ Slice 0)
+    → IsMachine (record m { read = r; reader_call = call; destination = destination })
+reader-passed m i n r point call destination is reading within flat holds fills =
+    let known = distance-advanced_from m.read.capacity m.read.head m.read.tail n i.reading.head i.reading.tail within i.reading.known flat i.reading.capacity.0 in
+    let unread = distance-advanced_from m.read.capacity m.read.head m.write.tail n i.reading.head (tail_below m i) (omega (arith, i.known)) i.unread flat i.reading.capacity.0 in
+    record {
+      reading = reading;
+      writing = i.writing;
+      capacity = rw is i.capacity;
+      bytes = rw is i.bytes;
+      unread = rw is (omega (arith, i.unread));
+      known = rw is (omega (arith, i.known));
+      room = rw is (omega (arith, i.room));
+      shut = i.shut;
+      reader_call = holds;
+      writer_call = i.writer_call;
+      destination = fills;
+      source = i.source;
+    }
+
+-- the writer has passed n lent places
+pub writer-passed : (m : Inside) (i : IsMachine m) (n : ℕ) (w : Writing) (point : WritePoint) (call : OpenCall) (acts : List SourceAct) → w ≡ record m.write { tail = advanced m.write.capacity m.write.tail n; lent = m.write.lent - n; point = point }
+    → IsWriting w → n ≤ m.write.lent → (w.point ≡ on.Idle → call ≡ no_call) → (w.point ≡ on.Idle → acts ≡ []) → IsMachine (record m { write = w; writer_call = call; source = acts })
+writer-passed m i n w point call acts is writing within holds gives =
+    let below = place_below m.write.capacity m.write.tail i.writing.tail in
+    let flat : offset_of m.write.capacity m.write.tail + n ≤ m.write.capacity = omega (arith, i.writing.lent_place) in
+    let room = distance-advanced_to m.write.capacity m.write.head m.write.tail n i.writing.head i.writing.tail (omega (arith, i.writing.lent_room, i.writing.within)) flat i.writing.capacity.0 in
+    let unread : distance m.read.capacity m.read.head (advanced m.write.capacity m.write.tail n) ≡ distance m.read.capacity m.read.head m.write.tail + n =
+    rw i.capacity (distance-advanced_to m.read.capacity m.read.head m.write.tail n i.reading.head (tail_below m i) (omega (arith, i.room, i.writing.lent_room, i.capacity, i.writing.within)) (rw i.capacity at flat) i.reading.capacity.0) in
+    record {
+      reading = i.reading;
+      writing = writing;
+      capacity = rw is i.capacity;
+      bytes = i.bytes;
+      unread = rw is (omega (arith, i.room, i.writing.lent_room, i.capacity, i.writing.within));
+      known = rw is (omega (arith, i.known));
+      room = rw is (omega (arith, i.room));
+      shut = rw is i.shut;
+      reader_call = i.reader_call;
+      writer_call = holds;
+      destination = i.destination;
+      source = gives;
+    }
+
+-- the writer has gone on, and its indices are what they were
+pub writer-kept : (m : Inside) (i : IsMachine m) (w : Writing) (lent : ℕ) (point : WritePoint) (call : OpenCall) (acts : List SourceAct) → w ≡ record m.write { lent = lent; point = point }
+    → IsWriting w → (w.point ≡ on.Idle → call ≡ no_call) → (w.point ≡ on.Idle → acts ≡ []) → IsMachine (record m { write = w; writer_call = call; source = acts })
+writer-kept m i w lent point call acts is writing holds gives = record {
+  reading = i.reading;
+  writing = writing;
+  capacity = rw is i.capacity;
+  bytes = i.bytes;
+  unread = rw is i.unread;
+  known = rw is i.known;
+  room = rw is i.room;
+  shut = rw is i.shut;
+  reader_call = i.reader_call;
+  writer_call = holds;
+  destination = i.destination;
+  source = gives;
+}
+
+-- the call table reads the one capacity
+pub next-of : (m : Inside) (i : IsMachine m) (found : Found) → write_after m.write.capacity (room_of m.write) m.write.point found ≡ write_after m.read.capacity (room_of m.write) m.write.point found
+next-of m i found = ap (λ capacity. write_after capacity (room_of m.write) m.write.point found) i.capacity
+
+pub answer-of : (m : Inside) (i : IsMachine m) (p : Pipe) (found : Found) → pipe_of m ≡ p → writing_answer found m.write ≡ round_answer found p
+answer-of m i p found is = ap (λ (next : Next WritePoint). next.answer) (next-of m i found) ∙ ap (round_answer found) is
+
+-- what is left lent of the bytes where the writer's call has returned
+pub lent-settled : (fills : Bool) (answer : Option Answer) (count : ℕ) (bytes : List ℕ) → take (lent_count_after fills answer count) bytes ≡ filled_out fills answer (take count bytes)
+lent-settled true (Some answer) count bytes = refl
+lent-settled true None count bytes = refl
+lent-settled false (Some answer) count bytes = refl
+lent-settled false None count bytes = refl
+
+pub writing-settled : (w : Writing) (fills : Bool) (answer : Option Answer) → IsWriting w → (IsSome answer → tail_store w.point ≡ 0) → IsWriting (record w { lent = lent_count_after fills answer w.lent })
+writing-settled w true (Some answer) writing rests = record {
+  capacity = writing.capacity;
+  tail = writing.tail;
+  head = writing.head;
+  within = writing.within;
+  lent_room = omega arith;
+  lent_place = omega arith;
+  zeroed = writing.zeroed;
+  lent_zeroed = omega (arith, writing.lent_zeroed);
+  shut = λ is_shut. refl;
+  store = rw (rests refl) (omega arith);
+  sum = writing.sum;
+}
+writing-settled w true None writing rests = writing
+writing-settled w false (Some answer) writing rests = writing
+writing-settled w false None writing rests = writing

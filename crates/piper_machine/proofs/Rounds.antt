@@ -1,0 +1,65 @@
+-- The rounds of a copy are one move: what two of them move one after the other, one of them moves
+-- at once.
+use Rattle.std.proofs.Common.{◌≡◌, ℕ, zero, suc, ◌+◌, ◌-◌, ◌<◌, ◌≤◌, List, [], ◌∷◌, ◌++◌, take, drop, length, Option, None, Some, lit≤, sym, ap, ◌∙◌, arith, append_assoc, append-nil, length-append, length-drop, length-take-le}
+use Rattle.std.proofs.lemmas.Bool.Decides.{nat_tests}
+use Rattle.std.proofs.lemmas.List.{drop-drop, drop_all, take_at, drop_at}
+use Rattle.std.proofs.Math.Seq.{take-add}
+use borrow.Rule.Slice.PartMut.{put_mid}
+use Rattle.piper_protocol.specs.Index.{offset_of}
+use Rattle.piper_machine.specs.Pipe.{Pipe}
+use Rattle.piper_machine.specs.Copy.{waker_after, woken_after, filled, drained}
+use Rattle.piper_machine.specs.Move.{with_waker}
+
+pub waker_after-twice : (m n : ℕ) (waker : Option ℕ) → waker_after n (waker_after m waker) ≡ waker_after (m + n) waker
+waker_after-twice zero n waker = ap (λ k. waker_after k waker) (omega arith)
+waker_after-twice (suc m) zero waker = ap (λ k. waker_after k waker) (omega arith)
+waker_after-twice (suc m) (suc n) waker = grind (arith, nat_tests)
+
+pub woken_after-twice : (m n : ℕ) (names : List ℕ) (waker : Option ℕ) → woken_after n (woken_after m names waker) (waker_after m waker) ≡ woken_after (m + n) names waker
+woken_after-twice zero n names waker = ap (λ k. woken_after k names waker) (omega arith)
+woken_after-twice (suc m) zero names waker = ap (λ k. woken_after k names waker) (omega arith)
+woken_after-twice (suc m) (suc n) names waker = grind (arith, nat_tests)
+
+pub filled_nothing : (p : Pipe) → p.lent ≡ [] → filled [] p ≡ p
+filled_nothing p none =
+    let same = append-nil p.unread in
+    let room : p.room - 0 ≡ p.room = omega arith in
+    let lent = sym none in
+    λ j. record p { unread = same j; room = room j; lent = lent j }
+
+pub filled-filled : (xs ys : List ℕ) (p : Pipe) → filled ys (filled xs p) ≡ filled (xs ++ ys) p
+filled-filled xs ys p =
+    let long = length-append xs ys in
+    let room : p.room - length xs - length ys ≡ p.room - length (xs ++ ys) = omega arith in
+    let bytes = append_assoc p.unread xs ys in
+    let waker = waker_after-twice (length xs) (length ys) p.reader_waker ∙ ap (λ k. waker_after k p.reader_waker) (sym long) in
+    let woken = woken_after-twice (length xs) (length ys) p.woken p.reader_waker ∙ ap (λ k. woken_after k p.woken p.reader_waker) (sym long) in
+    cc
+
+pub drained_nothing : (p : Pipe) → p.start < p.capacity → drained 0 p ≡ p
+drained_nothing p start =
+    let known : p.known - 0 ≡ p.known = omega arith in
+    let place : offset_of p.capacity (p.start + 0) ≡ p.start = grind (arith, nat_tests) in
+    λ j. record p { known = known j; start = place j }
+
+-- a slice that is filled part by part: the next n bytes after the first d
+pub next_part : (d n : ℕ) (bytes dest filled_so_far : List ℕ) → d ≤ length bytes → d + n ≤ length dest → filled_so_far ≡ take d bytes ++ drop d dest → length filled_so_far ≡ length dest
+    → put_mid d (length filled_so_far - d) filled_so_far (take n (drop d bytes) ++ drop n (drop d filled_so_far)) ≡ take (d + n) bytes ++ drop (d + n) dest
+next_part d n bytes dest so_far known fits is long =
+    let front : take d so_far ≡ take d bytes = ap (take d) is ∙ take_at (take d bytes) (drop d dest) d (length-take-le d bytes known) in
+    let back : drop d so_far ≡ drop d dest = ap (drop d) is ∙ drop_at (take d bytes) (drop d dest) d (length-take-le d bytes known) in
+    let none : drop (length so_far - d) (drop d so_far) ≡ [] = drop_all (length so_far - d) (drop d so_far) (omega (arith, length-drop d so_far)) in
+    let rest : drop n (drop d so_far) ≡ drop (d + n) dest = ap (drop n) back ∙ drop-drop n d dest in
+    rw (none, append-nil, front, rest) (sym (append_assoc (take d bytes) (take n (drop d bytes)) (drop (d + n) dest)) ∙ ap (λ (zs : List ℕ). zs ++ drop (d + n) dest) (sym (take-add d n bytes)))
+
+-- with the waker that waits at most one was called: there is room for its name
+abbrev pub HasOneWake : List ℕ → Option ℕ → Type 0
+HasOneWake names waker = length (with_waker names waker) ≤ 1
+
+pub one_wake-room : (names : List ℕ) (waker : Option ℕ) → HasOneWake names waker → length names < 2
+one_wake-room names None one = omega arith
+one_wake-room names (Some name) one = let long = length-append names (name ∷ []) in omega arith
+
+pub one_wake-none : (waker : Option ℕ) → HasOneWake [] waker
+one_wake-none None = lit≤ tt
+one_wake-none (Some name) = lit≤ tt

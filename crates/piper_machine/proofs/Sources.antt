@@ -1,0 +1,71 @@
+-- What is left of a source that has given some bytes more.
+use Rattle.std.proofs.Common.{subst, ◌≡◌, ℕ, ◌+◌, ◌-◌, ◌<◌, ◌≤◌, List, [], ◌∷◌, length, take, drop, ◌++◌, min, refl, sym, ap, ◌∙◌, arith, length-drop}
+use Rattle.std.proofs.lemmas.List.{drop-drop, take-append-drop}
+use Rattle.piper_machine.specs.declared.scripted.SourceAct.{SourceAct}
+use Rattle.piper_machine.specs.declared.scripted.SourceAct.TheVariants as source
+use Rattle.piper_machine.specs.Source.{bytes_of, without}
+use Rattle.piper_machine.specs.Pipe.{Pipe}
+use Rattle.piper_protocol.specs.declared.table.TheConstants.{MOST_A_ROUND}
+use Rattle.piper_machine.specs.Lend.{Lendable, lending}
+use Rattle.piper_machine.specs.Places.{places_left}
+use Rattle.piper_machine.specs.Action.{source_called}
+use Rattle.piper_machine.specs.Round.{given, moved_by, unspent, left_of_source}
+
+unspent_some : (bytes : List ℕ) (acts : List SourceAct) → 1 ≤ length bytes → unspent bytes acts ≡ source.Bytes bytes ∷ acts
+unspent_some [] acts some = absurd (omega arith)
+unspent_some (byte ∷ bytes) acts some = refl
+
+unspent_none : (bytes : List ℕ) (acts : List SourceAct) → length bytes ≤ 0 → unspent bytes acts ≡ acts
+unspent_none [] acts none = refl
+unspent_none (byte ∷ bytes) acts none = absurd (omega arith)
+
+pub without_none : (acts : List SourceAct) → without 0 acts ≡ acts
+without_none [] = refl
+without_none (source.Fail ∷ acts) = refl
+without_none (source.Bytes bytes ∷ acts) = refl
+
+-- a part of an act
+pub pass_within : (acts : List SourceAct) (before n : ℕ) → n < length (bytes_of acts) - before → without (before + n) acts ≡ left_of_source n (without before acts)
+pass_within [] before n within = absurd (omega arith)
+pass_within (source.Fail ∷ acts) before n within = absurd (omega arith)
+pass_within (source.Bytes bytes ∷ acts) before n within =
+    let all = drop-drop n before bytes in
+    sym (ap (λ (xs : List ℕ). unspent xs acts) all ∙ unspent_some (drop (before + n) bytes) acts (simp length-drop (omega arith)))
+
+-- the rest of it
+pub pass_over : (acts : List SourceAct) (before n : ℕ) → length (bytes_of acts) ≤ before + n → without 0 (drop 1 acts) ≡ left_of_source n (without before acts)
+pass_over [] before n over = refl
+pass_over (source.Fail ∷ acts) before n over = without_none acts
+pass_over (source.Bytes bytes ∷ acts) before n over =
+    let all = drop-drop n before bytes in
+    without_none acts ∙ sym (ap (λ (xs : List ℕ). unspent xs acts) all ∙ unspent_none (drop (before + n) bytes) acts (simp length-drop (omega arith)))
+
+-- how many bytes a call of the source moves, where it fails or not
+pub moved-given : (most : ℕ) (acts : List SourceAct) → moved_by (given most acts) ≡ min most (length (bytes_of acts))
+moved-given most [] = omega arith
+moved-given most (source.Fail ∷ acts) = omega arith
+moved-given most (source.Bytes bytes ∷ acts) = refl
+
+-- what the source gave is at the front of what it was lent
+pub source-called : (p q : Pipe) (n : ℕ) (held rest : List SourceAct) → q ≡ lending q.lent (record p { source = held }) → n ≡ min (length q.lent) (length (bytes_of p.source))
+    → take n q.lent ≡ take n (bytes_of p.source) → rest ≡ left_of_source n p.source → record q { source = rest } ≡ source_called (lending q.lent p)
+source-called p q n held rest is count front left =
+    let moved : moved_by (given (length q.lent) p.source) ≡ n = moved-given (length q.lent) p.source ∙ sym count in
+    let whole : take n (bytes_of p.source) ++ drop n q.lent ≡ q.lent = ap (λ (xs : List ℕ). xs ++ drop n q.lent) (sym front) ∙ take-append-drop n q.lent in
+    ap (λ (x : Pipe). record x { source = rest }) is
+    ∙ rw moved (rw (whole, ← left) refl)
+
+-- a source that was called was lent places within the bounds
+lendable-after : (most : ℕ) (p q : Pipe) (n : ℕ) → q.room ≡ p.room → q.is_shut ≡ p.is_shut → places_left q ≡ places_left p → Lendable most p n → Lendable most q n
+lendable-after most p q n room shut left lendable = record {
+  at_most = rw (room, left) lendable.at_most;
+  at_least = λ is_open. rw (room, left) (lendable.at_least (sym shut ∙ is_open));
+  some = λ is_open asked known. lendable.some (sym shut ∙ is_open) asked (rw room at known);
+  shut = λ is_shut. lendable.shut (sym shut ∙ is_shut);
+}
+
+pub lent-anew : (p w : Pipe) → Lendable MOST_A_ROUND p (length w.lent) → w ≡ lending w.lent p → Lendable MOST_A_ROUND w (length w.lent)
+lent-anew p w lendable is = subst (λ (x : Pipe). Lendable MOST_A_ROUND x (length w.lent)) (sym is) (lendable-after MOST_A_ROUND p (lending w.lent p) (length w.lent) refl refl refl lendable)
+
+pub lent-called : (p w : Pipe) → Lendable MOST_A_ROUND p (length w.lent) → w ≡ source_called (lending w.lent p) → Lendable MOST_A_ROUND w (length w.lent)
+lent-called p w lendable is = subst (λ (x : Pipe). Lendable MOST_A_ROUND x (length w.lent)) (sym is) (lendable-after MOST_A_ROUND p (source_called (lending w.lent p)) (length w.lent) refl refl refl lendable)

@@ -1,0 +1,296 @@
+-- Every call made by steps, none of which is the other side's, is the call run whole.
+use Rattle.std.proofs.Common.{◌≡◌, ℕ, ◌+◌, ◌*◌, ◌≤◌, List, [], ◌∷◌, ◌++◌, length, replicate, Bool, true, false, Option, None, Some, if◌then◌else◌, ◌==◌, nat_le, refl, sym, ap, ◌∙◌, subst, arith, append_assoc}
+use Rattle.std.proofs.lemmas.Bool.Decides.{nat_tests}
+use Rattle.std.proofs.lemmas.List.{length-replicate}
+use Rattle.piper_protocol.specs.declared.table.Side.{Side}
+use Rattle.piper_protocol.specs.declared.table.Side.TheVariants.{Reader, Writer}
+use Rattle.piper_machine.specs.declared.calls.SideState.TheVariants.{Busy}
+use Rattle.piper_machine.specs.declared.calls.Call.{Call}
+use Rattle.piper_machine.specs.declared.calls.Call.TheVariants as call
+use Rattle.piper_machine.specs.declared.calls.Step.TheVariants.{Begin, Go}
+use Rattle.piper_protocol.specs.declared.answer.Answer.{Answer}
+use Rattle.piper_protocol.specs.declared.answer.Answer.TheVariants.{Lent}
+use Rattle.piper_machine.specs.declared.events.Event.{Event}
+use Rattle.piper_machine.specs.declared.events.Event.TheVariants.{Began, Answered}
+use Rattle.piper_machine.specs.declared.refusals.StepRefusal.{StepRefusal}
+use Rattle.piper_machine.specs.declared.refusals.StepRefusal.TheVariants.{BadDraw}
+use Rattle.piper_protocol.specs.declared.table.Form.TheVariants.{Try, Polling}
+use Rattle.piper_protocol.specs.declared.table.Form.{Form}
+use Rattle.piper_machine.specs.declared.scripted.SourceAct.TheVariants as source
+use Rattle.piper_machine.specs.Counts.{most_steps}
+use Rattle.piper_protocol.specs.declared.table.Purpose.{Purpose}
+use Rattle.piper_protocol.specs.declared.table.Purpose.TheVariants as purpose
+use Rattle.piper_protocol.specs.declared.table.ReadPoint.{ReadPoint}
+use Rattle.piper_protocol.specs.declared.table.ReadPoint.TheVariants as at
+use Rattle.piper_protocol.specs.declared.table.WritePoint.{WritePoint}
+use Rattle.piper_protocol.specs.declared.table.WritePoint.TheVariants as on
+use Rattle.piper_machine.specs.Open.{no_call}
+use Rattle.piper_machine.specs.declared.destination.Destination.TheVariants.{Slice}
+use Rattle.piper_machine.specs.declared.machine.Machine.TheInside.{Inside}
+use Rattle.piper_machine.specs.Machine.{pipe_of, IsMachine}
+use Rattle.piper_machine.proofs.Soundness.{sound}
+use Rattle.piper_machine.specs.Call.{side_of, kind_of, waker_of, has_good_draw}
+use Rattle.piper_protocol.specs.Table.{head_store, reader_looks_for}
+use Rattle.piper_machine.specs.Log.{answer_event}
+use Rattle.piper_machine.specs.Pipe.{Pipe, begun}
+use Rattle.piper_machine.specs.Sound.{IsSound}
+use Rattle.piper_machine.specs.Look.{context}
+use Rattle.piper_machine.specs.Lend.{Lendable, lending}
+use Rattle.piper_machine.specs.Refusal.{IsIdle, reader_state, writer_state, state_of, cannot_begin, cannot_go, unless, or_else, past, refusal_of}
+use Rattle.piper_machine.specs.Step.{began, opened, answer_at_once}
+use Rattle.piper_machine.specs.Run.{Made, Runs}
+use Rattle.piper_machine.specs.Alone.{Ended, read_steps, is_draining, read_wakes, resting, alone_of, is_copying, wakes_of}
+use Rattle.piper_machine.specs.BySteps.{names_of, whole, is_plain, found_alone, IsWholeBySteps, AreWholeBySteps}
+use Rattle.piper_machine.proofs.BySteps.{named, left_of, IsValid, no_more, finish}
+use Rattle.piper_machine.proofs.Going.{lends-some, comes-back}
+use Rattle.piper_machine.proofs.Whole.{reader-polls, drain-slice, drain-acts, try_drain-whole, writer-polls, given-slice, failure-slice, fill-slice, fill-acts, try_fill-whole}
+
+-- between two calls a side holds nothing of a call
+abbrev pub HoldsNothing : Side → Pipe → Type 0
+HoldsNothing Reader p = p.reader ≡ at.Idle → (p.reader_call ≡ no_call) × (p.destination ≡ Slice 0)
+HoldsNothing Writer p = p.writer ≡ on.Idle → (p.writer_call ≡ no_call) × (p.source ≡ [])
+
+reader-idle : (point : ReadPoint) → cannot_begin (reader_state point) ≡ None → point ≡ at.Idle
+reader-idle at.Idle none = refl
+reader-idle point none = absurd (cc)
+
+writer-idle : (point : WritePoint) → cannot_begin (writer_state point) ≡ None → point ≡ on.Idle
+writer-idle on.Idle none = refl
+writer-idle point none = absurd (cc)
+
+idle-of : (side : Side) (p : Pipe) → cannot_begin (state_of side p) ≡ None → IsIdle side p
+idle-of Reader p none = reader-idle p.reader none
+idle-of Writer p none = writer-idle p.writer none
+
+rests-is : (side : Side) (p : Pipe) → HoldsNothing side p → IsIdle side p → p ≡ resting side p
+rests-is Reader p holds point =
+    let held = holds point in
+    let of_call = held.0 in
+    let destination = held.1 in
+    λ j. record p { reader = point j; reader_call = of_call j; destination = destination j }
+rests-is Writer p holds point =
+    let held = holds point in
+    let of_call = held.0 in
+    let source = held.1 in
+    λ j. record p { writer = point j; writer_call = of_call j; source = source j }
+
+-- a call that has a step is opened
+pub record IsOpened (c : Call) (lent others : List ℕ) (p : Pipe) : Type 0 where
+  pub commutes : opened lent c p ≡ named p.woken (opened lent c (begun p))
+  pub at_once : answer_at_once lent c ≡ None
+  pub busy : state_of (side_of c) (opened lent c (begun p)) ≡ Busy
+  pub valid : IsValid (side_of c) (opened lent c (begun p))
+  pub rest : alone_of (side_of c) (opened lent c (begun p)) ≡ whole others c p
+  pub unwoken : (opened lent c (begun p)).woken ≡ []
+  pub few : left_of (side_of c) (opened lent c (begun p)) ≤ most_steps (found_alone (side_of c) p) c
+
+looks-busy : (knows_none : Bool) (l : Purpose) → reader_state (reader_looks_for knows_none l) ≡ Busy
+looks-busy true l = refl
+looks-busy false purpose.Poll = refl
+looks-busy false (purpose.Copy Try) = refl
+looks-busy false (purpose.Copy (Polling drawn)) = refl
+
+looks-store : (knows_none : Bool) (l : Purpose) → head_store (reader_looks_for knows_none l) ≡ 0
+looks-store true l = refl
+looks-store false purpose.Poll = refl
+looks-store false (purpose.Copy Try) = refl
+looks-store false (purpose.Copy (Polling drawn)) = refl
+
+-- the look of a drain, and its rounds
+looks-few : (knows_none : Bool) (form : Form) (unread known : ℕ) → (known == 0) ≡ knows_none → read_steps unread known (reader_looks_for knows_none (purpose.Copy form)) ≤ 6 + 4 * (if known == 0 then unread else known)
+looks-few true form unread known test = let is = ap (λ (b : Bool). if b then unread else known) test in omega arith
+looks-few false Try unread known test = let is = ap (λ (b : Bool). if b then unread else known) test in omega arith
+looks-few false (Polling drawn) unread known test = let is = ap (λ (b : Bool). if b then unread else known) test in omega arith
+
+poll-few : (knows_none : Bool) (capacity known : ℕ) → read_steps capacity known (reader_looks_for knows_none purpose.Poll) ≤ 5
+poll-few true capacity known = omega arith
+poll-few false capacity known = omega arith
+
+test-holds : (test : Bool) (r : StepRefusal) → unless test r ≡ None → test ≡ true
+test-holds true r none = refl
+test-holds false r none = absurd (cc)
+
+within-of : (n most : ℕ) → nat_le n most ≡ true → n ≤ most
+within-of n most test = grind (arith, nat_tests)
+
+is_lending : Call → Bool
+is_lending (call.WriteBuf most) = true
+is_lending c = false
+
+opens : (c : Call) (lent others : List ℕ) (r : Pipe) → is_lending c ≡ false → let p = resting (side_of c) r in IsSound p → past c p ≡ None → IsOpened c lent others p
+unfolding is_lending
+opens (call.Query Reader query) lent others r stepped sound fits = record { commutes = refl; at_once = refl; busy = refl; valid = record { unread = sound.unread; start = sound.start; known = sound.known; store = omega arith }; rest = refl; unwoken = refl; few = omega arith }
+opens (call.IsClosed Reader) lent others r stepped sound fits = record { commutes = refl; at_once = refl; busy = refl; valid = record { unread = sound.unread; start = sound.start; known = sound.known; store = omega arith }; rest = refl; unwoken = refl; few = omega arith }
+opens (call.Poll Reader waker luck) lent others r stepped sound fits =
+    let none = looks-store (r.known == 0) purpose.Poll in
+    record { commutes = refl; at_once = refl; busy = looks-busy (r.known == 0) purpose.Poll; valid = record { unread = sound.unread; start = sound.start; known = sound.known; store = omega arith }; rest = reader-polls (context waker luck) r; unwoken = refl; few = poll-few (r.known == 0) (length r.unread) r.known }
+opens (call.TryDrain size) lent others r stepped sound fits =
+    let none = looks-store (r.known == 0) (purpose.Copy Try) in
+    record { commutes = refl; at_once = refl; busy = looks-busy (r.known == 0) (purpose.Copy Try); valid = record { unread = sound.unread; start = sound.start; known = sound.known; store = omega arith }; rest = try_drain-whole size r; unwoken = refl; few = looks-few (r.known == 0) Try (length r.unread) r.known refl }
+opens (call.PollDrainBytes waker luck size) lent others r stepped sound fits =
+    let none = looks-store (r.known == 0) (purpose.Copy (Polling (luck.draw == 0))) in
+    record { commutes = refl; at_once = refl; busy = looks-busy (r.known == 0) (purpose.Copy (Polling (luck.draw == 0))); valid = record { unread = sound.unread; start = sound.start; known = sound.known; store = omega arith }; rest = drain-slice (context waker luck) size r; unwoken = refl; few = looks-few (r.known == 0) (Polling (luck.draw == 0)) (length r.unread) r.known refl }
+opens (call.PollDrain waker luck acts) lent others r stepped sound fits =
+    let none = looks-store (r.known == 0) (purpose.Copy (Polling (luck.draw == 0))) in
+    record { commutes = refl; at_once = refl; busy = looks-busy (r.known == 0) (purpose.Copy (Polling (luck.draw == 0))); valid = record { unread = sound.unread; start = sound.start; known = sound.known; store = omega arith }; rest = drain-acts (context waker luck) acts r; unwoken = refl; few = looks-few (r.known == 0) (Polling (luck.draw == 0)) (length r.unread) r.known refl }
+opens (call.Consume n) lent others r stepped sound fits =
+    let within = within-of n _ (test-holds _ _ fits) in
+    record { commutes = refl; at_once = refl; busy = refl; valid = record { unread = sound.unread; start = sound.start; known = sound.known; store = within }; rest = refl; unwoken = refl; few = omega arith }
+opens (call.Drop Reader) lent others r stepped sound fits = record { commutes = refl; at_once = refl; busy = refl; valid = record { unread = sound.unread; start = sound.start; known = sound.known; store = omega arith }; rest = refl; unwoken = refl; few = omega arith }
+opens (call.WriteBuf most) lent others r stepped sound fits = absurd (cc)
+opens (call.Produced n) lent others r stepped sound fits =
+    let within = within-of n _ (test-holds _ _ fits) in
+    let room = sound.lent_room in
+    record { commutes = refl; at_once = refl; busy = refl; valid = (record { unread = sound.unread; start = sound.start; room = sound.room; store = omega arith; shut = sound.closed; unclosed = λ saw. absurd (cc) }, refl); rest = refl; unwoken = refl; few = omega arith }
+opens (call.Poll Writer waker luck) lent others r stepped sound fits = record { commutes = refl; at_once = refl; busy = refl; valid = (record { unread = sound.unread; start = sound.start; room = sound.room; store = omega arith; shut = sound.closed; unclosed = λ saw. absurd (cc) }, refl); rest = writer-polls (context waker luck) r; unwoken = refl; few = omega arith }
+opens (call.TryFill bytes) lent others r stepped sound fits = record { commutes = refl; at_once = refl; busy = refl; valid = (record { unread = sound.unread; start = sound.start; room = sound.room; store = omega arith; shut = sound.closed; unclosed = λ saw. absurd (cc) }, refl); rest = try_fill-whole (source.Bytes bytes ∷ []) bytes (given-slice bytes) (failure-slice bytes) r; unwoken = refl; few = omega arith }
+opens (call.PollFillBytes waker luck bytes) lent others r stepped sound fits = record { commutes = refl; at_once = refl; busy = refl; valid = (record { unread = sound.unread; start = sound.start; room = sound.room; store = omega arith; shut = sound.closed; unclosed = λ saw. absurd (cc) }, refl); rest = fill-slice (source.Bytes bytes ∷ []) bytes (given-slice bytes) (failure-slice bytes) (context waker luck) r; unwoken = refl; few = omega arith }
+opens (call.PollFill waker luck acts) lent others r stepped sound fits = record { commutes = refl; at_once = refl; busy = refl; valid = (record { unread = sound.unread; start = sound.start; room = sound.room; store = omega arith; shut = sound.closed; unclosed = λ saw. absurd (cc) }, refl); rest = fill-acts (context waker luck) acts r; unwoken = refl; few = omega arith }
+opens c lent others r stepped sound fits = record { commutes = refl; at_once = refl; busy = refl; valid = (record { unread = sound.unread; start = sound.start; room = sound.room; store = omega arith; shut = sound.closed; unclosed = λ saw. absurd (cc) }, refl); rest = refl; unwoken = refl; few = omega arith }
+
+or_else-second : (first second : Option StepRefusal) → or_else first second ≡ None → second ≡ None
+or_else-second None second none = none
+or_else-second (Some r) second none = absurd (cc)
+
+or_else-first : (first second : Option StepRefusal) → or_else first second ≡ None → first ≡ None
+or_else-first None second none = refl
+or_else-first (Some r) second none = absurd (cc)
+
+-- of a call that is opened: its side is idle, and it asks for no more than there is
+begins-idle : (c : Call) (p : Pipe) → refusal_of (Begin c) p ≡ None → cannot_begin (state_of (side_of c) p) ≡ None
+begins-idle c p none = or_else-first (cannot_begin (state_of (side_of c) p)) (or_else (unless (has_good_draw c) BadDraw) (past c p)) none
+
+begins-within : (c : Call) (p : Pipe) → refusal_of (Begin c) p ≡ None → past c p ≡ None
+begins-within c p none = or_else-second (unless (has_good_draw c) BadDraw) (past c p) (or_else-second (cannot_begin (state_of (side_of c) p)) (or_else (unless (has_good_draw c) BadDraw) (past c p)) none)
+
+is-opened : (c : Call) (lent others : List ℕ) (p : Pipe) → is_lending c ≡ false → IsSound p → HoldsNothing (side_of c) p → refusal_of (Begin c) p ≡ None → IsOpened c lent others p
+is-opened c lent others p stepped sound holds accepted =
+    let side = side_of c in
+    let is = rests-is side p holds (idle-of side p (begins-idle c p accepted)) in
+    subst (λ (r : Pipe). IsOpened c lent others r) (sym is) (opens c lent others p stepped (subst IsSound is sound) (subst (λ (r : Pipe). past c r ≡ None) is (begins-within c p accepted)))
+
+-- a call that is not refused can be opened
+opens-plain : (c : Call) (p : Pipe) (before : List Event) → is_lending c ≡ false → refusal_of (Begin c) p ≡ None → (q : Pipe) × (after : List Event) × Made p (Begin c) q before after
+unfolding is_lending
+opens-plain (call.WriteBuf most) p before stepped accepted = absurd (cc)
+opens-plain c p before stepped accepted = (opened [] c p, before ++ (began [] c p).events, record { accepted = accepted; made = record { lent = tt; pipe = refl; events = refl } })
+
+makes : (c : Call) (p : Pipe) → is_lending c ≡ false → IsSound p → HoldsNothing (side_of c) p → IsWholeBySteps c p
+makes c p stepped sound holds = record {
+  opens = λ accepted before. opens-plain c p before stepped accepted;
+  ends = λ k q before after run.
+      let side = side_of c in
+      let mid = run.0 in
+      let made = run.2.made in
+      let opening = is-opened c mid.lent [] p stepped sound holds run.2.accepted in
+      let begins = subst (λ (r : Pipe). Runs r run.1 (replicate k (Go side)) q after) (made.pipe ∙ opening.commutes) run.3 in
+      comes-back k side (opened mid.lent c (begun p)) p.woken run.1 after q opening.busy opening.valid begins;
+  made = λ k q before after run ends.
+      let side = side_of c in
+      let mid = run.0 in
+      let made = run.2.made in
+      let opening = is-opened c mid.lent q.lent p stepped sound holds run.2.accepted in
+      let begins = subst (λ (r : Pipe). Runs r run.1 (replicate k (Go side)) q after) (made.pipe ∙ opening.commutes) run.3 in
+      let done = finish k side (opened mid.lent c (begun p)) p.woken run.1 after q opening.busy opening.valid begins ends in
+      let began = Began side (kind_of c) (waker_of c) in
+      let noted = done.log ++ Answered side (alone_of side (opened mid.lent c (begun p))).answer ∷ [] in
+      let steps = done.steps in
+      let few = opening.few in (
+        omega arith,
+        record {
+          log = began ∷ done.log;
+          events =
+              done.events
+              ∙ ap (λ (es : List Event). es ++ noted) (made.events ∙ ap (λ (answer : Option Answer). before ++ (began ∷ answer_event side answer)) opening.at_once)
+              ∙ append_assoc before (began ∷ []) noted
+              ∙ ap (λ (e : Ended). before ++ (began ∷ (done.log ++ Answered side e.answer ∷ []))) opening.rest;
+          woken = sym (sym (ap (λ (e : Ended). e.pipe.woken) opening.rest) ∙ done.woken ∙ ap (λ (xs : List ℕ). xs ++ names_of done.log) opening.unwoken);
+          pipe = done.pipe ∙ ap (λ (e : Ended). named p.woken e.pipe) opening.rest;
+        },
+      );
+}
+
+-- a call that neither copies nor lends, as it is opened to be run whole
+pub record IsPlainOpened (c : Call) (p q : Pipe) : Type 0 where
+  pub busy : state_of (side_of c) q ≡ Busy
+  pub moves : is_copying (side_of c) q ≡ false
+  pub wakes : length q.woken + wakes_of (side_of c) q ≤ 2
+  pub rest : alone_of (side_of c) q ≡ whole [] c p
+
+polls-plain : (knows_none : Bool) → (is_draining (reader_looks_for knows_none purpose.Poll) ≡ false) × (read_wakes (reader_looks_for knows_none purpose.Poll) ≡ 0)
+polls-plain true = (refl, refl)
+polls-plain false = (refl, refl)
+
+is-plain : (c : Call) (lent : List ℕ) (p : Pipe) → is_plain c ≡ true → let q = opened lent c p in (is_lending c ≡ false) × (is_copying (side_of c) q ≡ false) × (wakes_of (side_of c) q ≤ 2)
+unfolding is_lending
+is-plain (call.Query Reader query) lent p plain = (refl, refl, omega arith)
+is-plain (call.IsClosed Reader) lent p plain = (refl, refl, omega arith)
+is-plain (call.Poll Reader waker luck) lent p plain = let polls = polls-plain (p.known == 0) in let none = polls.1 in (refl, polls.0, omega arith)
+is-plain (call.Drop Reader) lent p plain = (refl, refl, omega arith)
+is-plain (call.TryDrain size) lent p plain = absurd (cc)
+is-plain (call.PollDrainBytes waker luck size) lent p plain = absurd (cc)
+is-plain (call.PollDrain waker luck acts) lent p plain = absurd (cc)
+is-plain (call.TryFill bytes) lent p plain = absurd (cc)
+is-plain (call.PollFillBytes waker luck bytes) lent p plain = absurd (cc)
+is-plain (call.PollFill waker luck acts) lent p plain = absurd (cc)
+is-plain (call.WriteBuf most) lent p plain = absurd (cc)
+is-plain c lent p plain = (refl, refl, omega arith)
+
+pub plain-opens : (c : Call) (p b q : Pipe) → is_plain c ≡ true → IsSound p → p ≡ resting (side_of c) p → past c p ≡ None → b ≡ begun p → q ≡ opened q.lent c b → IsPlainOpened c p q
+plain-opens c p b q plain sound is fits begins opens_it =
+    let side = side_of c in
+    let lent = q.lent in
+    let r = opened lent c (begun p) in
+    let plainly = is-plain c lent (begun p) plain in
+    let opening = subst (λ (v : Pipe). IsOpened c lent [] v) (sym is) (opens c lent [] p plainly.0 (subst IsSound is sound) (subst (λ (v : Pipe). past c v ≡ None) is fits)) in
+    let few = plainly.2 in
+    let unwoken = ap (λ (names : List ℕ). length names) opening.unwoken in
+    let same : q ≡ r = opens_it ∙ ap (λ (v : Pipe). opened lent c v) begins in
+    subst (λ (v : Pipe). IsPlainOpened c p v) (sym same) (record { busy = opening.busy; moves = plainly.1; wakes = omega arith; rest = opening.rest })
+
+-- a call of write_buf has no step
+lends : (most : ℕ) (p : Pipe) → IsSound p → IsWholeBySteps (call.WriteBuf most) p
+lends most p sound = record {
+  opens = λ accepted before.
+      let can = lends-some most p sound.unread sound.start in
+      let lent = replicate can.count 0 in
+      let may = subst (λ (n : ℕ). Lendable most p n) (sym (length-replicate can.count 0)) can.may in
+      (lending lent p, before ++ (began lent (call.WriteBuf most) p).events, record { accepted = accepted; made = record { lent = may; pipe = refl; events = refl } });
+  ends = λ k q before after run.
+      let mid = run.0 in
+      let idle = ap (λ (r : Pipe). r.writer) run.2.made.pipe ∙ writer-idle p.writer (begins-idle (call.WriteBuf most) p run.2.accepted) in
+      let over = no_more k Writer mid q run.1 after (subst (λ (point : WritePoint). cannot_go (writer_state point) ≡ None → ⊥) (sym idle) (λ none. absurd (cc))) run.3 in
+      let rests = ap (λ (r : Pipe). r.writer) over.1 ∙ idle in
+      record { steps = 0; pipe = q; after = after; runs = (refl, refl); returned = subst (λ (point : WritePoint). writer_state point ≡ Busy → ⊥) (sym rests) (λ busy. absurd (cc)) };
+  made = λ k q before after run ends.
+      let mid = run.0 in
+      let made = run.2.made in
+      let began = Began Writer (kind_of (call.WriteBuf most)) None in
+      let idle = ap (λ (r : Pipe). r.writer) made.pipe ∙ writer-idle p.writer (begins-idle (call.WriteBuf most) p run.2.accepted) in
+      let over = no_more k Writer mid q run.1 after (subst (λ (point : WritePoint). cannot_go (writer_state point) ≡ None → ⊥) (sym idle) (λ none. absurd (cc))) run.3 in
+      let last = over.0 in (
+        omega arith,
+        record {
+          log = began ∷ [];
+          events = over.2 ∙ made.events ∙ ap (λ (r : Pipe). before ++ (began ∷ Answered Writer (Lent (length r.lent)) ∷ [])) (sym over.1);
+          woken = refl;
+          pipe = over.1 ∙ made.pipe ∙ ap (λ (r : Pipe). lending r.lent p) (sym over.1);
+        },
+      );
+}
+
+pub whole-by_steps : (c : Call) (p : Pipe) → IsSound p → HoldsNothing (side_of c) p → IsWholeBySteps c p
+unfolding is_lending
+whole-by_steps (call.WriteBuf most) p sound holds = lends most p sound
+whole-by_steps c p sound holds = makes c p refl sound holds
+
+module _ (m : Inside) (i : IsMachine m) where
+  holds-nothing : (side : Side) → HoldsNothing side (pipe_of m)
+  holds-nothing Reader = λ idle. (i.reader_call idle, i.destination idle)
+  holds-nothing Writer = λ idle. (i.writer_call idle, i.source idle)
+
+  pub by_steps : (p : Pipe) → pipe_of m ≡ p → AreWholeBySteps p
+  by_steps p e = subst AreWholeBySteps e (λ c. whole-by_steps c (pipe_of m) (sound m i (pipe_of m) refl) (holds-nothing (side_of c)))
+
+  pub rests : (side : Side) (p : Pipe) → pipe_of m ≡ p → IsIdle side p → p ≡ resting side p
+  rests side p e idle = subst (λ (q : Pipe). IsIdle side q → q ≡ resting side q) e (rests-is side (pipe_of m) (holds-nothing side)) idle

@@ -1,0 +1,176 @@
+-- What the log reports of calls of both sides, and what they return.
+use Rattle.std.specs.Prelude.{◌≡◌, List, [], ◌∷◌, ◌++◌, drop, true, false, None, Some, Err, refl}
+use Rattle.std.proofs.Common.{arith}
+use Rattle.piper_protocol.specs.declared.table.Side.{Side}
+use Rattle.piper_protocol.specs.declared.table.Side.TheVariants.{Reader, Writer}
+use Rattle.piper_protocol.specs.declared.table.Query.TheVariants.{Len}
+use Rattle.piper_machine.specs.declared.calls.Call.TheVariants as call
+use Rattle.piper_machine.specs.declared.calls.Kind.TheVariants as kind
+use Rattle.piper_machine.specs.declared.calls.Step.{Step}
+use Rattle.piper_machine.specs.declared.calls.Step.TheVariants.{Begin, Go}
+use Rattle.piper_machine.specs.declared.events.Event.{Event}
+use Rattle.piper_machine.specs.declared.events.Event.TheVariants.{Began, Loaded, Published, Consumed, Closed, Answered}
+use Rattle.piper_machine.specs.declared.events.Seen.TheVariants as seen
+use Rattle.piper_protocol.specs.declared.answer.Answer.TheVariants as answer
+use Rattle.piper_protocol.specs.declared.answer.Polled.TheVariants as polled
+use Rattle.piper_machine.specs.declared.scripted.SourceAct.TheVariants as source
+use Rattle.piper_machine.specs.declared.scripted.DestAct.TheVariants as dest
+use Rattle.piper_machine.specs.Pipe.{Pipe, fresh}
+use Rattle.piper_machine.specs.Step.{stepped}
+use Rattle.piper_machine.specs.Noted.{Noted, unnoted, calls_of, noted_from}
+use Rattle.piper_machine.proofs.worked.Script.{by}
+use Rattle.piper_machine.specs.Outcome.{places_of, may_fail, HasFailed, IsFilled, number_found}
+
+-- the events of these steps, where two places are lent to each call of a source
+abbrev logged : List Step → Pipe → List Event
+logged [] p = []
+logged (s ∷ ss) p = let out = stepped (0 ∷ 0 ∷ []) s p in out.events ++ logged ss out.pipe
+
+-- what they report of a side of which these steps are made
+abbrev told_by : Side → List Step → List Event → Noted
+told_by side steps events = noted_from side (unnoted (calls_of side steps)) events
+
+abbrev reader_drops : List Step
+reader_drops = Begin (call.Drop Reader) ∷ Go Reader ∷ Go Reader ∷ []
+
+-- A fill of two bytes has found the pipe open before the reader drops: it publishes them, and
+-- counts them.
+abbrev dropped_after_the_look : List Step
+dropped_after_the_look = Begin (call.TryFill (1 ∷ 2 ∷ [])) ∷ Go Writer ∷ Go Writer ∷ Go Writer ∷ reader_drops ++ Go Writer ∷ Go Writer ∷ Go Writer ∷ []
+
+abbrev logged_of_the_published : List Event
+logged_of_the_published =
+    Began Writer kind.TryFill None ∷ Loaded Writer (seen.Closed false) ∷ Loaded Writer (seen.Closed false)
+    ∷ Began Reader kind.Drop None ∷ Closed Reader ∷ Answered Reader answer.Done
+    ∷ Published (1 ∷ 2 ∷ []) ∷ []
+
+reported_of_the_published :
+    (logged dropped_after_the_look (fresh 4) ≡ logged_of_the_published ++ Answered Writer (answer.Count 2) ∷ [])
+    × (told_by Writer dropped_after_the_look logged_of_the_published ≡ record {
+      coming = [];
+      call = Some (call.TryFill (1 ∷ 2 ∷ []));
+      looks = seen.Closed false ∷ seen.Closed false ∷ [];
+      moved = 1 ∷ 2 ∷ [];
+    })
+reported_of_the_published = (refl, refl)
+
+-- Its source has given them, and then it finds the pipe closed: it counts them, and publishes none.
+abbrev dropped_before_the_look : List Step
+dropped_before_the_look = Begin (call.TryFill (1 ∷ 2 ∷ [])) ∷ Go Writer ∷ Go Writer ∷ reader_drops ++ Go Writer ∷ []
+
+abbrev logged_of_the_counted : List Event
+logged_of_the_counted =
+    Began Writer kind.TryFill None ∷ Loaded Writer (seen.Closed false)
+    ∷ Began Reader kind.Drop None ∷ Closed Reader ∷ Answered Reader answer.Done
+    ∷ Loaded Writer (seen.Closed true) ∷ []
+
+reported_of_the_counted :
+    (logged dropped_before_the_look (fresh 4) ≡ logged_of_the_counted ++ Answered Writer (answer.Count 2) ∷ [])
+    × (told_by Writer dropped_before_the_look logged_of_the_counted ≡ record {
+      coming = [];
+      call = Some (call.TryFill (1 ∷ 2 ∷ []));
+      looks = seen.Closed true ∷ seen.Closed false ∷ [];
+      moved = [];
+    })
+reported_of_the_counted = (refl, refl)
+
+-- Both counts are right. A count of 2 is wrong of a fill that found the pipe open and published
+-- nothing.
+counts_of_fills :
+    IsFilled (1 ∷ 2 ∷ []) (seen.Closed false ∷ seen.Closed false ∷ []) (1 ∷ 2 ∷ []) 2
+    × IsFilled (1 ∷ 2 ∷ []) (seen.Closed true ∷ seen.Closed false ∷ []) [] 2
+    × (IsFilled (1 ∷ 2 ∷ []) (seen.Closed false ∷ seen.Closed false ∷ []) [] 2 → ⊥)
+counts_of_fills = (
+  record { published = λ is_open. refl; none = λ is_closed. absurd (cc); at_least = omega arith; at_most = omega arith },
+  record { published = λ is_open. absurd (cc); none = λ is_closed. absurd (cc); at_least = omega arith; at_most = omega arith },
+  λ filled. absurd (let two = filled.published refl in omega arith),
+)
+
+-- A fill that finds the pipe closed at first counts nothing.
+abbrev dropped_before_the_fill : List Step
+dropped_before_the_fill = reader_drops ++ Begin (call.TryFill (1 ∷ 2 ∷ [])) ∷ Go Writer ∷ []
+
+logged_of_the_closed : logged dropped_before_the_fill (fresh 4) ≡ (
+    Began Reader kind.Drop None ∷ Closed Reader ∷ Answered Reader answer.Done
+    ∷ Began Writer kind.TryFill None ∷ Loaded Writer (seen.Closed true) ∷ Answered Writer (answer.Count 0) ∷ [])
+logged_of_the_closed = refl
+
+counts_of_a_closed_pipe :
+    IsFilled (1 ∷ 2 ∷ []) (seen.Closed true ∷ []) [] 0
+    × (IsFilled (1 ∷ 2 ∷ []) (seen.Closed true ∷ []) [] 2 → ⊥)
+counts_of_a_closed_pipe = (
+  record { published = λ is_open. refl; none = λ is_closed. refl; at_least = omega arith; at_most = omega arith },
+  λ filled. absurd (let zero = filled.none refl in omega arith),
+)
+
+-- A source fails after its first byte: the fill has published that byte, and returns the failure.
+abbrev fails_after_a_byte : List Step
+fails_after_a_byte = Begin (call.PollFill 1 (by 1).luck (source.Bytes (9 ∷ []) ∷ source.Fail ∷ [])) ∷ Go Writer ∷ Go Writer ∷ Go Writer ∷ Go Writer ∷ Go Writer ∷ Go Writer ∷ Go Writer ∷ []
+
+abbrev logged_of_the_failure : List Event
+logged_of_the_failure =
+    Began Writer kind.PollFill (Some 1) ∷ Loaded Writer (seen.Closed false) ∷ Loaded Writer (seen.Closed false) ∷ Published (9 ∷ []) ∷ []
+
+reported_of_the_failure :
+    (logged fails_after_a_byte (fresh 4) ≡ logged_of_the_failure ++ Answered Writer (answer.Copy (polled.Ready (Err (record {})))) ∷ [])
+    × HasFailed (source.Bytes (9 ∷ []) ∷ source.Fail ∷ []) (told_by Writer fails_after_a_byte logged_of_the_failure).moved
+reported_of_the_failure = (refl, record { fails = refl; published = refl })
+
+-- A drain of at most three bytes of a pipe that holds two, between the two looks of the writer's
+-- query.
+abbrev drained_between_the_looks : List Step
+drained_between_the_looks =
+    Begin (call.TryFill (7 ∷ 8 ∷ [])) ∷ Go Writer ∷ Go Writer ∷ Go Writer ∷ Go Writer ∷ Go Writer ∷ Go Writer
+    ∷ Begin (call.Query Writer Len) ∷ Go Writer
+    ∷ Begin (call.TryDrain 3) ∷ Go Reader ∷ Go Reader ∷ Go Reader ∷ Go Reader ∷ Go Reader
+    ∷ Go Writer ∷ []
+
+abbrev logged_of_the_drained : List Event
+logged_of_the_drained =
+    Began Writer kind.TryFill None ∷ Loaded Writer (seen.Closed false) ∷ Loaded Writer (seen.Closed false) ∷ Published (7 ∷ 8 ∷ []) ∷ Answered Writer (answer.Count 2)
+    ∷ Began Writer (kind.Query Len) None ∷ Loaded Writer (seen.Head 2)
+    ∷ Began Reader kind.TryDrain None ∷ Loaded Reader (seen.Tail 2) ∷ Consumed (7 ∷ 8 ∷ []) ∷ []
+
+abbrev logged_of_the_length : List Event
+logged_of_the_length = logged_of_the_drained ++ Answered Reader (answer.Count 2) ∷ Loaded Writer (seen.Tail 0) ∷ []
+
+reported_of_the_drained :
+    (logged drained_between_the_looks (fresh 4) ≡ logged_of_the_length ++ Answered Writer (answer.Count 2) ∷ [])
+    × (told_by Reader drained_between_the_looks logged_of_the_drained ≡ record {
+      coming = [];
+      call = Some (call.TryDrain 3);
+      looks = seen.Tail 2 ∷ [];
+      moved = 7 ∷ 8 ∷ [];
+    })
+    × (told_by Writer drained_between_the_looks logged_of_the_length ≡ record {
+      coming = [];
+      call = Some (call.Query Writer Len);
+      looks = seen.Tail 0 ∷ seen.Head 2 ∷ [];
+      moved = [];
+    })
+reported_of_the_drained = (refl, refl, refl)
+
+-- A destination that takes one byte and then fails: it has places for one, and that byte stays
+-- consumed.
+abbrev destination_fails : List Step
+destination_fails =
+    Begin (call.TryFill (7 ∷ 8 ∷ [])) ∷ Go Writer ∷ Go Writer ∷ Go Writer ∷ Go Writer ∷ Go Writer ∷ Go Writer
+    ∷ Begin (call.PollDrain 1 (by 1).luck (dest.Take 1 ∷ dest.Fail ∷ [])) ∷ Go Reader ∷ Go Reader ∷ Go Reader ∷ Go Reader ∷ Go Reader ∷ Go Reader ∷ []
+
+logged_of_the_consumed : drop 5 (logged destination_fails (fresh 4)) ≡ (
+    Began Reader kind.PollDrain (Some 1) ∷ Loaded Reader (seen.Tail 2) ∷ Consumed (7 ∷ []) ∷ Answered Reader (answer.Copy (polled.Ready (Err (record {})))) ∷ [])
+logged_of_the_consumed = refl
+
+places_of_the_destination : (places_of (dest.Take 1 ∷ dest.Fail ∷ []) ≡ 1) × (may_fail (dest.Take 1 ∷ dest.Fail ∷ []) ≡ true)
+places_of_the_destination = (refl, refl)
+
+-- Of the same two looks the writer returns what it found first, and the reader what it found last.
+numbers_found :
+    (number_found Writer (seen.Tail 0 ∷ seen.Head 2 ∷ []) ≡ Some 2)
+    × (number_found Reader (seen.Tail 0 ∷ seen.Head 2 ∷ []) ≡ Some 0)
+    × (number_found Reader (seen.Tail 0 ∷ []) ≡ None)
+numbers_found = (refl, refl, refl)
+
+-- After its answer a call is no longer open.
+closed_by_its_answer : (told_by Writer drained_between_the_looks (logged drained_between_the_looks (fresh 4))).call ≡ None
+closed_by_its_answer = refl

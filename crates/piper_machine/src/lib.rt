@@ -1,0 +1,25 @@
+//! A bounded pipe of bytes between one reader and one writer, as a pure machine.
+#![tactic(auto)]
+
+// What calls are handed, do and log.
+pub mod bytes;
+pub mod calls;
+pub mod events;
+pub mod polling;
+pub mod refusals;
+pub mod scripted;
+
+// The two sides: what each knows, and its open call.
+pub mod read_state;
+pub mod slot;
+pub mod woken;
+pub mod write_state;
+
+// The pipe with both.
+pub mod destination;
+pub mod examples;
+pub mod machine;
+mod source;
+
+pub use piper_protocol::memory::OutOfMemory;
+pub use piper_protocol::{answer, table};
