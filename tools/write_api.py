@@ -21,7 +21,9 @@ DATA = Path(__file__).resolve().parent / "api"
 PAGES = TOP / "docs/api"
 # The crates with a page, lower ones first.
 CRATES = ["piper", "piper_lines", "piper_futures", "piper_streams", "piper_duplex",
-          "piper_transfer", "piper_tokio", "piper_ring"]
+          "piper_transfer", "piper_tokio", "piper_ring", "piper_machine"]
+# Of `piper_machine`: modules that its page says in words.
+IN_WORDS = ("index", "destination", "examples")
 HANDLES = ("Reader", "Writer")
 OWNERS = {"OwnedReader": "Reader", "OwnedWriter": "Writer", "OwnedEnd": "End"}
 # Of `piper`: what stands where on its page. Items in none of these sections come before the last.
@@ -253,7 +255,8 @@ def crate_page(crate):
     begin(page, crate)
     above = sorted(name for name, (owner, _path) in exports("piper").items() if owner == crate)
     page.lines += ["", f"`piper` exports {listed(above)}."] if above else []
-    names = {name: one for name, one in sorted(exports(crate).items()) if name != "OutOfMemory"}
+    names = {name: one for name, one in sorted(exports(crate).items())
+             if name != "OutOfMemory" and one[1].split("::")[1] not in IN_WORDS}
     kinds = {name: item_named(names[name][0], name).kind for name in names}
     for title, of_kind in (("Functions", ("fn",)), ("Types", ("struct", "enum", "const", "type")),
                            ("Traits", ("trait",))):

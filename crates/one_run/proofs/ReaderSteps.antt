@@ -15,7 +15,7 @@ use Rattle.piper_machine.specs.Log.{answer_event}
 use Rattle.piper_machine.specs.Open.{no_call}
 use Rattle.piper_machine.specs.declared.calls.Step.TheVariants.{Go}
 use Rattle.piper_machine.specs.declared.events.Event.{Event}
-use Rattle.piper_machine.specs.declared.events.Event.TheVariants.{Consumed, Loaded}
+use Rattle.piper_machine.specs.declared.events.Event.TheVariants.{Consumed, Looked}
 use Rattle.piper_machine.specs.declared.events.Seen.TheVariants as seen
 use Rattle.piper_machine.specs.declared.polling.Luck.{Luck}
 use Rattle.piper_machine.specs.declared.scripted.DestAct.{DestAct}
@@ -120,7 +120,7 @@ module _ (capacity : ℕ) (w : WriterAt) (l : Chance) (sources : List SourceAct)
             goes (loaded_tail count) does.LoadIndex k k acts acts e (λ x. absurd cc)
                 (ap (λ (n : ℕ). record p { known = n }) count_is)
                 (ap (λ (n : ℕ). read_after capacity p.reader (found.IndexLoaded (n == 0))) count_is ∙ told k (found.IndexLoaded (count - r.head == 0)) does.LoadIndex e (λ x. absurd cc))
-                (ap (λ (n : ℕ). Loaded Reader (seen.Tail n) ∷ []) count_is)
+                (ap (λ (n : ℕ). Looked Reader (seen.Tail n) ∷ []) count_is)
                 (sound capacity _ w s k acts l sources after),
           )
 
@@ -143,7 +143,7 @@ module _ (capacity : ℕ) (w : WriterAt) (l : Chance) (sources : List SourceAct)
             goes (loaded_closed b) does.LoadClosed k k acts acts e (λ x. absurd cc)
                 refl
                 (ap (λ (x : Bool). read_after capacity p.reader (found.Flag x)) (sym finds) ∙ told k (found.Flag b) does.LoadClosed e (λ x. absurd cc))
-                (ap (λ (x : Bool). Loaded Reader (seen.Closed x) ∷ []) (sym finds))
+                (ap (λ (x : Bool). Looked Reader (seen.Closed x) ∷ []) (sym finds))
                 (sound capacity _ w s k acts l sources after),
           )
 

@@ -15,7 +15,7 @@ use Rattle.piper_machine.specs.Log.{answer_event}
 use Rattle.piper_machine.specs.Open.{no_call}
 use Rattle.piper_machine.specs.declared.calls.Step.TheVariants.{Go}
 use Rattle.piper_machine.specs.declared.events.Event.{Event}
-use Rattle.piper_machine.specs.declared.events.Event.TheVariants.{Loaded, Published}
+use Rattle.piper_machine.specs.declared.events.Event.TheVariants.{Looked, Published}
 use Rattle.piper_machine.specs.declared.events.Seen.TheVariants as seen
 use Rattle.piper_machine.specs.declared.polling.Luck.{Luck}
 use Rattle.piper_machine.specs.declared.scripted.DestAct.{DestAct}
@@ -153,7 +153,7 @@ module _ (capacity : ℕ) (r : ReaderAt) (k : Chance) (acts : List DestAct) wher
             keeps (loaded_head count) does.LoadIndex l l sources sources e (λ x. absurd cc) (λ x. absurd cc)
                 (ap (λ (n : ℕ). record p { room = capacity - n }) count_is)
                 (ap (λ (n : ℕ). write_after capacity (room_to capacity w) p.writer (found.IndexLoaded (capacity - n == 0))) count_is ∙ told l (found.IndexLoaded (capacity - (w.tail - count) == 0)) does.LoadIndex e (λ x. absurd cc))
-                (ap (λ (n : ℕ). Loaded Writer (seen.Head n) ∷ []) count_is)
+                (ap (λ (n : ℕ). Looked Writer (seen.Head n) ∷ []) count_is)
                 (sound capacity r _ s k acts l sources after),
           )
 
@@ -176,7 +176,7 @@ module _ (capacity : ℕ) (r : ReaderAt) (k : Chance) (acts : List DestAct) wher
             keeps (loaded_closed b) does.LoadClosed l l sources sources e (λ x. absurd cc) (λ x. absurd cc)
                 refl
                 (ap (λ (x : Bool). write_after capacity (room_to capacity w) p.writer (found.Flag x)) (sym finds) ∙ told l (found.Flag b) does.LoadClosed e (λ x. absurd cc))
-                (ap (λ (x : Bool). Loaded Writer (seen.Closed x) ∷ []) (sym finds))
+                (ap (λ (x : Bool). Looked Writer (seen.Closed x) ∷ []) (sym finds))
                 (sound capacity r _ s k acts l sources after),
           )
 

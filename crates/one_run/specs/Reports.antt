@@ -7,7 +7,7 @@ use Rattle.piper_machine.specs.Log.{answer_event}
 use Rattle.piper_machine.specs.declared.calls.Kind.{Kind}
 use Rattle.piper_machine.specs.declared.calls.Kind.TheVariants as kind
 use Rattle.piper_machine.specs.declared.events.Event.{Event}
-use Rattle.piper_machine.specs.declared.events.Event.TheVariants.{Answered, Began, Closed, Consumed, Loaded, Published, Registered, Woken}
+use Rattle.piper_machine.specs.declared.events.Event.TheVariants.{Answered, Began, Closed, Consumed, Looked, Published, Registered, Woken}
 use Rattle.piper_machine.specs.declared.events.Seen.TheVariants as seen
 use Rattle.one_run.specs.Line.{Opening, Line, polls, try_drains, try_drains_with, poll_drains_bytes, poll_drains, consumes, try_fills, try_fills_with, poll_fills_bytes, poll_fills, produces, closes, drops, began, loaded_head, loaded_tail, loaded_closed, stored_head, stored_tail, stored_closed, swapped, yielded, woke}
 use Rattle.one_run.specs.OneList.{By, by, did}
@@ -48,7 +48,7 @@ lend_in opening = []
 abbrev pub event_of : Side → Line → List Event
 event_of side (began opening) =
     lend_in opening ++ Began side (kind_in opening) (waker_in opening) ∷ []
-event_of side (loaded_closed is_closed) = Loaded side (seen.Closed is_closed) ∷ []
+event_of side (loaded_closed is_closed) = Looked side (seen.Closed is_closed) ∷ []
 event_of side stored_closed = Closed side ∷ []
 event_of side (swapped slot old (Some waker)) = Registered side waker ∷ []
 event_of side (yielded waker) = Woken waker ∷ []
@@ -57,12 +57,12 @@ event_of side line = []
 
 -- the machine counts the unread bytes, and a line all bytes
 abbrev pub reader_event : Line → ReaderAt → List Event
-reader_event (loaded_tail count) r = Loaded Reader (seen.Tail (count - r.head)) ∷ []
+reader_event (loaded_tail count) r = Looked Reader (seen.Tail (count - r.head)) ∷ []
 reader_event (stored_head bytes) r = Consumed bytes ∷ []
 reader_event line r = event_of Reader line
 
 abbrev pub writer_event : Line → WriterAt → List Event
-writer_event (loaded_head count) w = Loaded Writer (seen.Head (w.tail - count)) ∷ []
+writer_event (loaded_head count) w = Looked Writer (seen.Head (w.tail - count)) ∷ []
 writer_event (stored_tail bytes) w = Published bytes ∷ []
 writer_event line w = event_of Writer line
 

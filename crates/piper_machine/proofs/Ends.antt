@@ -6,7 +6,7 @@ use Rattle.std.proofs.lemmas.List.Elements.{All-nil, All-cons}
 use Rattle.piper_protocol.specs.declared.table.Side.TheVariants.{Reader}
 use Rattle.piper_protocol.specs.declared.answer.Answer.TheVariants.{Poll}
 use Rattle.piper_machine.specs.declared.events.Event.{Event}
-use Rattle.piper_machine.specs.declared.events.Event.TheVariants.{Loaded, Answered}
+use Rattle.piper_machine.specs.declared.events.Event.TheVariants.{Looked, Answered}
 use Rattle.piper_machine.specs.declared.events.Seen.TheVariants.{Tail}
 use Rattle.piper_protocol.specs.declared.answer.Polled.TheVariants.{Ready}
 use Rattle.piper_machine.specs.End.{saw_closed_after, saw_closed_from, found_none}
@@ -20,7 +20,7 @@ found_at_tail true zero ended = true
 found_at_tail saw unread ended = ended
 
 abbrev pub ended_after : Bool → Bool → Event → Bool
-ended_after saw ended (Loaded Reader (Tail unread)) = found_at_tail saw unread ended
+ended_after saw ended (Looked Reader (Tail unread)) = found_at_tail saw unread ended
 ended_after saw ended (Answered Reader (Poll (Ready false))) = true
 ended_after saw ended event = ended
 
@@ -52,7 +52,7 @@ still-at-tail true (suc unread) = refl
 still-at-tail false unread = refl
 
 still-ended : (saw : Bool) (e : Event) → ended_after saw true e ≡ true
-still-ended saw (Loaded Reader (Tail unread)) = still-at-tail saw unread
+still-ended saw (Looked Reader (Tail unread)) = still-at-tail saw unread
 still-ended saw (Answered Reader (Poll (Ready false))) = refl
 still-ended saw e = refl
 

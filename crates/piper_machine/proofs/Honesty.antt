@@ -12,7 +12,7 @@ use Rattle.piper_machine.specs.declared.calls.Step.{Step}
 use Rattle.piper_machine.specs.declared.calls.Step.TheVariants.{Begin, Go, Put}
 use Rattle.piper_protocol.specs.declared.answer.Answer.{Answer}
 use Rattle.piper_machine.specs.declared.events.Event.{Event}
-use Rattle.piper_machine.specs.declared.events.Event.TheVariants.{Began, Loaded}
+use Rattle.piper_machine.specs.declared.events.Event.TheVariants.{Began, Looked}
 use Rattle.piper_machine.specs.declared.events.Seen.TheVariants.{Tail}
 use Rattle.piper_machine.specs.declared.polling.Context.{Context}
 use Rattle.piper_protocol.specs.declared.table.Action.{Action}
@@ -179,9 +179,9 @@ module _ (h : History) (p : Pipe) where
 
   -- the one answer that is false: this look found nothing, after a close
   again-honest : (l : Purpose) (count : ℕ) (none was_closed : Bool) → (count == 0) ≡ none → h.is_closed ≡ p.is_closed → (was_closed ≡ true → p.is_closed ≡ true)
-      → IsHonestFrom (history_after h (Loaded Reader (Tail count))) (answer_event Reader (reader_looked_again none l was_closed).answer)
+      → IsHonestFrom (history_after h (Looked Reader (Tail count))) (answer_event Reader (reader_looked_again none l was_closed).answer)
   again-honest l count false was_closed test same seen = tt
-  again-honest (purpose.Copy form) count true was_closed test same seen = copy-honest (history_after h (Loaded Reader (Tail count))) form (end_or_pending was_closed)
+  again-honest (purpose.Copy form) count true was_closed test same seen = copy-honest (history_after h (Looked Reader (Tail count))) form (end_or_pending was_closed)
   again-honest purpose.Poll count true false test same seen = (tt, tt)
   again-honest purpose.Poll count true true test same seen =
       let zero : count ≡ 0 = grind (arith, nat_tests) in

@@ -6,7 +6,7 @@ use Rattle.piper_protocol.specs.declared.table.Side.TheVariants.{Reader}
 use Rattle.piper_machine.specs.declared.calls.Call.{Call}
 use Rattle.piper_machine.specs.declared.calls.Call.TheVariants as call
 use Rattle.piper_machine.specs.declared.events.Event.{Event}
-use Rattle.piper_machine.specs.declared.events.Event.TheVariants.{Loaded}
+use Rattle.piper_machine.specs.declared.events.Event.TheVariants.{Looked}
 use Rattle.piper_machine.specs.declared.events.Seen.{Seen}
 use Rattle.piper_machine.specs.declared.events.Seen.TheVariants as seen
 use Rattle.piper_protocol.specs.declared.answer.Polled.{Polled}
@@ -232,7 +232,7 @@ reader-point (at.LookRegister l) p t fits within held =
 reader-point (at.LookClosed l) p t fits within held = ((tt, tt), looked p.capacity l p.destination t _ held)
 reader-point (at.LookTailAgain l was_closed) p t fits within held =
     let u = record t { looks = seen.Tail (length p.unread) ∷ t.looks } in
-    steps p.capacity p.destination (reader_looked_again (length p.unread == 0) l was_closed) t u (Loaded Reader (seen.Tail (length p.unread)) ∷ []) (tt, tt) refl (again-leads p.capacity u p.destination (length p.unread == 0) was_closed l (looked p.capacity l p.destination t _ held))
+    steps p.capacity p.destination (reader_looked_again (length p.unread == 0) l was_closed) t u (Looked Reader (seen.Tail (length p.unread)) ∷ []) (tt, tt) refl (again-leads p.capacity u p.destination (length p.unread == 0) was_closed l (looked p.capacity l p.destination t _ held))
 reader-point (at.LookTake l) p t fits within held = steps p.capacity p.destination (reader_is_true l) t t [] tt refl (true-leads p.capacity t p.destination l held)
 reader-point at.Yield p t fits within held =
     let quiet = yield-leaves p.capacity t Reader p.reader_call.context in

@@ -10,7 +10,7 @@ use Rattle.piper_machine.specs.declared.calls.Call.TheVariants as call
 use Rattle.piper_protocol.specs.declared.answer.Answer.{Answer}
 use Rattle.piper_protocol.specs.declared.answer.Answer.TheVariants as answer
 use Rattle.piper_machine.specs.declared.events.Event.{Event}
-use Rattle.piper_machine.specs.declared.events.Event.TheVariants.{Loaded}
+use Rattle.piper_machine.specs.declared.events.Event.TheVariants.{Looked}
 use Rattle.piper_machine.specs.declared.events.Seen.{Seen}
 use Rattle.piper_machine.specs.declared.events.Seen.TheVariants as seen
 use Rattle.piper_protocol.specs.declared.answer.Polled.{Polled}
@@ -331,7 +331,7 @@ writer-point at.QueryClosed offered p t fits within noted =
     ((tt, answers p.capacity u Writer (call.IsClosed Writer) _ noted.0 (ap (λ (before : List Seen). seen.Closed p.is_closed ∷ before) noted.1)), tt)
 writer-point (at.LookClosed l) offered p t fits within noted =
     let u = record t { looks = seen.Closed p.is_closed ∷ t.looks } in
-    steps p.capacity p.source (λ answer. lent_after does.LoadClosed (at.LookClosed l) answer p.lent) (writer_is_open p.is_closed (p.room == 0) l) t u (Loaded Writer (seen.Closed p.is_closed) ∷ []) (tt, tt) refl (open-leads p.capacity u p.source (λ answer. lent_after does.LoadClosed (at.LookClosed l) answer p.lent) p.is_closed (p.room == 0) l (first-looked p.capacity l p.source t (seen.Closed p.is_closed) noted))
+    steps p.capacity p.source (λ answer. lent_after does.LoadClosed (at.LookClosed l) answer p.lent) (writer_is_open p.is_closed (p.room == 0) l) t u (Looked Writer (seen.Closed p.is_closed) ∷ []) (tt, tt) refl (open-leads p.capacity u p.source (λ answer. lent_after does.LoadClosed (at.LookClosed l) answer p.lent) p.is_closed (p.room == 0) l (first-looked p.capacity l p.source t (seen.Closed p.is_closed) noted))
 writer-point (at.LookHead l) offered p t fits within noted = ((tt, tt), looks-leads p.capacity _ p.source (λ answer. p.lent) (p.capacity - length p.unread == 0) l (looked p.capacity l p.source t _ noted))
 writer-point (at.LookRegister l) offered p t fits within noted =
     let quiet = registers-leaves p.capacity t Writer Writer p.writer_call.context in
@@ -351,7 +351,7 @@ writer-point (at.CallSource form sum) offered p t fits within noted =
 writer-point (at.RoundClosed n form sum) offered p t fits within noted =
     let u = record t { looks = seen.Closed p.is_closed ∷ t.looks } in
     let given : Fills found_open form p.source (take n p.lent) sum u = record { fill = noted.fill; is = noted.is; fills = noted.fills; count = noted.count; found = first-stays t.looks (seen.Closed p.is_closed) (seen.Closed false) noted.found } in
-    steps p.capacity p.source (λ answer. filled_out true answer p.lent) (writer_rounds p.is_closed n form sum) t u (Loaded Writer (seen.Closed p.is_closed) ∷ []) (tt, tt) refl (rounds-leads p.capacity u p.source (λ answer. filled_out true answer p.lent) p.is_closed n form sum t.looks refl given)
+    steps p.capacity p.source (λ answer. filled_out true answer p.lent) (writer_rounds p.is_closed n form sum) t u (Looked Writer (seen.Closed p.is_closed) ∷ []) (tt, tt) refl (rounds-leads p.capacity u p.source (λ answer. filled_out true answer p.lent) p.is_closed n form sum t.looks refl given)
 writer-point (at.StoreTail n next) offered p t fits within noted =
     let stored = stores p.capacity n next p.source p.lent t within noted in
     ((stored.0, tt), stored.1)

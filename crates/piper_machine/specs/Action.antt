@@ -8,7 +8,7 @@ use Rattle.piper_machine.specs.declared.polling.Context.{Context}
 use Rattle.piper_protocol.specs.declared.table.Action.{Action}
 use Rattle.piper_protocol.specs.declared.table.Action.TheVariants as does
 use Rattle.piper_machine.specs.declared.events.Event.{Event}
-use Rattle.piper_machine.specs.declared.events.Event.TheVariants.{Loaded, Published, Consumed, Closed, Registered, Woken}
+use Rattle.piper_machine.specs.declared.events.Event.TheVariants.{Looked, Published, Consumed, Closed, Registered, Woken}
 use Rattle.piper_machine.specs.declared.events.Seen.TheVariants as seen
 use Rattle.piper_protocol.specs.declared.table.TheConstants.{MOST_A_ROUND}
 use Rattle.piper_machine.specs.Open.{is_granted, is_yield_granted}
@@ -121,8 +121,8 @@ registration_of side None = []
 registration_of side (Some cx) = registration side cx.luck.register_granted cx.waker
 
 abbrev pub index_event : Side → ℕ → Event
-index_event Reader count = Loaded Reader (seen.Tail count)
-index_event Writer count = Loaded Writer (seen.Head count)
+index_event Reader count = Looked Reader (seen.Tail count)
+index_event Writer count = Looked Writer (seen.Head count)
 
 abbrev pub wake_of : Option ℕ → List Event
 wake_of None = []
@@ -138,10 +138,10 @@ yield_of (Some cx) = woken_if cx.luck.yield_granted cx.waker
 
 abbrev pub logged_of : Side → Action → Pipe → List Event
 logged_of side does.Rest p = []
-logged_of side does.LoadHead p = Loaded side (seen.Head (length p.unread)) ∷ []
-logged_of side does.LoadTail p = Loaded side (seen.Tail (length p.unread)) ∷ []
+logged_of side does.LoadHead p = Looked side (seen.Head (length p.unread)) ∷ []
+logged_of side does.LoadTail p = Looked side (seen.Tail (length p.unread)) ∷ []
 logged_of side does.LoadIndex p = index_event side (length p.unread) ∷ []
-logged_of side does.LoadClosed p = Loaded side (seen.Closed p.is_closed) ∷ []
+logged_of side does.LoadClosed p = Looked side (seen.Closed p.is_closed) ∷ []
 logged_of side does.Register p = registration_of side (call_of side p).context
 logged_of side (does.StoreHead n) p = Consumed (take n p.unread) ∷ []
 logged_of side (does.StoreTail n) p = Published (take n p.lent) ∷ []

@@ -4,15 +4,15 @@ use Rattle.std.specs.Prelude.{List, [], ◌∷◌, Bool, false}
 use Rattle.piper_protocol.specs.declared.table.Side.{Side}
 use Rattle.piper_protocol.specs.declared.table.Side.TheVariants.{Reader, Writer}
 use Rattle.piper_machine.specs.declared.events.Event.{Event}
-use Rattle.piper_machine.specs.declared.events.Event.TheVariants.{Began, Loaded}
+use Rattle.piper_machine.specs.declared.events.Event.TheVariants.{Began, Looked}
 use Rattle.piper_machine.specs.declared.events.Seen.TheVariants.{Tail, Closed}
 
 -- whether a side's last call checked closed and found it
 abbrev pub saw_closed_after : Side → Bool → Event → Bool
 saw_closed_after Reader saw (Began Reader kind waker) = false
 saw_closed_after Writer saw (Began Writer kind waker) = false
-saw_closed_after Reader saw (Loaded Reader (Closed is_closed)) = is_closed
-saw_closed_after Writer saw (Loaded Writer (Closed is_closed)) = is_closed
+saw_closed_after Reader saw (Looked Reader (Closed is_closed)) = is_closed
+saw_closed_after Writer saw (Looked Writer (Closed is_closed)) = is_closed
 saw_closed_after side saw event = saw
 
 -- over a list of events
@@ -25,4 +25,4 @@ saw_closed side events = saw_closed_from side false events
 
 -- the reader finds no byte
 abbrev pub found_none : Event
-found_none = Loaded Reader (Tail 0)
+found_none = Looked Reader (Tail 0)

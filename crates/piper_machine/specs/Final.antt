@@ -2,7 +2,7 @@
 use Rattle.std.specs.Prelude.{◌≡◌, ◌⊎◌, List, [], ◌∷◌, ◌++◌, All, true, false, Ok, ⊤}
 use Rattle.piper_protocol.specs.declared.table.Side.TheVariants.{Reader}
 use Rattle.piper_machine.specs.declared.events.Event.{Event}
-use Rattle.piper_machine.specs.declared.events.Event.TheVariants.{Loaded, Published, Consumed, Answered}
+use Rattle.piper_machine.specs.declared.events.Event.TheVariants.{Looked, Published, Consumed, Answered}
 use Rattle.piper_machine.specs.declared.events.Seen.TheVariants.{Head, Tail, Closed}
 use Rattle.piper_protocol.specs.declared.answer.Answer.{Answer}
 use Rattle.piper_protocol.specs.declared.answer.Answer.TheVariants.{Count, Poll, Copy}
@@ -26,9 +26,9 @@ IsEndAnswer answer = ⊤
 abbrev pub IsAfterEnd : Event → Type 0
 IsAfterEnd (Published bytes) = (bytes ≡ [])
 IsAfterEnd (Consumed bytes) = (bytes ≡ [])
-IsAfterEnd (Loaded side (Head unread)) = (unread ≡ 0)
-IsAfterEnd (Loaded side (Tail unread)) = (unread ≡ 0)
-IsAfterEnd (Loaded side (Closed is_closed)) = (is_closed ≡ true)
+IsAfterEnd (Looked side (Head unread)) = (unread ≡ 0)
+IsAfterEnd (Looked side (Tail unread)) = (unread ≡ 0)
+IsAfterEnd (Looked side (Closed is_closed)) = (is_closed ≡ true)
 IsAfterEnd (Answered Reader answer) = IsEndAnswer answer
 IsAfterEnd event = ⊤
 

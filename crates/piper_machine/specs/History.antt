@@ -2,7 +2,7 @@
 use Rattle.std.specs.Prelude.{ℕ, List, [], ◌∷◌, Bool, true, false, Option, None, Some}
 use Rattle.piper_protocol.specs.declared.table.Side.TheVariants.{Reader}
 use Rattle.piper_machine.specs.declared.events.Event.{Event}
-use Rattle.piper_machine.specs.declared.events.Event.TheVariants.{Began, Loaded, Closed}
+use Rattle.piper_machine.specs.declared.events.Event.TheVariants.{Began, Looked, Closed}
 use Rattle.piper_machine.specs.declared.events.Seen.TheVariants.{Tail}
 
 -- a load of the tail by the reader
@@ -24,7 +24,7 @@ unwritten = record { is_closed = false; last_look = None }
 abbrev pub history_after : History → Event → History
 history_after h (Closed side) = record h { is_closed = true }
 history_after h (Began Reader kind waker) = record h { last_look = None }
-history_after h (Loaded Reader (Tail count)) =
+history_after h (Looked Reader (Tail count)) =
     record h { last_look = Some (record { count = count; is_after_close = h.is_closed }) }
 history_after h event = h
 

@@ -6,7 +6,7 @@ use Rattle.piper_protocol.specs.declared.table.Side.TheVariants.{Reader, Writer}
 use Rattle.piper_machine.specs.declared.calls.Kind.{Kind}
 use Rattle.piper_machine.specs.declared.calls.Kind.TheVariants as kind
 use Rattle.piper_machine.specs.declared.events.Event.{Event}
-use Rattle.piper_machine.specs.declared.events.Event.TheVariants.{Began, Loaded, Published, Consumed}
+use Rattle.piper_machine.specs.declared.events.Event.TheVariants.{Began, Looked, Published, Consumed}
 use Rattle.piper_machine.specs.declared.events.Seen.TheVariants.{Head, Tail}
 use Rattle.piper_machine.specs.Pipe.{Pipe}
 
@@ -37,10 +37,10 @@ used_up n k = record k { known = k.known - n }
 -- of a side of a pipe of this capacity
 abbrev pub knowledge_after : ℕ → Side → Knowledge → Event → Knowledge
 knowledge_after capacity Reader k (Began Reader kind waker) = opened_with kind k
-knowledge_after capacity Reader k (Loaded Reader (Tail unread)) = taken_in k.is_query unread k
+knowledge_after capacity Reader k (Looked Reader (Tail unread)) = taken_in k.is_query unread k
 knowledge_after capacity Reader k (Consumed bytes) = used_up (length bytes) k
 knowledge_after capacity Writer k (Began Writer kind waker) = opened_with kind k
-knowledge_after capacity Writer k (Loaded Writer (Head unread)) =
+knowledge_after capacity Writer k (Looked Writer (Head unread)) =
     taken_in k.is_query (capacity - unread) k
 knowledge_after capacity Writer k (Published bytes) = used_up (length bytes) k
 knowledge_after capacity side k event = k

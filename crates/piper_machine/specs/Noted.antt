@@ -8,7 +8,7 @@ use Rattle.piper_machine.specs.declared.calls.Step.{Step}
 use Rattle.piper_machine.specs.declared.calls.Step.TheVariants.{Begin}
 use Rattle.piper_machine.specs.declared.events.Seen.{Seen}
 use Rattle.piper_machine.specs.declared.events.Event.{Event}
-use Rattle.piper_machine.specs.declared.events.Event.TheVariants.{Began, Loaded, Published, Consumed, Answered}
+use Rattle.piper_machine.specs.declared.events.Event.TheVariants.{Began, Looked, Published, Consumed, Answered}
 use Rattle.piper_machine.specs.Call.{side_of}
 use Rattle.piper_machine.specs.Counts.{is_same}
 
@@ -46,8 +46,8 @@ noted_next (c ∷ cs) = record { coming = cs; call = Some c; looks = []; moved =
 abbrev pub noted_after : Side → Noted → Event → Noted
 noted_after Reader t (Began Reader kind waker) = noted_next t.coming
 noted_after Writer t (Began Writer kind waker) = noted_next t.coming
-noted_after Reader t (Loaded Reader what) = record t { looks = what ∷ t.looks }
-noted_after Writer t (Loaded Writer what) = record t { looks = what ∷ t.looks }
+noted_after Reader t (Looked Reader what) = record t { looks = what ∷ t.looks }
+noted_after Writer t (Looked Writer what) = record t { looks = what ∷ t.looks }
 noted_after Reader t (Consumed bytes) = record t { moved = t.moved ++ bytes }
 noted_after Writer t (Published bytes) = record t { moved = t.moved ++ bytes }
 noted_after Reader t (Answered Reader answer) = record t { call = None }

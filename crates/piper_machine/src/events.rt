@@ -26,7 +26,7 @@ pub enum Seen {
 pub enum Event {
     /// A call was opened, with the waker handed to it.
     Began(Side, Kind, Option<u32>),
-    Loaded(Side, Seen),
+    Looked(Side, Seen),
     Published(Bytes),
     Consumed(Bytes),
     Closed(Side),
@@ -71,6 +71,8 @@ impl Log {
     }
 
     /// Adds the events of one step, for which room was made before.
+    ///
+    /// Requires: room was made for two events.
     pub fn add(&mut self, first: Option<Event>, second: Option<Event>)
         requires { HasRoom self.old }
         ensures { events self.new ≡ events self.old ++ (listed first ++ listed second) }

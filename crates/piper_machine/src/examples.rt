@@ -27,7 +27,7 @@ use crate::calls::Step;
 use crate::events::Log;
 use crate::machine::{Machine, run};
 use crate::refusals::RunRefusal;
-use piper_protocol::table::{ReadPoint, Side};
+use piper_protocol::table::ReadPoint;
 use std::alloc::Global;
 
 /// The bytes go in, and come out as they went in.
@@ -77,5 +77,5 @@ pub fn len_alone(machine: &mut Machine) -> usize
         Runs machine.old before (Begin (call.Query Reader Len) ∷ replicate k (Go Reader)) q after →
         IsOutside Reader q → IsReportedLast (Count result) before after }
 {
-    machine.len(Side::Reader)
+    machine.r_len()
 }

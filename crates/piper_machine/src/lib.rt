@@ -10,16 +10,20 @@ pub mod refusals;
 pub mod scripted;
 
 // The two sides: what each knows, and its open call.
-pub mod read_state;
+pub mod index;
+mod read_state;
 pub mod slot;
-pub mod woken;
-pub mod write_state;
+mod woken;
+mod write_state;
 
 // The pipe with both.
 pub mod destination;
-pub mod examples;
 pub mod machine;
 mod source;
 
+// Callers of it.
+pub mod examples;
+
+pub use piper_protocol::answer::{Answer, Failed, Polled};
 pub use piper_protocol::memory::OutOfMemory;
-pub use piper_protocol::{answer, table};
+pub use piper_protocol::table::{Query, Side};

@@ -84,6 +84,8 @@ fn joined(alloc: Global, first: &[u8], rest: &[u8]) -> Result<Vec<u8>, OutOfMemo
 
 impl Machine {
     /// An empty pipe of `cap` bytes.
+    ///
+    /// Requires: `cap` is at least 1 and less than 2^63.
     pub fn new(alloc: Global, cap: usize) -> Result<Self, OutOfMemory>
         requires { IsCapacity cap }
         ensures fresh { IfOk result (λ machine. machine ≡ fresh cap) }

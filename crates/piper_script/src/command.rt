@@ -1,7 +1,7 @@
 //! What a line of a script says.
 
+use piper_machine::Side;
 use piper_machine::calls::{Call, Step};
-use piper_machine::table::Side;
 use std::fmt;
 
 /// The most that a number of a script may be, and the most bytes that the lists of one line hold.

@@ -1,8 +1,8 @@
 //! How the events of a step are printed.
 
 use crate::reply::Reply;
+use piper_machine::Side;
 use piper_machine::events::{Event, Seen};
-use piper_machine::table::Side;
 use std::alloc::AllocError;
 use std::fmt::Write;
 
@@ -10,7 +10,7 @@ use std::fmt::Write;
 fn side_of(event: &Event) -> Option<Side> {
     match event {
         Event::Began(side, _, _)
-        | Event::Loaded(side, _)
+        | Event::Looked(side, _)
         | Event::Closed(side)
         | Event::Registered(side, _)
         | Event::Answered(side, _) => Some(*side),
@@ -49,9 +49,9 @@ impl Reply {
     fn write_event(&mut self, event: &Event) -> Result<(), AllocError> {
         match event {
             Event::Began(_, _, _) => self.write("began"),
-            Event::Loaded(_, Seen::Head(count)) => write!(self.text, "head={count}"),
-            Event::Loaded(_, Seen::Tail(count)) => write!(self.text, "tail={count}"),
-            Event::Loaded(_, Seen::Closed(flag)) => write!(self.text, "closed={flag}"),
+            Event::Looked(_, Seen::Head(count)) => write!(self.text, "head={count}"),
+            Event::Looked(_, Seen::Tail(count)) => write!(self.text, "tail={count}"),
+            Event::Looked(_, Seen::Closed(flag)) => write!(self.text, "closed={flag}"),
             Event::Published(bytes) => {
                 self.write("published=")?;
                 self.write_list(bytes.as_slice())

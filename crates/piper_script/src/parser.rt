@@ -10,7 +10,7 @@ use crate::number::{both, byte, name, number};
 use crate::stop::Stop;
 use piper_machine::calls::{Call, Step};
 use piper_machine::polling::Luck;
-use piper_machine::table::{Query, Side};
+use piper_machine::{Query, Side};
 use std::alloc::Global;
 use std::str;
 

@@ -10,7 +10,7 @@ use crate::reply::Reply;
 use crate::steps::make_steps;
 use crate::stop::Stop;
 use crate::whole::{answer, drained, room_for};
-use piper_machine::answer::Answer;
+use piper_machine::Answer;
 use piper_machine::calls::{Call, Step};
 use piper_machine::events::Log;
 use piper_machine::machine::Machine;

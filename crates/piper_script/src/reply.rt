@@ -3,7 +3,7 @@
 ghost use Rattle.std.specs.Prelude.{◌≡◌};
 
 use itoa::{Buffer, Integer};
-use piper_machine::answer::{Answer, Failed, Polled};
+use piper_machine::{Answer, Failed, Polled};
 use std::alloc::{AllocError, Global};
 use std::fmt::{Display, Write};
 use std::marker::Model;

@@ -2,15 +2,16 @@
 
 ghost use Rattle.std.specs.Prelude.{◌≡◌, OnOk, OnErr, IfErr};
 ghost use Rattle.piper_machine.specs.Log.{events};
+ghost use Rattle.piper_machine.specs.Refusal.{state_of};
 ghost use Rattle.piper_machine.specs.Run.{Made, IsRefusal};
 ghost use Rattle.piper_script.specs.Steps.{Goes, GoesAs, GoesBefore, GoesFewer};
 
 use crate::command::Steps;
+use piper_machine::Side;
 use piper_machine::calls::{SideState, Step};
 use piper_machine::events::Log;
 use piper_machine::machine::Machine;
 use piper_machine::refusals::StepRefusal;
-use piper_machine::table::Side;
 
 /// Makes so many steps of the side. Those before a refused one are made.
 pub fn make_steps(
@@ -72,10 +73,20 @@ fn make_to_answer(machine: &mut Machine, side: Side, log: &mut Log) -> Result<()
 {
     for _ in 0..u64::MAX {
         go(machine, side, log)?;
-        if machine.state(side) != SideState::Busy {
+        if state(machine, side) != SideState::Busy {
             return Ok(());
         }
     }
     // No call makes as many steps, and no memory has room for their log.
     Err(StepRefusal::Memory)
+}
+
+// What the side is about.
+fn state(machine: &Machine, side: Side) -> SideState
+    ensures { result ≡ state_of side machine.now }
+{
+    match side {
+        Side::Reader => machine.r_state(),
+        Side::Writer => machine.w_state(),
+    }
 }

@@ -2,11 +2,10 @@
 
 use crate::reply::Reply;
 use crate::stop::Stop;
-use piper_machine::answer::Answer;
 use piper_machine::calls::{SideState, Step};
 use piper_machine::events::{Event, Log};
 use piper_machine::machine::Machine;
-use piper_machine::table::Side;
+use piper_machine::{Answer, Side};
 use std::alloc::{AllocError, Global};
 use std::fmt::Write;
 
@@ -80,8 +79,8 @@ impl Trial {
 
     // The step that comes next if no order says another one.
     fn choice(&self, first: Side) -> Option<Move> {
-        let is_reading = self.machine.state(Side::Reader) == SideState::Busy;
-        let is_writing = self.machine.state(Side::Writer) == SideState::Busy;
+        let is_reading = self.machine.r_state() == SideState::Busy;
+        let is_writing = self.machine.w_state() == SideState::Busy;
         match (is_reading, is_writing) {
             (false, false) => None,
             (true, false) => Some(alone(Side::Reader)),

@@ -2,12 +2,12 @@
 
 ghost use Rattle.std.specs.Prelude.{◌≡◌, ◌++◌, length, take, drop};
 ghost use Rattle.piper_machine.specs.BySteps.{unfailing};
+ghost use Rattle.piper_machine.specs.Refusal.{IsIdle};
 ghost use Rattle.piper_script.specs.Whole.{IsReady, IsSilent, Makes, drained_by, room_for};
 
-use piper_machine::answer::{Answer, Failed, Polled};
 use piper_machine::calls::Call;
 use piper_machine::machine::Machine;
-use piper_machine::table::Query;
+use piper_machine::{Answer, Failed, Polled, Query, Side};
 
 /// How many places the bytes need that the call moves out of the pipe.
 pub fn room_for(call: &Call) -> usize
@@ -49,11 +49,12 @@ pub fn answer(machine: &mut Machine, call: &Call, dest: &mut [u8]) -> Answer
         dest.new ≡ take n machine.old.unread ++ drop n dest.old }
 {
     match call {
-        Call::Query(side, Query::Len) => Answer::Count(machine.len(*side)),
-        Call::Query(side, Query::IsEmpty) => Answer::Flag(machine.is_empty(*side)),
-        Call::Query(side, Query::IsFull) => Answer::Flag(machine.is_full(*side)),
-        Call::IsClosed(side) => Answer::Flag(machine.is_closed(*side)),
-        Call::Poll(side, waker, luck) => Answer::Poll(machine.poll(*side, *waker, *luck)),
+        Call::Query(Side::Reader, query) => r_query(machine, *query),
+        Call::Query(Side::Writer, query) => w_query(machine, *query),
+        Call::IsClosed(Side::Reader) => Answer::Flag(machine.r_is_closed()),
+        Call::IsClosed(Side::Writer) => Answer::Flag(machine.w_is_closed()),
+        Call::Poll(Side::Reader, waker, luck) => Answer::Poll(machine.r_poll(*waker, *luck)),
+        Call::Poll(Side::Writer, waker, luck) => Answer::Poll(machine.w_poll(*waker, *luck)),
         Call::WriteBuf(most) => Answer::Lent(machine.w_write_buf(*most)),
         Call::TryFill(bytes) => Answer::Count(machine.w_try_fill(bytes.as_slice())),
         Call::TryDrain(_) => Answer::Count(machine.r_try_drain(dest)),
@@ -77,6 +78,30 @@ pub fn answer(machine: &mut Machine, call: &Call, dest: &mut [u8]) -> Answer
     }
 }
 
+// What a query of the reader returns.
+fn r_query(machine: &mut Machine, query: Query) -> Answer
+    requires { IsIdle Side.Reader machine.old }
+    ensures { Makes (Call.Query Side.Reader query) machine.old result machine.new }
+{
+    match query {
+        Query::Len => Answer::Count(machine.r_len()),
+        Query::IsEmpty => Answer::Flag(machine.r_is_empty()),
+        Query::IsFull => Answer::Flag(machine.r_is_full()),
+    }
+}
+
+// What a query of the writer returns.
+fn w_query(machine: &mut Machine, query: Query) -> Answer
+    requires { IsIdle Side.Writer machine.old }
+    ensures { Makes (Call.Query Side.Writer query) machine.old result machine.new }
+{
+    match query {
+        Query::Len => Answer::Count(machine.w_len()),
+        Query::IsEmpty => Answer::Flag(machine.w_is_empty()),
+        Query::IsFull => Answer::Flag(machine.w_is_full()),
+    }
+}
+
 // Makes a call that has nothing to answer.
 fn make(machine: &mut Machine, call: &Call)
     requires { IsReady call.now machine.old }
@@ -86,7 +111,8 @@ fn make(machine: &mut Machine, call: &Call)
         Call::Consume(n) => machine.r_consume(*n),
         Call::Produced(n) => machine.w_produced(*n),
         Call::Close => machine.w_close(),
-        Call::Drop(side) => machine.drop(*side),
+        Call::Drop(Side::Reader) => machine.r_drop(),
+        Call::Drop(Side::Writer) => machine.w_drop(),
         _ => {}
     }
 }

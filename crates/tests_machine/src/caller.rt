@@ -2,7 +2,7 @@
 use crate::compare::same;
 use piper_machine::calls::{Call, SideState, Step};
 use piper_machine::examples::{len_alone, made_by_the_laws, through};
-use piper_machine::table::{Query, Side};
+use piper_machine::{Query, Side};
 use std::test::Fail;
 
 #[test]
@@ -28,7 +28,7 @@ fn steps_of_both_sides_are_made(rt: HostRuntime) -> Result<(), Fail> {
         return Ok(());
     };
     same(&rt, log.events().len(), 8);
-    assert!(rt; machine.state(Side::Reader) == SideState::Idle);
+    assert!(rt; machine.r_state() == SideState::Idle);
     same(&rt, len_alone(&mut machine), 2);
     Ok(())
 }

@@ -113,16 +113,12 @@ impl Run {
     /// again.
     fn made_at_last(&mut self, rt: &impl Abort, step: &Step) {
         let logged = self.log.events().len();
-        let states = (self.pipe.state(Side::Reader), self.pipe.state(Side::Writer));
+        let states = (self.pipe.r_state(), self.pipe.w_state());
         let shown = (self.pipe.r_peek().len(), self.pipe.w_lent().len());
         if let Err(refusal) = self.pipe.step(step, &mut self.log) {
             same(rt, refusal, StepRefusal::Memory);
             same(rt, self.log.events().len(), logged);
-            same(
-                rt,
-                (self.pipe.state(Side::Reader), self.pipe.state(Side::Writer)),
-                states,
-            );
+            same(rt, (self.pipe.r_state(), self.pipe.w_state()), states);
             same(
                 rt,
                 (self.pipe.r_peek().len(), self.pipe.w_lent().len()),
@@ -173,4 +169,16 @@ fn a_step_refused_for_want_of_memory_can_be_made_again(rt: HostRuntime) {
         run.made_at_last(&rt, step);
     }
     run.has_consumed(&rt);
+}
+
+#[test]
+fn a_lent_place_is_written_and_published(rt: HostRuntime) {
+    let mut pipe = pipe_of(&rt, rt.alloc(), 4);
+    let lent = pipe.w_write_buf(1);
+    same(&rt, lent, 1);
+    if lent == 1 {
+        pipe.w_put(0, 7);
+        pipe.w_produced(1);
+    }
+    holds(&rt, &pipe, &[7]);
 }

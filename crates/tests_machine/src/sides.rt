@@ -2,6 +2,7 @@
 use crate::compare::same;
 use piper_machine::bytes::Bytes;
 use piper_machine::events::{Event, Log, answered};
+use piper_machine::index::{advance, distance, real, room};
 use piper_protocol::answer::Answer;
 use piper_protocol::memory::OutOfMemory;
 use piper_protocol::table::Side;
@@ -39,4 +40,12 @@ fn a_log_keeps_the_events_of_a_step(rt: HostRuntime) -> Result<(), Fail> {
         )
     );
     Ok(())
+}
+
+#[test]
+fn indices_go_round_twice(rt: HostRuntime) {
+    same(&rt, advance(8, 14, 5), 3);
+    same(&rt, distance(8, 14, 3), 5);
+    same(&rt, room(8, 14, 3), 3);
+    same(&rt, real(8, 14), 6);
 }

@@ -8,7 +8,7 @@ use Rattle.piper_machine.specs.declared.calls.SideState.TheVariants as state
 use Rattle.piper_machine.specs.declared.refusals.StepRefusal.TheVariants as refusal
 use Rattle.piper_machine.specs.declared.calls.Step.TheVariants as step
 use Rattle.piper_protocol.specs.declared.answer.Answer.TheVariants as answer
-use Rattle.piper_machine.specs.declared.events.Event.TheVariants.{Began, Consumed, Woken, Answered, Loaded}
+use Rattle.piper_machine.specs.declared.events.Event.TheVariants.{Began, Consumed, Woken, Answered, Looked}
 use Rattle.piper_machine.specs.declared.events.Seen.TheVariants as seen
 use Rattle.piper_protocol.specs.declared.answer.Polled.TheVariants as polled
 use Rattle.piper_machine.specs.Pipe.{Pipe, fresh}
@@ -29,7 +29,7 @@ by_steps k c = gone (step.Begin c ∷ replicate k (step.Go Reader)) full
 -- the drain wakes the writer in its one round, and its second call of the destination takes nothing
 drain_by_steps :
     (by_steps 6 (call.TryDrain 3)).events
-    ≡ (Began Reader kind.TryDrain None ∷ Loaded Reader (seen.Tail 4) ∷ Consumed (1 to 3) ∷ Woken 2 ∷ Answered Reader (answer.Count 3) ∷ [])
+    ≡ (Began Reader kind.TryDrain None ∷ Looked Reader (seen.Tail 4) ∷ Consumed (1 to 3) ∷ Woken 2 ∷ Answered Reader (answer.Count 3) ∷ [])
 drain_by_steps = refl
 
 drain_whole :

@@ -7,7 +7,7 @@ use Rattle.piper_machine.specs.declared.calls.Kind.TheVariants as kind
 use Rattle.piper_machine.specs.declared.calls.Step.{Step}
 use Rattle.piper_machine.specs.declared.calls.Step.TheVariants.{Begin, Go}
 use Rattle.piper_machine.specs.declared.events.Event.{Event}
-use Rattle.piper_machine.specs.declared.events.Event.TheVariants.{Began, Loaded, Closed, Registered, Woken, Answered}
+use Rattle.piper_machine.specs.declared.events.Event.TheVariants.{Began, Looked, Closed, Registered, Woken, Answered}
 use Rattle.piper_machine.specs.declared.events.Seen.TheVariants as seen
 use Rattle.piper_protocol.specs.declared.answer.Answer.TheVariants as answer
 use Rattle.piper_protocol.specs.declared.answer.Polled.TheVariants as polled
@@ -30,9 +30,9 @@ told_the_end = Answered Reader (answer.Poll (polled.Ready false))
 
 abbrev logged_up_to_the_end : List Event
 logged_up_to_the_end =
-    Began Reader kind.Poll (Some 1) ∷ Loaded Reader (seen.Tail 0) ∷ Registered Reader 1
+    Began Reader kind.Poll (Some 1) ∷ Looked Reader (seen.Tail 0) ∷ Registered Reader 1
     ∷ Began Writer kind.Drop None ∷ Closed Writer ∷ Woken 1 ∷ Answered Writer answer.Done
-    ∷ Loaded Reader (seen.Closed true) ∷ Loaded Reader (seen.Tail 0) ∷ []
+    ∷ Looked Reader (seen.Closed true) ∷ Looked Reader (seen.Tail 0) ∷ []
 
 told_after_the_last_look :
     ((gone dropped_while_it_looks (fresh 4)).events ≡ logged_up_to_the_end ++ told_the_end ∷ [])
@@ -42,13 +42,13 @@ told_after_the_last_look = (refl, refl)
 -- After each of these the poll may not return false to the reader: the close came after the look, a
 -- byte was found, or the call has not looked yet.
 abbrev first_look : List Event
-first_look = Began Reader kind.Poll (Some 1) ∷ Loaded Reader (seen.Tail 0) ∷ Closed Writer ∷ []
+first_look = Began Reader kind.Poll (Some 1) ∷ Looked Reader (seen.Tail 0) ∷ Closed Writer ∷ []
 
 abbrev a_byte_left : List Event
-a_byte_left = Closed Writer ∷ Began Reader kind.Poll (Some 1) ∷ Loaded Reader (seen.Tail 1) ∷ []
+a_byte_left = Closed Writer ∷ Began Reader kind.Poll (Some 1) ∷ Looked Reader (seen.Tail 1) ∷ []
 
 abbrev no_look : List Event
-no_look = Began Reader kind.Poll (Some 1) ∷ Loaded Reader (seen.Tail 0) ∷ Closed Writer ∷ Began Reader kind.Poll (Some 2) ∷ []
+no_look = Began Reader kind.Poll (Some 1) ∷ Looked Reader (seen.Tail 0) ∷ Closed Writer ∷ Began Reader kind.Poll (Some 2) ∷ []
 
 other_last_looks :
     ((history_from unwritten first_look).last_look ≡ Some (record { count = 0; is_after_close = false }))

@@ -7,7 +7,7 @@ use Rattle.piper_machine.specs.declared.calls.Kind.TheVariants as kind
 use Rattle.piper_machine.specs.declared.calls.Step.{Step}
 use Rattle.piper_machine.specs.declared.calls.Step.TheVariants.{Begin, Go}
 use Rattle.piper_machine.specs.declared.events.Event.{Event}
-use Rattle.piper_machine.specs.declared.events.Event.TheVariants.{Began, Loaded, Consumed, Answered}
+use Rattle.piper_machine.specs.declared.events.Event.TheVariants.{Began, Looked, Consumed, Answered}
 use Rattle.piper_machine.specs.declared.events.Seen.TheVariants.{Tail}
 use Rattle.piper_protocol.specs.declared.answer.Answer.TheVariants.{Count}
 use Rattle.piper_machine.specs.Pipe.{Pipe, fresh}
@@ -69,7 +69,7 @@ abbrev one_drained : List Step
 one_drained = Begin (call.TryDrain 9) ∷ Go Reader ∷ Go Reader ∷ Go Reader ∷ Go Reader ∷ Go Reader ∷ []
 
 abbrev one_logged : List Event
-one_logged = Began Reader kind.TryDrain None ∷ Loaded Reader (Tail 1) ∷ Consumed (5 ∷ []) ∷ Answered Reader (Count 1) ∷ []
+one_logged = Began Reader kind.TryDrain None ∷ Looked Reader (Tail 1) ∷ Consumed (5 ∷ []) ∷ Answered Reader (Count 1) ∷ []
 
 abbrev drain_opened : Pipe
 drain_opened = (stepped [] (Begin (call.TryDrain 9)) one_unread).pipe

@@ -9,7 +9,7 @@ use Rattle.piper_machine.specs.declared.calls.Kind.TheVariants as kind
 use Rattle.piper_machine.specs.declared.calls.Step.{Step}
 use Rattle.piper_machine.specs.declared.calls.Step.TheVariants as step
 use Rattle.piper_machine.specs.declared.events.Event.{Event}
-use Rattle.piper_machine.specs.declared.events.Event.TheVariants.{Began, Loaded, Published, Consumed, Closed, Registered, Woken, Answered}
+use Rattle.piper_machine.specs.declared.events.Event.TheVariants.{Began, Looked, Published, Consumed, Closed, Registered, Woken, Answered}
 use Rattle.piper_machine.specs.declared.events.Seen.TheVariants as seen
 use Rattle.piper_protocol.specs.declared.answer.Answer.TheVariants as answer
 use Rattle.piper_protocol.specs.declared.answer.Polled.TheVariants as polled
@@ -28,10 +28,10 @@ a_byte_before_the_end :
     prints (fresh 4)
     (Begin (call.Poll Reader 1 (by 1).luck) ∷ Go Reader 2 ∷ Whole (Fill (9 ∷ [])) ∷ Whole (Drop Writer) ∷ GoEnd Reader ∷ [])
     ≡ (Logs (Began Reader kind.Poll (Some 1) ∷ [])
-    ∷ Logs (Loaded Reader (seen.Tail 0) ∷ Registered Reader 1 ∷ [])
+    ∷ Logs (Looked Reader (seen.Tail 0) ∷ Registered Reader 1 ∷ [])
     ∷ Says (Count 1 woken (1 ∷ []))
     ∷ Says Done
-    ∷ Logs (Loaded Reader (seen.Closed true) ∷ Loaded Reader (seen.Tail 1) ∷ Answered Reader (answer.Poll (polled.Ready true)) ∷ []) ∷ [])
+    ∷ Logs (Looked Reader (seen.Closed true) ∷ Looked Reader (seen.Tail 1) ∷ Answered Reader (answer.Poll (polled.Ready true)) ∷ []) ∷ [])
 a_byte_before_the_end = refl
 
 -- The reader found nothing, and registers only after the writer has filled the pipe and waits
@@ -42,11 +42,11 @@ both_wait_at_a_close :
     ∷ Whole (Poll Writer (by 2)) ∷ Go Reader 1 ∷ Whole Close ∷ GoEnd Reader ∷ [])
     ≡ (Says (Count 1) ∷ Says (Bytes 1 (5 ∷ []))
     ∷ Logs (Began Reader kind.Poll (Some 1) ∷ [])
-    ∷ Logs (Loaded Reader (seen.Tail 0) ∷ [])
+    ∷ Logs (Looked Reader (seen.Tail 0) ∷ [])
     ∷ Says (Count 1) ∷ Says Pending
     ∷ Logs (Registered Reader 1 ∷ [])
     ∷ Says (Done woken (1 ∷ 2 ∷ []))
-    ∷ Logs (Loaded Reader (seen.Closed true) ∷ Loaded Reader (seen.Tail 1) ∷ Answered Reader (answer.Poll (polled.Ready true)) ∷ []) ∷ [])
+    ∷ Logs (Looked Reader (seen.Closed true) ∷ Looked Reader (seen.Tail 1) ∷ Answered Reader (answer.Poll (polled.Ready true)) ∷ []) ∷ [])
 both_wait_at_a_close = refl
 
 -- a store of the same index, and the wake that comes with each
@@ -71,18 +71,18 @@ steps_of_a_close = refl
 count_of_the_reader :
     prints (fresh 4) (Begin (call.Query Reader Len) ∷ Go Reader 1 ∷ Whole (Fill (5 ∷ [])) ∷ Go Reader 1 ∷ [])
     ≡ (Logs (Began Reader (kind.Query Len) None ∷ [])
-    ∷ Logs (Loaded Reader (seen.Head 0) ∷ [])
+    ∷ Logs (Looked Reader (seen.Head 0) ∷ [])
     ∷ Says (Count 1)
-    ∷ Logs (Loaded Reader (seen.Tail 1) ∷ Answered Reader (answer.Count 1) ∷ []) ∷ [])
+    ∷ Logs (Looked Reader (seen.Tail 1) ∷ Answered Reader (answer.Count 1) ∷ []) ∷ [])
 count_of_the_reader = refl
 
 count_of_the_writer :
     prints (fresh 4) (Whole (Fill (5 ∷ [])) ∷ Begin (call.Query Writer Len) ∷ Go Writer 1 ∷ Whole (Drain 4) ∷ Go Writer 1 ∷ [])
     ≡ (Says (Count 1)
     ∷ Logs (Began Writer (kind.Query Len) None ∷ [])
-    ∷ Logs (Loaded Writer (seen.Head 1) ∷ [])
+    ∷ Logs (Looked Writer (seen.Head 1) ∷ [])
     ∷ Says (Bytes 1 (5 ∷ []))
-    ∷ Logs (Loaded Writer (seen.Tail 0) ∷ Answered Writer (answer.Count 1) ∷ []) ∷ [])
+    ∷ Logs (Looked Writer (seen.Tail 0) ∷ Answered Writer (answer.Count 1) ∷ []) ∷ [])
 count_of_the_writer = refl
 
 -- Steps alone, as a run makes them: a byte is lent, put and published.

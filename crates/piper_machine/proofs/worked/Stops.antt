@@ -4,7 +4,7 @@ use Rattle.std.specs.Prelude.{◌≡◌, List, [], ◌∷◌, ◌++◌, true, fa
 use Rattle.piper_protocol.specs.declared.table.Side.TheVariants.{Reader, Writer}
 use Rattle.piper_machine.specs.declared.calls.Kind.TheVariants as kind
 use Rattle.piper_machine.specs.declared.events.Event.{Event}
-use Rattle.piper_machine.specs.declared.events.Event.TheVariants.{Began, Loaded, Published, Closed}
+use Rattle.piper_machine.specs.declared.events.Event.TheVariants.{Began, Looked, Published, Closed}
 use Rattle.piper_machine.specs.declared.events.Seen.TheVariants as seen
 use Rattle.piper_machine.specs.End.{saw_closed}
 use Rattle.piper_machine.specs.StopsAtClose.{StopsAtClose}
@@ -12,8 +12,8 @@ use Rattle.piper_machine.specs.StopsAtClose.{StopsAtClose}
 -- what such a fill logs, up to its look after the round
 abbrev up_to_its_look : List Event
 up_to_its_look =
-    Began Writer kind.TryFill None ∷ Loaded Writer (seen.Closed false)
-    ∷ Began Reader kind.Drop None ∷ Closed Reader ∷ Loaded Writer (seen.Closed true) ∷ []
+    Began Writer kind.TryFill None ∷ Looked Writer (seen.Closed false)
+    ∷ Began Reader kind.Drop None ∷ Closed Reader ∷ Looked Writer (seen.Closed true) ∷ []
 
 its_last_look_found_it : saw_closed Writer up_to_its_look ≡ true
 its_last_look_found_it = refl
@@ -23,7 +23,7 @@ published_after_it stops = absurd (let never : true ≡ false = stops up_to_its_
 
 -- the close alone stops nobody who has not looked: what was lent before it can be published, and a
 -- new call looks afresh
-published_before_the_look : saw_closed Writer (Began Writer kind.TryFill None ∷ Loaded Writer (seen.Closed false) ∷ Closed Reader ∷ []) ≡ false
+published_before_the_look : saw_closed Writer (Began Writer kind.TryFill None ∷ Looked Writer (seen.Closed false) ∷ Closed Reader ∷ []) ≡ false
 published_before_the_look = refl
 
 forgotten_by_the_next : saw_closed Writer (up_to_its_look ++ Began Writer kind.Produced None ∷ []) ≡ false

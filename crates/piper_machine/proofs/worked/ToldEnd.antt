@@ -8,7 +8,7 @@ use Rattle.piper_machine.specs.declared.calls.Kind.TheVariants as kind
 use Rattle.piper_machine.specs.declared.calls.Step.{Step}
 use Rattle.piper_machine.specs.declared.calls.Step.TheVariants.{Begin, Go}
 use Rattle.piper_machine.specs.declared.events.Event.{Event}
-use Rattle.piper_machine.specs.declared.events.Event.TheVariants.{Began, Loaded, Published, Closed, Registered, Answered}
+use Rattle.piper_machine.specs.declared.events.Event.TheVariants.{Began, Looked, Published, Closed, Registered, Answered}
 use Rattle.piper_machine.specs.declared.events.Seen.TheVariants as seen
 use Rattle.piper_protocol.specs.declared.answer.Answer.TheVariants as answer
 use Rattle.piper_protocol.specs.declared.answer.Polled.TheVariants as polled
@@ -29,7 +29,7 @@ asked_twice =
 abbrev before_the_end : List Event
 before_the_end =
     Began Writer kind.WriteBuf None ∷ Answered Writer (answer.Lent 2) ∷ Began Writer kind.Close None ∷ Closed Writer ∷ Answered Writer answer.Done
-    ∷ Began Reader kind.Poll (Some 1) ∷ Loaded Reader (seen.Tail 0) ∷ Registered Reader 1 ∷ Loaded Reader (seen.Closed true) ∷ Loaded Reader (seen.Tail 0) ∷ []
+    ∷ Began Reader kind.Poll (Some 1) ∷ Looked Reader (seen.Tail 0) ∷ Registered Reader 1 ∷ Looked Reader (seen.Closed true) ∷ Looked Reader (seen.Tail 0) ∷ []
 
 abbrev after_the_end : List Event
 after_the_end = Began Writer kind.Produced None ∷ Published [] ∷ []
@@ -50,10 +50,10 @@ drained_to_the_end =
 abbrev before_it_is_found : List Event
 before_it_is_found =
     Began Writer kind.Close None ∷ Closed Writer ∷ Answered Writer answer.Done
-    ∷ Began Reader kind.TryDrain None ∷ Loaded Reader (seen.Tail 0) ∷ Loaded Reader (seen.Closed true) ∷ []
+    ∷ Began Reader kind.TryDrain None ∷ Looked Reader (seen.Tail 0) ∷ Looked Reader (seen.Closed true) ∷ []
 
 abbrev after_what_is_found : List Event
-after_what_is_found = Answered Reader (answer.Count 0) ∷ Began Writer (kind.Query Len) None ∷ Loaded Writer (seen.Head 0) ∷ []
+after_what_is_found = Answered Reader (answer.Count 0) ∷ Began Writer (kind.Query Len) None ∷ Looked Writer (seen.Head 0) ∷ []
 
 found_by_a_drain :
     ((gone drained_to_the_end (fresh 4)).events ≡ before_it_is_found ++ found_none ∷ after_what_is_found)
@@ -67,7 +67,7 @@ drained_over_the_drop = Begin (call.TryDrain 4) ∷ Go Reader ∷ Go Reader ∷ 
 
 abbrev before_its_last_look : List Event
 before_its_last_look =
-    Began Reader kind.TryDrain None ∷ Loaded Reader (seen.Tail 0) ∷ Loaded Reader (seen.Closed false)
+    Began Reader kind.TryDrain None ∷ Looked Reader (seen.Tail 0) ∷ Looked Reader (seen.Closed false)
     ∷ Began Writer kind.Drop None ∷ Closed Writer ∷ []
 
 zero_is_no_end :
@@ -109,5 +109,5 @@ waiting_drain_refused : IsAfterEnd (Answered Reader (answer.Copy polled.Pending)
 waiting_drain_refused (inl same) = absurd (cc)
 waiting_drain_refused (inr same) = absurd (cc)
 
-open_pipe_refused : IsAfterEnd (Loaded Reader (seen.Closed false)) → ⊥
+open_pipe_refused : IsAfterEnd (Looked Reader (seen.Closed false)) → ⊥
 open_pipe_refused same = absurd (cc)

@@ -9,7 +9,7 @@ use Rattle.piper_machine.specs.declared.calls.Kind.TheVariants as kind
 use Rattle.piper_machine.specs.declared.calls.Step.{Step}
 use Rattle.piper_machine.specs.declared.calls.Step.TheVariants.{Begin, Go}
 use Rattle.piper_machine.specs.declared.events.Event.{Event}
-use Rattle.piper_machine.specs.declared.events.Event.TheVariants.{Began, Loaded, Published, Consumed, Closed, Answered}
+use Rattle.piper_machine.specs.declared.events.Event.TheVariants.{Began, Looked, Published, Consumed, Closed, Answered}
 use Rattle.piper_machine.specs.declared.events.Seen.TheVariants as seen
 use Rattle.piper_protocol.specs.declared.answer.Answer.TheVariants as answer
 use Rattle.piper_protocol.specs.declared.answer.Polled.TheVariants as polled
@@ -40,7 +40,7 @@ dropped_after_the_look = Begin (call.TryFill (1 ∷ 2 ∷ [])) ∷ Go Writer ∷
 
 abbrev logged_of_the_published : List Event
 logged_of_the_published =
-    Began Writer kind.TryFill None ∷ Loaded Writer (seen.Closed false) ∷ Loaded Writer (seen.Closed false)
+    Began Writer kind.TryFill None ∷ Looked Writer (seen.Closed false) ∷ Looked Writer (seen.Closed false)
     ∷ Began Reader kind.Drop None ∷ Closed Reader ∷ Answered Reader answer.Done
     ∷ Published (1 ∷ 2 ∷ []) ∷ []
 
@@ -60,9 +60,9 @@ dropped_before_the_look = Begin (call.TryFill (1 ∷ 2 ∷ [])) ∷ Go Writer �
 
 abbrev logged_of_the_counted : List Event
 logged_of_the_counted =
-    Began Writer kind.TryFill None ∷ Loaded Writer (seen.Closed false)
+    Began Writer kind.TryFill None ∷ Looked Writer (seen.Closed false)
     ∷ Began Reader kind.Drop None ∷ Closed Reader ∷ Answered Reader answer.Done
-    ∷ Loaded Writer (seen.Closed true) ∷ []
+    ∷ Looked Writer (seen.Closed true) ∷ []
 
 reported_of_the_counted :
     (logged dropped_before_the_look (fresh 4) ≡ logged_of_the_counted ++ Answered Writer (answer.Count 2) ∷ [])
@@ -92,7 +92,7 @@ dropped_before_the_fill = reader_drops ++ Begin (call.TryFill (1 ∷ 2 ∷ [])) 
 
 logged_of_the_closed : logged dropped_before_the_fill (fresh 4) ≡ (
     Began Reader kind.Drop None ∷ Closed Reader ∷ Answered Reader answer.Done
-    ∷ Began Writer kind.TryFill None ∷ Loaded Writer (seen.Closed true) ∷ Answered Writer (answer.Count 0) ∷ [])
+    ∷ Began Writer kind.TryFill None ∷ Looked Writer (seen.Closed true) ∷ Answered Writer (answer.Count 0) ∷ [])
 logged_of_the_closed = refl
 
 counts_of_a_closed_pipe :
@@ -109,7 +109,7 @@ fails_after_a_byte = Begin (call.PollFill 1 (by 1).luck (source.Bytes (9 ∷ [])
 
 abbrev logged_of_the_failure : List Event
 logged_of_the_failure =
-    Began Writer kind.PollFill (Some 1) ∷ Loaded Writer (seen.Closed false) ∷ Loaded Writer (seen.Closed false) ∷ Published (9 ∷ []) ∷ []
+    Began Writer kind.PollFill (Some 1) ∷ Looked Writer (seen.Closed false) ∷ Looked Writer (seen.Closed false) ∷ Published (9 ∷ []) ∷ []
 
 reported_of_the_failure :
     (logged fails_after_a_byte (fresh 4) ≡ logged_of_the_failure ++ Answered Writer (answer.Copy (polled.Ready (Err (record {})))) ∷ [])
@@ -127,12 +127,12 @@ drained_between_the_looks =
 
 abbrev logged_of_the_drained : List Event
 logged_of_the_drained =
-    Began Writer kind.TryFill None ∷ Loaded Writer (seen.Closed false) ∷ Loaded Writer (seen.Closed false) ∷ Published (7 ∷ 8 ∷ []) ∷ Answered Writer (answer.Count 2)
-    ∷ Began Writer (kind.Query Len) None ∷ Loaded Writer (seen.Head 2)
-    ∷ Began Reader kind.TryDrain None ∷ Loaded Reader (seen.Tail 2) ∷ Consumed (7 ∷ 8 ∷ []) ∷ []
+    Began Writer kind.TryFill None ∷ Looked Writer (seen.Closed false) ∷ Looked Writer (seen.Closed false) ∷ Published (7 ∷ 8 ∷ []) ∷ Answered Writer (answer.Count 2)
+    ∷ Began Writer (kind.Query Len) None ∷ Looked Writer (seen.Head 2)
+    ∷ Began Reader kind.TryDrain None ∷ Looked Reader (seen.Tail 2) ∷ Consumed (7 ∷ 8 ∷ []) ∷ []
 
 abbrev logged_of_the_length : List Event
-logged_of_the_length = logged_of_the_drained ++ Answered Reader (answer.Count 2) ∷ Loaded Writer (seen.Tail 0) ∷ []
+logged_of_the_length = logged_of_the_drained ++ Answered Reader (answer.Count 2) ∷ Looked Writer (seen.Tail 0) ∷ []
 
 reported_of_the_drained :
     (logged drained_between_the_looks (fresh 4) ≡ logged_of_the_length ++ Answered Writer (answer.Count 2) ∷ [])
@@ -158,7 +158,7 @@ destination_fails =
     ∷ Begin (call.PollDrain 1 (by 1).luck (dest.Take 1 ∷ dest.Fail ∷ [])) ∷ Go Reader ∷ Go Reader ∷ Go Reader ∷ Go Reader ∷ Go Reader ∷ Go Reader ∷ []
 
 logged_of_the_consumed : drop 5 (logged destination_fails (fresh 4)) ≡ (
-    Began Reader kind.PollDrain (Some 1) ∷ Loaded Reader (seen.Tail 2) ∷ Consumed (7 ∷ []) ∷ Answered Reader (answer.Copy (polled.Ready (Err (record {})))) ∷ [])
+    Began Reader kind.PollDrain (Some 1) ∷ Looked Reader (seen.Tail 2) ∷ Consumed (7 ∷ []) ∷ Answered Reader (answer.Copy (polled.Ready (Err (record {})))) ∷ [])
 logged_of_the_consumed = refl
 
 places_of_the_destination : (places_of (dest.Take 1 ∷ dest.Fail ∷ []) ≡ 1) × (may_fail (dest.Take 1 ∷ dest.Fail ∷ []) ≡ true)

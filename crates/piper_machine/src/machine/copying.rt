@@ -137,6 +137,8 @@ impl Machine {
     }
 
     /// Publishes as many of the first bytes as there is known room, and returns how many.
+    ///
+    /// Requires: the writer is idle.
     pub fn w_try_fill(&mut self, bytes: &[u8]) -> usize
         requires { self.old.writer ≡ WritePoint.Idle }
         ensures count { result ≡ count_of (try_fill bytes.now self.old).answer }
@@ -148,6 +150,8 @@ impl Machine {
     }
 
     /// Moves as many of the known bytes as fit to the front of `dest`, and returns how many.
+    ///
+    /// Requires: the reader is idle.
     pub fn r_try_drain(&mut self, dest: &mut [u8]) -> usize
         requires { self.old.reader ≡ ReadPoint.Idle }
         ensures count { result ≡ count_of (try_drain (length dest.old) self.old).answer }
@@ -167,6 +171,8 @@ impl Machine {
     /// caller's own waker is called, the answer is pending, and no byte has moved. `Memory` is
     /// returned exactly where a registration or a yield is needed and not granted. Nothing stays
     /// lent, whatever is returned.
+    ///
+    /// Requires: the writer is idle, and the draw is below 100.
     pub fn w_poll_fill_bytes(&mut self, waker: u32, luck: Luck, bytes: &[u8]) -> Polled<usize>
         requires idle { self.old.writer ≡ WritePoint.Idle }
         requires draw { luck.draw < 100 }
@@ -187,6 +193,8 @@ impl Machine {
     /// Without a byte it waits as `poll` does. With one it yields where the draw is 0: the
     /// caller's own waker is called, the answer is pending, and no byte has moved. `Memory` is
     /// returned exactly where a registration or a yield is needed and not granted.
+    ///
+    /// Requires: the reader is idle, and the draw is below 100.
     pub fn r_poll_drain_bytes(&mut self, waker: u32, luck: Luck, dest: &mut [u8]) -> Polled<usize>
         requires idle { self.old.reader ≡ ReadPoint.Idle }
         requires draw { luck.draw < 100 }
@@ -212,6 +220,8 @@ impl Machine {
     /// It waits and yields as `w_poll_fill_bytes` does. The source's end is a failure, an act of no
     /// bytes, or the end of its script; a failure that is reached is returned, and what moved
     /// before it stays.
+    ///
+    /// Requires: the writer is idle, and the draw is below 100.
     pub fn w_poll_fill(
         &mut self,
         waker: u32,
@@ -234,6 +244,8 @@ impl Machine {
     /// It waits and yields as `r_poll_drain_bytes` does. Each call of the destination is lent the
     /// known bytes that are contiguous, at most 131,072; one that takes none, and the end of the
     /// script, end the call. A failure is returned, and what was taken before it stays consumed.
+    ///
+    /// Requires: the reader is idle, and the draw is below 100.
     pub fn r_poll_drain(
         &mut self,
         waker: u32,

@@ -18,8 +18,8 @@ fn index_event(side: Side, count: usize) -> Event
     ensures { result ≡ index_event side count }
 {
     match side {
-        Side::Reader => Event::Loaded(side, Seen::Tail(count)),
-        Side::Writer => Event::Loaded(side, Seen::Head(count)),
+        Side::Reader => Event::Looked(side, Seen::Tail(count)),
+        Side::Writer => Event::Looked(side, Seen::Head(count)),
     }
 }
 
@@ -71,10 +71,10 @@ impl Machine {
         let call = self.call(side);
         let event = match action {
             Action::Rest | Action::Take(_) => None,
-            Action::LoadHead => Some(Event::Loaded(side, Seen::Head(self.unread_count()))),
-            Action::LoadTail => Some(Event::Loaded(side, Seen::Tail(self.unread_count()))),
+            Action::LoadHead => Some(Event::Looked(side, Seen::Head(self.unread_count()))),
+            Action::LoadTail => Some(Event::Looked(side, Seen::Tail(self.unread_count()))),
             Action::LoadIndex => Some(index_event(side, self.unread_count())),
-            Action::LoadClosed => Some(Event::Loaded(side, Seen::Closed(self.is_closed))),
+            Action::LoadClosed => Some(Event::Looked(side, Seen::Closed(self.is_closed))),
             Action::Register => registration(side, call.context),
             Action::StoreHead(n) => Some(Event::Consumed(self.front_bytes(n)?)),
             Action::StoreTail(n) => Some(Event::Published(self.lent_bytes(n)?)),

@@ -1,6 +1,6 @@
 //! Why a step would be refused, but for want of memory.
 ghost use Rattle.std.specs.Prelude.{◌≡◌};
-ghost use Rattle.piper_machine.specs.Refusal.{IsIdle, state_of, cannot_begin, cannot_go, unless, or_else, past, refusal_of};
+ghost use Rattle.piper_machine.specs.Refusal.{reader_state, writer_state, state_of, cannot_begin, cannot_go, unless, or_else, past, refusal_of};
 
 use super::Machine;
 use crate::calls::{Call, SideState, Step};
@@ -47,22 +47,37 @@ fn or_else(first: Option<StepRefusal>, second: Option<StepRefusal>) -> Option<St
 }
 
 impl Machine {
-    /// What the side is about.
-    pub fn state(&self, side: Side) -> SideState
-        ensures state { result ≡ state_of side self.now }
-        ensures idle { result ≡ SideState.Idle → IsIdle side self.now }
+    /// Whether the reader is idle, inside a call, or dropped.
+    pub fn r_state(&self) -> SideState
+        ensures state { result ≡ reader_state self.now.reader }
+        ensures idle { result ≡ SideState.Idle → self.now.reader ≡ ReadPoint.Idle }
+    {
+        match self.read.point() {
+            ReadPoint::Idle => SideState::Idle,
+            ReadPoint::Dropped => SideState::Dropped,
+            _ => SideState::Busy,
+        }
+    }
+
+    /// Whether the writer is idle, inside a call, or dropped.
+    pub fn w_state(&self) -> SideState
+        ensures state { result ≡ writer_state self.now.writer }
+        ensures idle { result ≡ SideState.Idle → self.now.writer ≡ WritePoint.Idle }
+    {
+        match self.write.point() {
+            WritePoint::Idle => SideState::Idle,
+            WritePoint::Dropped => SideState::Dropped,
+            _ => SideState::Busy,
+        }
+    }
+
+    // What the side is about.
+    fn state(&self, side: Side) -> SideState
+        ensures { result ≡ state_of side self.now }
     {
         match side {
-            Side::Reader => match self.read.point() {
-                ReadPoint::Idle => SideState::Idle,
-                ReadPoint::Dropped => SideState::Dropped,
-                _ => SideState::Busy,
-            },
-            Side::Writer => match self.write.point() {
-                WritePoint::Idle => SideState::Idle,
-                WritePoint::Dropped => SideState::Dropped,
-                _ => SideState::Busy,
-            },
+            Side::Reader => self.r_state(),
+            Side::Writer => self.w_state(),
         }
     }
 
@@ -97,7 +112,7 @@ impl Machine {
             Step::Go(side) => cannot_go(self.state(*side)),
             Step::Put(offset, _) => {
                 let past = unless(*offset < self.lent_count(), StepRefusal::PastLent);
-                or_else(cannot_begin(self.state(Side::Writer)), past)
+                or_else(cannot_begin(self.w_state()), past)
             }
         }
     }

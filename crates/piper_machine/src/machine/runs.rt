@@ -63,8 +63,10 @@ impl Machine {
         Ok(())
     }
 
-    // Writes a byte into what is lent.
-    fn put(&mut self, offset: usize, byte: u8)
+    /// Writes a byte into what is lent, `offset` places from its beginning.
+    ///
+    /// Requires: the writer is idle, and `offset` is below the length of what is lent.
+    pub fn w_put(&mut self, offset: usize, byte: u8)
         requires idle { self.old.writer ≡ WritePoint.Idle }
         requires within { offset < length self.old.lent }
         ensures { self.new ≡ lending (slice_set self.old.lent offset byte) self.old }
@@ -96,7 +98,7 @@ impl Machine {
             Step::Begin(call) => self.begin(call, log),
             Step::Go(side) => self.go(*side, log),
             Step::Put(offset, byte) => {
-                self.put(*offset, *byte);
+                self.w_put(*offset, *byte);
                 Ok(())
             }
         };
@@ -107,6 +109,8 @@ impl Machine {
 
 /// Makes the steps on a new machine, one after another, and gives back the machine and what
 /// happened.
+///
+/// Requires: `cap` is at least 1 and less than 2^63.
 pub fn run(alloc: Global, cap: usize, steps: &[Step]) -> Result<(Machine, Log), RunRefusal>
     requires { IsCapacity cap }
     ensures runs { IfOk result (λ run. Runs (fresh cap) [] steps.now run.0 (events run.1)) }

@@ -5,7 +5,7 @@ ghost use Rattle.piper_machine.specs.Pipe.{begun};
 ghost use Rattle.piper_machine.specs.Query.{unread_count, is_empty, is_full, is_closed};
 ghost use Rattle.piper_machine.specs.Lend.{Lendable, lending};
 ghost use Rattle.piper_machine.specs.Places.{peeked_count};
-ghost use Rattle.piper_machine.specs.Look.{context, look_of};
+ghost use Rattle.piper_machine.specs.Look.{context, reader_look, writer_look};
 ghost use Rattle.piper_machine.specs.Move.{produce, consume};
 ghost use Rattle.piper_machine.specs.Close.{close, dropped};
 ghost use Rattle.piper_machine.specs.Step.{action_of};
@@ -100,63 +100,149 @@ impl Machine {
         self.drive(side)
     }
 
-    /// How many bytes are unread, as the side finds it.
-    pub fn len(&mut self, side: Side) -> usize
-        requires { IsIdle side self.old }
+    /// How many bytes are unread, as the reader finds it.
+    ///
+    /// Requires: the reader is idle.
+    pub fn r_len(&mut self) -> usize
+        requires { self.old.reader ≡ ReadPoint.Idle }
         ensures value { result ≡ unread_count self.old }
         ensures after { self.new ≡ begun self.old }
-        ensures by_steps { IsWholeBySteps (Call.Query side Query.Len) self.old }
+        ensures by_steps { IsWholeBySteps (Call.Query Side.Reader Query.Len) self.old }
     {
-        self.run_whole(Call::Query(side, Query::Len)).count()
+        self.run_whole(Call::Query(Side::Reader, Query::Len))
+            .count()
     }
 
-    /// Whether no byte is unread.
-    pub fn is_empty(&mut self, side: Side) -> bool
-        requires { IsIdle side self.old }
+    /// Whether no byte is unread, as the reader finds it.
+    ///
+    /// Requires: the reader is idle.
+    pub fn r_is_empty(&mut self) -> bool
+        requires { self.old.reader ≡ ReadPoint.Idle }
         ensures value { result ≡ is_empty self.old }
         ensures after { self.new ≡ begun self.old }
-        ensures by_steps { IsWholeBySteps (Call.Query side Query.IsEmpty) self.old }
+        ensures by_steps { IsWholeBySteps (Call.Query Side.Reader Query.IsEmpty) self.old }
     {
-        self.run_whole(Call::Query(side, Query::IsEmpty)).flag()
+        self.run_whole(Call::Query(Side::Reader, Query::IsEmpty))
+            .flag()
     }
 
-    /// Whether as many bytes are unread as the pipe can hold.
-    pub fn is_full(&mut self, side: Side) -> bool
-        requires { IsIdle side self.old }
+    /// Whether as many bytes are unread as the pipe can hold, as the reader finds it.
+    ///
+    /// Requires: the reader is idle.
+    pub fn r_is_full(&mut self) -> bool
+        requires { self.old.reader ≡ ReadPoint.Idle }
         ensures value { result ≡ is_full self.old }
         ensures after { self.new ≡ begun self.old }
-        ensures by_steps { IsWholeBySteps (Call.Query side Query.IsFull) self.old }
+        ensures by_steps { IsWholeBySteps (Call.Query Side.Reader Query.IsFull) self.old }
     {
-        self.run_whole(Call::Query(side, Query::IsFull)).flag()
+        self.run_whole(Call::Query(Side::Reader, Query::IsFull))
+            .flag()
     }
 
-    /// Whether the pipe is closed: by the writer, or by the drop of a side.
-    pub fn is_closed(&mut self, side: Side) -> bool
-        requires { IsIdle side self.old }
+    /// Whether the pipe is closed, by the writer or by the drop of a side, as the reader finds it.
+    ///
+    /// Requires: the reader is idle.
+    pub fn r_is_closed(&mut self) -> bool
+        requires { self.old.reader ≡ ReadPoint.Idle }
         ensures value { result ≡ is_closed self.old }
         ensures after { self.new ≡ begun self.old }
-        ensures by_steps { IsWholeBySteps (Call.IsClosed side) self.old }
+        ensures by_steps { IsWholeBySteps (Call.IsClosed Side.Reader) self.old }
     {
-        self.run_whole(Call::IsClosed(side)).flag()
+        self.run_whole(Call::IsClosed(Side::Reader)).flag()
     }
 
-    /// Checks for a byte, of the reader, or for room, of the writer. Without it the waker is
-    /// registered, and called when that may have changed.
+    /// How many bytes are unread, as the writer finds it.
     ///
-    /// Ready with true: a byte or room is known. Ready with false: the pipe is closed, and, of the
-    /// reader, no byte is unread. `Memory` is returned exactly where a registration is needed and
-    /// not granted.
-    pub fn poll(&mut self, side: Side, waker: u32, luck: Luck) -> Polled<bool>
-        requires idle { IsIdle side self.old }
-        requires draw { luck.draw < 100 }
-        ensures answer { result ≡ (look_of side (Some (context waker luck)) (begun self.old)).answer }
-        ensures after { self.new ≡ (look_of side (Some (context waker luck)) (begun self.old)).pipe }
-        ensures by_steps { IsWholeBySteps (Call.Poll side waker luck) self.old }
+    /// Requires: the writer is idle.
+    pub fn w_len(&mut self) -> usize
+        requires { self.old.writer ≡ WritePoint.Idle }
+        ensures value { result ≡ unread_count self.old }
+        ensures after { self.new ≡ begun self.old }
+        ensures by_steps { IsWholeBySteps (Call.Query Side.Writer Query.Len) self.old }
     {
-        self.run_whole(Call::Poll(side, waker, luck)).polled()
+        self.run_whole(Call::Query(Side::Writer, Query::Len))
+            .count()
+    }
+
+    /// Whether no byte is unread, as the writer finds it.
+    ///
+    /// Requires: the writer is idle.
+    pub fn w_is_empty(&mut self) -> bool
+        requires { self.old.writer ≡ WritePoint.Idle }
+        ensures value { result ≡ is_empty self.old }
+        ensures after { self.new ≡ begun self.old }
+        ensures by_steps { IsWholeBySteps (Call.Query Side.Writer Query.IsEmpty) self.old }
+    {
+        self.run_whole(Call::Query(Side::Writer, Query::IsEmpty))
+            .flag()
+    }
+
+    /// Whether as many bytes are unread as the pipe can hold, as the writer finds it.
+    ///
+    /// Requires: the writer is idle.
+    pub fn w_is_full(&mut self) -> bool
+        requires { self.old.writer ≡ WritePoint.Idle }
+        ensures value { result ≡ is_full self.old }
+        ensures after { self.new ≡ begun self.old }
+        ensures by_steps { IsWholeBySteps (Call.Query Side.Writer Query.IsFull) self.old }
+    {
+        self.run_whole(Call::Query(Side::Writer, Query::IsFull))
+            .flag()
+    }
+
+    /// Whether the pipe is closed, by the writer or by the drop of a side, as the writer finds it.
+    ///
+    /// Requires: the writer is idle.
+    pub fn w_is_closed(&mut self) -> bool
+        requires { self.old.writer ≡ WritePoint.Idle }
+        ensures value { result ≡ is_closed self.old }
+        ensures after { self.new ≡ begun self.old }
+        ensures by_steps { IsWholeBySteps (Call.IsClosed Side.Writer) self.old }
+    {
+        self.run_whole(Call::IsClosed(Side::Writer)).flag()
+    }
+
+    /// Checks for a byte. If none is unread, the waker is registered, and called once that may have
+    /// changed.
+    ///
+    /// Ready with true: a byte is known. Ready with false: the pipe is closed, and no byte is
+    /// unread. `Memory` is returned exactly where a registration is needed and not granted.
+    ///
+    /// Requires: the reader is idle, and the draw is below 100.
+    pub fn r_poll(&mut self, waker: u32, luck: Luck) -> Polled<bool>
+        requires idle { self.old.reader ≡ ReadPoint.Idle }
+        requires draw { luck.draw < 100 }
+        ensures answer { result
+            ≡ (reader_look (Some (context waker luck)) (begun self.old)).answer }
+        ensures after { self.new ≡ (reader_look (Some (context waker luck)) (begun self.old)).pipe }
+        ensures by_steps { IsWholeBySteps (Call.Poll Side.Reader waker luck) self.old }
+    {
+        self.run_whole(Call::Poll(Side::Reader, waker, luck))
+            .polled()
+    }
+
+    /// Checks for room. If there is none, the waker is registered, and called once that may have
+    /// changed.
+    ///
+    /// Ready with true: room is known. Ready with false: the pipe is closed. `Memory` is returned
+    /// exactly where a registration is needed and not granted.
+    ///
+    /// Requires: the writer is idle, and the draw is below 100.
+    pub fn w_poll(&mut self, waker: u32, luck: Luck) -> Polled<bool>
+        requires idle { self.old.writer ≡ WritePoint.Idle }
+        requires draw { luck.draw < 100 }
+        ensures answer { result
+            ≡ (writer_look (Some (context waker luck)) (begun self.old)).answer }
+        ensures after { self.new ≡ (writer_look (Some (context waker luck)) (begun self.old)).pipe }
+        ensures by_steps { IsWholeBySteps (Call.Poll Side.Writer waker luck) self.old }
+    {
+        self.run_whole(Call::Poll(Side::Writer, waker, luck))
+            .polled()
     }
 
     /// Gives up the first `n` bytes of the peeked slice, and wakes the writer, also at 0.
+    ///
+    /// Requires: the reader is idle, and `n` is at most the length of `r_peek`.
     pub fn r_consume(&mut self, n: usize)
         requires idle { self.old.reader ≡ ReadPoint.Idle }
         requires within { n ≤ peeked_count self.old }
@@ -170,8 +256,10 @@ impl Machine {
     /// how many.
     ///
     /// Nothing is lent of a shut pipe; else at least the lesser of `max`, 4096, the known room and
-    /// what is left up to the end of the buffer. What is lent is written by a step `Put`,
-    /// shown by `w_lent` and published by `w_produced`.
+    /// what is left up to the end of the buffer. What is lent is written by `w_put`, shown by
+    /// `w_lent` and published by `w_produced`.
+    ///
+    /// Requires: the writer is idle.
     pub fn w_write_buf(&mut self, max: usize) -> usize
         requires { self.old.writer ≡ WritePoint.Idle }
         ensures bounds { Lendable max self.old result }
@@ -185,6 +273,8 @@ impl Machine {
 
     /// Publishes the first `n` bytes of what is lent, as they are now, and wakes the reader, also
     /// at 0.
+    ///
+    /// Requires: the writer is idle, and `n` is at most the length of `w_lent`.
     pub fn w_produced(&mut self, n: usize)
         requires idle { self.old.writer ≡ WritePoint.Idle }
         requires within { n ≤ length self.old.lent }
@@ -196,6 +286,8 @@ impl Machine {
 
     /// Closes the pipe: nothing can be written any more, and both sides are woken. What is unread
     /// stays.
+    ///
+    /// Requires: the writer is idle.
     pub fn w_close(&mut self)
         requires { self.old.writer ≡ WritePoint.Idle }
         ensures after { self.new ≡ close (begun self.old) }
@@ -204,12 +296,25 @@ impl Machine {
         self.run_whole(Call::Close);
     }
 
-    /// Drops the side: the pipe is closed, and the other side is woken. What is unread stays.
-    pub fn drop(&mut self, side: Side)
-        requires { IsIdle side self.old }
-        ensures after { self.new ≡ dropped side (begun self.old) }
-        ensures by_steps { IsWholeBySteps (Call.Drop side) self.old }
+    /// Drops the reader: the pipe is closed, and the writer is woken. What is unread stays.
+    ///
+    /// Requires: the reader is idle.
+    pub fn r_drop(&mut self)
+        requires { self.old.reader ≡ ReadPoint.Idle }
+        ensures after { self.new ≡ dropped Side.Reader (begun self.old) }
+        ensures by_steps { IsWholeBySteps (Call.Drop Side.Reader) self.old }
     {
-        self.run_whole(Call::Drop(side));
+        self.run_whole(Call::Drop(Side::Reader));
+    }
+
+    /// Drops the writer: the pipe is closed, and the reader is woken. What is unread stays.
+    ///
+    /// Requires: the writer is idle.
+    pub fn w_drop(&mut self)
+        requires { self.old.writer ≡ WritePoint.Idle }
+        ensures after { self.new ≡ dropped Side.Writer (begun self.old) }
+        ensures by_steps { IsWholeBySteps (Call.Drop Side.Writer) self.old }
+    {
+        self.run_whole(Call::Drop(Side::Writer));
     }
 }

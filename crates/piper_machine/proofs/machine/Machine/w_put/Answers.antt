@@ -2,7 +2,7 @@ use Rattle.std.proofs.Common.{ap, arith, length}
 use Rattle.piper_machine.specs.Pipe.{Pipe}
 use Rattle.piper_machine.proofs.Soundness.{length-lent}
 use Rattle.piper_machine.proofs.Moves.{unread-set, lent-set}
-use Rattle.piper_machine.proofs.machine.Machine.put.Goals as goal
+use Rattle.piper_machine.proofs.machine.Machine.w_put.Goals as goal
 
 pub returns : goal.returns
 returns c =
