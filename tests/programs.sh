@@ -11,7 +11,7 @@ here=$(cd "$(dirname "$0")" && pwd)
 . "$here/trying.bash"
 room=$(mktemp -d)
 trap 'rm -rf "$room"' EXIT
-programs='piper_pump piper_stress piper_bench piper_compare example_echo example_lines example_order'
+programs='piper_pump piper_stress piper_bench piper_compare duplex_echo example_lines example_order'
 for program in $programs piper_replay; do
     cp "${1:-$here/../crates/$program/out}/$program" "$room/" || exit 2
     chmod 755 "$room/$program"
@@ -219,16 +219,16 @@ for program in $programs; do
     try_silent "the version of $program" 10 0 "./$program --version"
     note "the version of $program, in one line" grep -qx "$program [0-9.]*" out
     refused=2
-    case $program in example_echo | piper_bench) refused=1 ;; esac
+    case $program in duplex_echo | piper_bench) refused=1 ;; esac
     try "an unknown word, to $program" 10 $refused '' "./$program --speed"
     note "an unknown word, to $program: nothing is printed" test ! -s out
 done
 
 # Each way in which they fail has its status and its words.
-try 'an echo' 10 0 '' './example_echo < short | cmp - short'
-try_silent 'an echo of a word: as promised, nothing is told' 10 1 './example_echo x < short'
-try 'an echo without a thread' 10 2 'no thread is granted' '$alone prlimit --nproc=1 ./example_echo < short'
-try 'an echo to a full output' 10 2 'write failed' './example_echo < short > /dev/full'
+try 'an echo' 10 0 '' './duplex_echo < short | cmp - short'
+try_silent 'an echo of a word: as promised, nothing is told' 10 1 './duplex_echo x < short'
+try 'an echo without a thread' 10 2 'no thread is granted' '$alone prlimit --nproc=1 ./duplex_echo < short'
+try 'an echo to a full output' 10 2 'write failed' './duplex_echo < short > /dev/full'
 try 'a hunt' 20 0 'games' './piper_stress 1 1 100'
 try 'a hunt to a full output' 20 3 'standard output: No space left' './piper_stress 1 1 3 > /dev/full'
 try 'a hunt to a closed output' 20 3 'standard output: Bad file' './piper_stress 1 1 3 >&-'

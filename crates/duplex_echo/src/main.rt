@@ -7,9 +7,9 @@ use std::env;
 use std::io::ErrorKind;
 use std::process::ExitCode;
 
-const HELP: &str = "usage: example_echo
-       example_echo --help
-       example_echo --version
+const HELP: &str = "usage: duplex_echo
+       duplex_echo --help
+       duplex_echo --version
 Sends standard input line by line through a duplex stream to a thread that writes it back, and prints what comes back, each line before the next one is read. Each way holds 64 bytes.
 Exit status:
   0  all came back and was printed, or the help or the version was
@@ -33,7 +33,7 @@ fn words(rt: &HostRuntime) -> Result<Vec<String>, Ended> {
 fn text_for(words: &[String]) -> Option<&'static str> {
     match words {
         [word] if word.as_str() == "--help" => Some(HELP),
-        [word] if word.as_str() == "--version" => Some("example_echo 0.2.5"),
+        [word] if word.as_str() == "--version" => Some("duplex_echo 0.2.5"),
         _ => None,
     }
 }
