@@ -320,9 +320,10 @@ else
     echo 'left out, for want of unshare: no /proc'
 fi
 
-# A level: the side that waits for it is woken, and does not look for it by the clock.
+# The side that waits for bytes, a level or room is woken: it does not look for them by the clock, and does not yield.
 try_silent 'a level, through a pipe that runs dry' 60 0 'lines 8000000 | $pump --capacity 4K --start-at 100 | cmp - <(lines 8000000) && exit ${PIPESTATUS[1]}'
 if command -v strace > /dev/null; then
+    try_silent 'who waits sleeps, and does not yield' 20 0 'lines 2000000 | strace -f -o calls -e trace=sched_yield $pump --capacity 4K | cmp - <(lines 2000000) && ! grep -q sched_yield calls'
     try_silent 'who waits for a level sleeps till it is woken' 20 0 '(lines 30; sleep 0.3; lines 4000; sleep 0.3; lines 9000) | strace -f -o calls -e trace=clock_nanosleep,nanosleep $pump --capacity 4K --start-at 100 > level; cmp level <(lines 30; lines 4000; lines 9000) && ! grep -q nanosleep calls'
 fi
 

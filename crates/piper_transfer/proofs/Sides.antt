@@ -6,7 +6,7 @@ use Rattle.piper.specs.ReadView.{ReadView}
 use Rattle.piper.specs.WriteView.{WriteView}
 use Rattle.piper_ring.specs.Looks.{ReaderLooked, WriterLooked}
 use Rattle.piper_transfer.specs.Taken.{StaysTaken}
-use Rattle.piper_transfer.specs.Transfer.{Fed, Gets, Poured, PouredAll}
+use Rattle.piper_transfer.specs.Transfer.{Fed, Gets, PouredAll}
 
 pub fed_none : (i : Option (List ℕ)) (a : WriteView) → Fed i i a a
 fed_none i a = record { given = []; consumed = Consumes-nil i; sent = sym (append-nil a.sent); ring = refl }
@@ -59,10 +59,6 @@ gets_kept C T d e f xs p kept stays = record {
 pub poured_none : {D : Type 0} (C : D → Option (List ℕ)) (T : D → List (List ℕ) → List ℕ → Type 0) (d : D) (a : ReadView) → PouredAll C T d d a a
 poured_none C T d a = record { written = []; gets = gets_none C T d; taken = sym (append-nil a.taken); ring = refl; capacity = refl }
 
--- nothing was written, and nothing dropped
-pub poured_nothing : {D : Type 0} (C : D → Option (List ℕ)) (T : D → List (List ℕ) → List ℕ → Type 0) (d : D) (a : ReadView) → Poured C T d d a a
-poured_nothing C T d a = record { written = []; lost = []; gets = gets_none C T d; taken = sym (append-nil a.taken); ring = refl; capacity = refl }
-
 pub poured_more : {D : Type 0} (C : D → Option (List ℕ)) (T : D → List (List ℕ) → List ℕ → Type 0) (d e f : D) (a b c : ReadView)
     → PouredAll C T d e a b → PouredAll C T e f b c → PouredAll C T d f a c
 poured_more C T d e f a b c p q = record {
@@ -86,17 +82,6 @@ poured_same C T d e a b c p same = record {
 -- a meet changes nothing but what a look changes
 pub met_same : (a b : ReadView) → b ≡ record a { known = b.known; all = b.all } → b ≡ record a { known = b.known; saw = b.saw; all = b.all }
 met_same a b met = subst (λ (v : ReadView). v ≡ record a { known = v.known; saw = v.saw; all = v.all }) (sym met) refl
-
--- where nothing was dropped, that is none of what was taken
-pub poured_of_all : {D : Type 0} (C : D → Option (List ℕ)) (T : D → List (List ℕ) → List ℕ → Type 0) (d e : D) (a b : ReadView) → PouredAll C T d e a b → Poured C T d e a b
-poured_of_all C T d e a b p = record {
-  written = p.written;
-  lost = [];
-  gets = p.gets;
-  taken = p.taken ∙ ap (λ xs. a.taken ++ xs) (sym (append-nil p.written));
-  ring = p.ring;
-  capacity = p.capacity;
-}
 
 -- what was written before a look, and after it
 pub poured_looked : {D : Type 0} (C : D → Option (List ℕ)) (T : D → List (List ℕ) → List ℕ → Type 0) (d e : D) (a b c : ReadView)

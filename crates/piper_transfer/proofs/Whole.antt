@@ -8,7 +8,7 @@ use Rattle.piper.proofs.Ended.{ended_knows}
 use Rattle.piper.specs.ReadView.{ReadView, KnowsEnd}
 use Rattle.piper.specs.WriteView.{WriteView, either}
 use Rattle.piper_transfer.proofs.Sides.{gets_none}
-use Rattle.piper_transfer.specs.Transfer.{Fed, IsDrained, Poured, PouredAll, Transfers, WritesAll}
+use Rattle.piper_transfer.specs.Transfer.{Fed, IsDrained, PouredAll, Transfers, WritesAll}
 use Rattle.piper_transfer.specs.declared.error.TransferError.{TransferError}
 
 -- nothing was moved
@@ -22,27 +22,11 @@ given_is_seen i j w0 w1 r xs fresh fed fifo taken =
     let given : w1.sent ≡ fed.given = fed.sent ∙ ap (λ ys. ys ++ fed.given) fresh in
     subst (Consumes i j) (sym given ∙ sym fifo ∙ ap (λ ys. ys ++ r.known) taken) fed.consumed
 
--- the output failed: bytes were lost, and some may still be known
-pub output_failed : {D : Type 0} (C : D → Option (List ℕ)) (T : D → List (List ℕ) → List ℕ → Type 0) (d e : D) (r : Result Unit TransferError) (i j : Option (List ℕ)) (w0 w1 : WriteView) (r0 r1 r2 : ReadView)
-    → w0.sent ≡ [] → r0.taken ≡ [] → Fed i j w0 w1 → Poured C T d e r0 r1 → r2.taken ≡ r1.taken → r2.taken ++ r2.known ≡ w1.sent
-    → ¬ WritesAll r → OnOk r (IsAtEnd j) → Transfers r i j C T d e
-output_failed C T d e r i j w0 w1 r0 r1 r2 new_writer new_reader fed poured same fifo failed ended =
-    let taken : r2.taken ≡ poured.written ++ poured.lost = same ∙ poured.taken ∙ ap (λ xs. xs ++ (poured.written ++ poured.lost)) new_reader in
-    let given : Consumes i j ((poured.written ++ poured.lost) ++ r2.known) = given_is_seen i j w0 w1 r2 (poured.written ++ poured.lost) new_writer fed fifo taken in
-    record {
-      written = poured.written;
-      left = poured.lost ++ r2.known;
-      given = subst (Consumes i j) (append_assoc poured.written poured.lost r2.known) given;
-      gets = poured.gets;
-      all = λ writes. absurd (failed writes);
-      ended = ended;
-    }
-
--- nothing was lost: what is left is what is still known
-pub nothing_lost : {D : Type 0} (C : D → Option (List ℕ)) (T : D → List (List ℕ) → List ℕ → Type 0) (d e : D) (r : Result Unit TransferError) (i j : Option (List ℕ)) (w0 w1 : WriteView) (r0 r1 : ReadView)
+-- what is left is what is still known
+pub whole : {D : Type 0} (C : D → Option (List ℕ)) (T : D → List (List ℕ) → List ℕ → Type 0) (d e : D) (r : Result Unit TransferError) (i j : Option (List ℕ)) (w0 w1 : WriteView) (r0 r1 : ReadView)
     → w0.sent ≡ [] → r0.taken ≡ [] → Fed i j w0 w1 → PouredAll C T d e r0 r1 → r1.taken ++ r1.known ≡ w1.sent
     → (WritesAll r → r1.known ≡ []) → OnOk r (IsAtEnd j) → Transfers r i j C T d e
-nothing_lost C T d e r i j w0 w1 r0 r1 new_writer new_reader fed poured fifo all ended =
+whole C T d e r i j w0 w1 r0 r1 new_writer new_reader fed poured fifo all ended =
     let taken : r1.taken ≡ poured.written = poured.taken ∙ ap (λ xs. xs ++ poured.written) new_reader in
     record {
       written = poured.written;

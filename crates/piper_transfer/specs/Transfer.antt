@@ -35,20 +35,7 @@ pub record Gets {D : Type 0}
   pub appended : Appends (contents old) (contents new) bs
   pub more : TakesMore took old new bs
 
--- the output was given the front of what was taken from the reading end; the rest was dropped
-pub record Poured {D : Type 0}
-    (contents : D → Option (List ℕ))
-    (took : D → List (List ℕ) → List ℕ → Type 0)
-    (old new : D)
-    (a b : ReadView) : Type 0 where
-  pub written : List ℕ
-  pub lost : List ℕ
-  pub gets : Gets contents took old new written
-  pub taken : b.taken ≡ a.taken ++ (written ++ lost)
-  pub ring : b.ring ≡ a.ring
-  pub capacity : b.capacity ≡ a.capacity
-
--- nothing of what was taken from the reading end was dropped
+-- the output was given all that was taken from the reading end
 pub record PouredAll {D : Type 0}
     (contents : D → Option (List ℕ))
     (took : D → List (List ℕ) → List ℕ → Type 0)
@@ -81,24 +68,23 @@ pub record IsLasting (e : Error) : Type 0 where
   pub due : error_kind e ≢ WouldBlock
 
 -- the side that writes the output may report this error: a write or a flush has failed so, a write
--- has taken no byte, memory was refused for a waker, or the thread can't be made to wait
+-- has taken no byte, or memory was refused for a waker
 abbrev pub IsOfDestination : (Error → Type 0) → Type 0 → TransferError → Type 0
 IsOfDestination fails full (Read e) = ⊥
 IsOfDestination fails full (Write e) = fails e × IsLasting e
 IsOfDestination fails full Full = full
 IsOfDestination fails full Memory = ⊤
-IsOfDestination fails full (Turns e) = ⊤
+IsOfDestination fails full (Turns e) = ⊥
 
 -- the side that reads the input left the pipe open
 abbrev pub IsLeft : WriteView → Type 0
 IsLeft w = w.shut ≡ false
 
--- the side that reads the input may report this error: a read has failed so, memory was refused for
--- a waker, or the thread can't be made to wait
+-- the side that reads the input may report this error: a read has failed so, or memory was refused
+-- for a waker
 abbrev pub IsOfSource : (Error → Type 0) → TransferError → Type 0
 IsOfSource fails (Read e) = fails e × IsLasting e
 IsOfSource fails Memory = ⊤
-IsOfSource fails (Turns e) = ⊤
 IsOfSource fails other = ⊥
 
 -- that side stops for such an error; or it was told to, as this says
@@ -106,17 +92,11 @@ abbrev pub StopsSource : (Error → Type 0) → Type 0 → Stop → Type 0
 StopsSource fails told (Failed e) = IsOfSource fails e
 StopsSource fails told Told = told
 
--- the input's side has ended with this answer, and closed the pipe, so that the output's waits for
--- no byte any more; or its thread can't be made to wait
-abbrev pub Closes : Result Unit TransferError → WriteView → Type 0
-Closes (Err (Turns e)) w = ⊤
-Closes other w = w.shut ≡ true
-
--- the same, where it was not told to end
+-- the input's side has ended with this answer: it closed the pipe, so that the output's waits for no
+-- byte any more, or was told to end
 abbrev pub StopsClosed : Result Unit Stop → WriteView → Type 0
-StopsClosed (Ok done) w = w.shut ≡ true
-StopsClosed (Err (Failed e)) w = Closes (Err e) w
 StopsClosed (Err Told) w = ⊤
+StopsClosed other w = w.shut ≡ true
 
 -- neither side has begun: memory was refused for the pipe, or a thread can't be made to wait
 abbrev pub IsOfMemory : TransferError → Type 0

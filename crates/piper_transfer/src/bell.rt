@@ -1,37 +1,29 @@
-//! What wakes a thread that waits under a lock.
-use std::sync::{Condvar, MutexGuard, Wait};
+//! What wakes one thread of a transfer that waits for the other.
+use std::sync::Wait;
+use std::thread::Parker;
 
-/// A bell. Whoever rings it has taken the lock under which the other thread looks before it sleeps:
-/// so no ring falls between a look and the sleep that follows it.
+/// A bell, for which one thread waits. A ring that comes before the wait ends it at once. So none is
+/// lost between a look and the sleep that follows it, and nobody takes a lock.
 #[derive(Drop)]
 pub(crate) struct Bell {
-    changed: Condvar,
+    parker: Parker,
 }
 
 impl Bell {
-    /// Nobody waits for it yet.
+    /// It was not rung.
     pub(crate) fn new() -> Bell {
         Bell {
-            changed: Condvar::new(),
+            parker: Parker::new(),
         }
     }
 
-    /// Wakes who waits, without the lock, which that thread takes at once.
-    pub(crate) fn ring(&self, held: MutexGuard<'_, ()>) {
-        drop(held);
-        self.changed.notify_all();
+    /// Ends the wait, or the next one.
+    pub(crate) fn ring(&self) {
+        self.parker.unpark();
     }
 
-    /// Sleeps until the condition, which is looked at under the lock, does not hold any more. It is
-    /// looked at again at each ring.
-    pub(crate) fn wait_while<F: FnMut(&mut ()) -> bool>(
-        &self,
-        rt: &impl Wait,
-        held: MutexGuard<'_, ()>,
-        cond: F,
-    )
-        requires { F.IsAlwaysCallable cond }
-    {
-        let _held = self.changed.wait_while(rt, held, cond);
+    /// Sleeps until it is rung, if it was not rung since the last wait.
+    pub(crate) fn wait(&self, rt: &impl Wait) {
+        self.parker.park(rt);
     }
 }

@@ -1,11 +1,11 @@
 //! A transfer: both sides, each on a thread.
-ghost use Rattle.std.specs.Prelude.{◌≡◌, ◌<◌, ◌≤◌, ◌*◌, ◌^◌, IfOk, IfErr, OnOk, IfSome, IfNone, false};
+ghost use Rattle.std.specs.Prelude.{◌≡◌, ◌<◌, ◌≤◌, ◌*◌, ◌^◌, IfOk, IfErr, OnOk, IfSome, IfNone, true, false};
 ghost use Rattle.std.specs.Io.KnownBytes.{IsAtEnd, Keeps};
 ghost use Rattle.piper.specs.Looks.{IsEnded};
 ghost use Rattle.piper.specs.Opened.{FreshReadEnd, FreshWriteEnd};
 ghost use Rattle.piper_transfer.specs.Taken.{StaysTaken};
-ghost use Rattle.piper_transfer.specs.Transfer.{Closes, Fed, IsDrained, IsOfDestination, IsOfMemory, IsOfSide, IsOfSource};
-ghost use Rattle.piper_transfer.specs.Transfer.{IsOpen, IsReady, Poured, PouredAll, Transfers, WritesAll};
+ghost use Rattle.piper_transfer.specs.Transfer.{Fed, IsDrained, IsOfDestination, IsOfMemory, IsOfSide, IsOfSource};
+ghost use Rattle.piper_transfer.specs.Transfer.{IsOpen, IsReady, PouredAll, Transfers, WritesAll};
 
 use crate::draining::{drain_from, drain_output};
 use crate::ends::{Destination, Source};
@@ -14,9 +14,8 @@ use crate::filling::fill_from;
 use crate::level::Level;
 use crate::meter::Meter;
 use crate::one_thread::{resume, take_turns};
-use crate::over::OutputOver;
 use crate::patience::flush_patiently;
-use crate::rises::Rises;
+use crate::shared::Shared;
 use crate::sizes::Sizes;
 use crate::start::{Start, grants_thread};
 use crate::turns::{Input, Output, Turns};
@@ -218,10 +217,8 @@ where
     ensures fed { Fed (S.remaining source.old) (S.remaining source.new)
         input.old.writer.side.end input.new.writer.side.end }
     ensures input_ended { IfOk result (λ filled. OnOk filled (IsAtEnd (S.remaining source.new))) }
-    ensures poured { Poured D.contents D.took dest.old dest.new
+    ensures poured { PouredAll D.contents D.took dest.old dest.new
         output.old.reader.side.end output.new.reader.side.end }
-    ensures all { OnOk result (PouredAll D.contents D.took dest.old dest.new
-        output.old.reader.side.end output.new.reader.side.end) }
     ensures drained { OnOk result (IsDrained output.new.reader.side.end input.new.writer.side.end) }
     ensures input_told { IfOk result (λ filled. IfErr filled (IsOfSource (S.fails source.new))) }
     ensures reported { IfErr result (IsOfDestination (D.fails dest.new) (D.full dest.new)) }
@@ -235,17 +232,11 @@ where
     match on_two_threads(rt, source, turns, writer, output, dest, chunk, meter) {
         (Some(filled), Some(drained)) => drained.and(Ok(filled)),
         (Some(filled), None) => {
-            let rises = Rises::new(output.level.bytes());
-            drain_output(rt, output, dest, chunk, &rises, &meter.output).and(Ok(filled))
+            drain_output(rt, output, dest, chunk, &Shared::new(), &meter.output).and(Ok(filled))
         }
         (None, Some(Err(error))) => Err(error),
         // Nothing has failed, so the input is read all the same.
-        (None, Some(Ok(()))) => {
-            let (writer, reader) = (&mut input.writer, &mut output.reader);
-            let level = output.level.bytes();
-            resume(rt, source, writer, reader, dest, chunk, level, meter)
-        }
-        (None, None) => {
+        (None, _) => {
             let (writer, reader) = (&mut input.writer, &mut output.reader);
             let level = output.level.bytes();
             resume(rt, source, writer, reader, dest, chunk, level, meter)
@@ -278,20 +269,17 @@ where
         writer.old.side.end writer.new.side.end }
     ensures input_ended { IfSome result.0 (λ r. OnOk r (IsAtEnd (S.remaining source.new))) }
     ensures fill_left { IfNone result.0 (writer.new.side.end.shut ≡ false) }
-    ensures poured { Poured D.contents D.took dest.old dest.new
+    ensures poured { PouredAll D.contents D.took dest.old dest.new
         output.old.reader.side.end output.new.reader.side.end }
-    ensures all { IfSome result.1 (λ r. OnOk r (PouredAll D.contents D.took dest.old dest.new
-        output.old.reader.side.end output.new.reader.side.end)) }
     ensures drained { IfSome result.1 (λ r. OnOk r (IsEnded output.new.reader.side.end)) }
     ensures input_told { IfSome result.0 (λ r. IfErr r (IsOfSource (S.fails source.new))) }
     ensures reported { IfSome result.1 (λ r. IfErr r
         (IsOfDestination (D.fails dest.new) (D.full dest.new))) }
     ensures drain_given_up { IfNone result.1
         ((output.new ≡ output.old) × (dest.new ≡ dest.old)) }
-    ensures input_closed { IfSome result.0 (λ r. Closes r writer.new.side.end) }
+    ensures input_closed { IfSome result.0 (λ _. writer.new.side.end.shut ≡ true) }
 {
-    let start = Start::new(OutputOver::new(output.level.bytes()));
-    let start = &start;
+    let start = &Start::new();
     join_mut(
         rt,
         &mut || fill_from(rt, start, turns, source, writer, chunk, meter),

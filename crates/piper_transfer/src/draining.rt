@@ -4,15 +4,14 @@ ghost use Rattle.futures.specs.Task.{IsArmed};
 ghost use Rattle.futures.specs.Poll.{IfReady, OnPending};
 ghost use Rattle.piper.specs.Drains.{StaysKnown};
 ghost use Rattle.piper.specs.Looks.{IsEnded};
-ghost use Rattle.piper_transfer.specs.Transfer.{IsLasting, IsOfDestination, Poured, PouredAll};
+ghost use Rattle.piper_transfer.specs.Transfer.{IsLasting, IsOfDestination, PouredAll};
 
 use crate::ends::Destination;
 use crate::error::TransferError;
 use crate::level::Reached;
 use crate::meter::{Meter, OfOutput, Side};
-use crate::over::make_room;
 use crate::patience::write_patiently;
-use crate::rises::Rises;
+use crate::shared::Shared;
 use crate::start::Start;
 use crate::turns::Output;
 use futures::task::{Context, Poll};
@@ -23,7 +22,7 @@ use std::time::Clock;
 
 /// Empties the pipe as `drain_output` does, once the other side has begun. Where that one has not,
 /// it is given up; then the answer is `None` and nothing was done. If the output fails, the other
-/// side is told to end: bytes that it publishes until then stay in the pipe or are dropped.
+/// side is told to end: bytes that it publishes until then stay in the pipe.
 pub(crate) fn drain_from<R, D>(
     rt: &R,
     start: &Start,
@@ -36,10 +35,8 @@ where
     R: Wait + Clock,
     D: Destination,
     requires chunk { 0 < chunk }
-    ensures poured { Poured D.contents D.took dest.old dest.new
+    ensures poured { PouredAll D.contents D.took dest.old dest.new
         output.old.reader.side.end output.new.reader.side.end }
-    ensures all { IfSome result (λ r. OnOk r (PouredAll D.contents D.took dest.old dest.new
-        output.old.reader.side.end output.new.reader.side.end)) }
     ensures ended { IfSome result (λ r. OnOk r (IsEnded output.new.reader.side.end)) }
     ensures reported { IfSome result (λ r. IfErr r
         (IsOfDestination (D.fails dest.new) (D.full dest.new))) }
@@ -49,10 +46,9 @@ where
     if !start.wait(rt) {
         return None;
     }
-    let rises = &start.over.rises;
-    let ended = drain_output(rt, output, dest, chunk, rises, &meter.output);
+    let ended = drain_output(rt, output, dest, chunk, &start.shared, &meter.output);
     if ended.is_err() {
-        make_room(&mut output.reader, start.over.end_output());
+        start.shared.end_output();
     }
     Some(ended)
 }
@@ -64,7 +60,7 @@ pub(crate) fn drain_output<R, D>(
     output: &mut Output,
     dest: &mut D,
     chunk: usize,
-    rises: &Rises,
+    shared: &Shared,
     meter: &Side<OfOutput>,
 ) -> Result<(), TransferError>
 where
@@ -78,10 +74,11 @@ where
 {
     for _ in rt.forever() {
         meter.begin_wait(rt);
-        let mut cx = output.turns.next(rt).map_err(TransferError::Turns)?;
-        let reached = output.level.wait(rt, &output.reader, rises);
+        let reached = output.level.wait(rt, &output.reader, shared);
         meter.end_wait(rt);
-        let turn = drain_turn(rt, &mut cx, &mut output.reader, reached, dest, chunk, meter);
+        let mut cx = output.turns.begin();
+        let reader = &mut output.reader;
+        let turn = drain_turn(rt, &mut cx, reader, reached, dest, chunk, shared, meter);
         cx.end(&turn);
         if let Poll::Ready(ended) = turn {
             return ended;
@@ -98,6 +95,7 @@ fn drain_turn<R, D>(
     _reached: Reached,
     dest: &mut D,
     chunk: usize,
+    shared: &Shared,
     meter: &Side<OfOutput>,
 ) -> Poll<Result<(), TransferError>>
 where
@@ -124,6 +122,7 @@ where
         if let Err(error) = write_some(rt, reader, dest, chunk, meter) {
             return Poll::Ready(Err(error));
         }
+        shared.tell_room();
     }
     unreachable!()
 }

@@ -3,14 +3,14 @@ ghost use Rattle.std.specs.Prelude.{◌≡◌, ◌<◌, Ok, OnOk, IfErr, IfSome,
 ghost use Rattle.std.specs.Io.KnownBytes.{IsAtEnd};
 ghost use Rattle.futures.specs.Task.{IsArmed};
 ghost use Rattle.futures.specs.Poll.{IfReady, OnPending};
-ghost use Rattle.piper_transfer.specs.Transfer.{Closes, Fed, IsLeft, IsOfSource, IsOpen, StopsClosed, StopsSource};
+ghost use Rattle.piper_transfer.specs.Transfer.{Fed, IsLeft, IsOfSource, IsOpen, StopsClosed, StopsSource};
 
 use crate::ends::Source;
 use crate::error::{Stop, TransferError};
 use crate::meter::{Meter, OfInput, Side};
-use crate::over::Hears;
 use crate::patience::read_patiently;
 use crate::piece::Piece;
+use crate::shared::{Hears, Shared};
 use crate::start::Start;
 use crate::turns::Turns;
 use futures::task::{Context, Poll};
@@ -38,13 +38,21 @@ where
         writer.old.side.end writer.new.side.end }
     ensures ended { IfSome result (λ r. OnOk r (IsAtEnd (S.remaining source.new))) }
     ensures reported { IfSome result (λ r. IfErr r (IsOfSource (S.fails source.new))) }
-    ensures closed { IfSome result (λ r. Closes r writer.new.side.end) }
+    ensures closed { IfSome result (λ _. writer.new.side.end.shut ≡ true) }
     ensures left { IfNone result (writer.new.side.end.shut ≡ false) }
 {
     if !start.begin(rt) {
         return None;
     }
-    match fill_in_turns(rt, turns, source, writer, chunk, &meter.input, &start.over) {
+    match fill_in_turns(
+        rt,
+        turns,
+        source,
+        writer,
+        chunk,
+        &meter.input,
+        &start.shared,
+    ) {
         Ok(()) => Some(Ok(())),
         Err(Stop::Failed(error)) => Some(Err(error)),
         Err(Stop::Told) => None,
@@ -53,19 +61,18 @@ where
 
 // Reads the input into the pipe, at most `chunk` bytes at a time, up to its end, and closes the
 // pipe. Where it is told to end, it leaves it open.
-fn fill_in_turns<R, S, H>(
+fn fill_in_turns<R, S>(
     rt: &R,
     turns: &Turns,
     source: &mut S,
     writer: &mut Writer,
     chunk: usize,
     meter: &Side<OfInput>,
-    over: &H,
+    shared: &Shared,
 ) -> Result<(), Stop>
 where
     R: Wait + Clock,
     S: Source,
-    H: Hears,
     requires chunk { 0 < chunk }
     requires is_open { IsOpen writer.old.side.end }
     ensures fed { Fed (S.remaining source.old) (S.remaining source.new)
@@ -77,12 +84,10 @@ where
 {
     for _ in rt.forever() {
         meter.begin_wait(rt);
-        let mut cx = match turns.next(rt) {
-            Ok(cx) => cx,
-            Err(error) => return Err(Stop::Failed(TransferError::Turns(error))),
-        };
+        shared.wait_for_room(rt, writer);
         meter.end_wait(rt);
-        let turn = fill_turn(rt, &mut cx, source, writer, chunk, meter, over);
+        let mut cx = turns.begin();
+        let turn = fill_turn(rt, &mut cx, source, writer, chunk, meter, shared);
         cx.end(&turn);
         if let Poll::Ready(ended) = turn {
             return ended;
@@ -131,15 +136,15 @@ where
             Ok(false) => return Poll::Ready(Err(Stop::Told)),
             Err(_) => {
                 let error = Stop::Failed(TransferError::Memory);
-                return close(rt, cx, writer, over, Err(error));
+                return close(cx, writer, over, Err(error));
             }
         }
         match read_chunk(rt, source, writer, piece.len(), meter, over) {
-            Ok(0) => return close(rt, cx, writer, over, Ok(())),
+            Ok(0) => return close(cx, writer, over, Ok(())),
             Ok(count) => piece = piece.after(count),
             Err(Stop::Told) => return Poll::Ready(Err(Stop::Told)),
             Err(Stop::Failed(error)) => {
-                return close(rt, cx, writer, over, Err(Stop::Failed(error)));
+                return close(cx, writer, over, Err(Stop::Failed(error)));
             }
         }
     }
@@ -171,14 +176,13 @@ where
 {
     let count = read_patiently(rt, source, writer.write_buf(most), over)?;
     writer.produced(count);
-    over.tell(rt);
+    over.tell();
     meter.add_bytes(count);
     Ok(count)
 }
 
 // Closes the pipe, so that the other side ends once it has taken what was published.
 fn close<H: Hears>(
-    rt: &impl Wait,
     cx: &mut Context<'_>,
     writer: &mut Writer,
     over: &H,
@@ -190,6 +194,6 @@ fn close<H: Hears>(
     ensures shut { writer.new.side.end.shut ≡ true }
 {
     let _closed = writer.poll_close(cx);
-    over.tell_closed(rt, writer);
+    over.tell_closed(writer);
     Poll::Ready(ended)
 }

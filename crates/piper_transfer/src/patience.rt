@@ -8,7 +8,7 @@ ghost use Rattle.piper_transfer.specs.Transfer.{IsLasting, StopsSource};
 
 use crate::ends::{Destination, Source};
 use crate::error::{Stop, TransferError};
-use crate::over::Hears;
+use crate::shared::Hears;
 use std::io::ErrorKind;
 use std::sync::Wait;
 use std::time::{Clock, Duration};

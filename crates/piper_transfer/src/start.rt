@@ -1,5 +1,5 @@
 //! What two threads of a transfer tell each other: that the second one has begun, or is late.
-use crate::over::OutputOver;
+use crate::shared::Shared;
 use std::sync::{Condvar, Mutex, Wait};
 use std::thread;
 use std::thread::Threads;
@@ -33,7 +33,7 @@ enum Stage {
 }
 
 /// What the two threads of a transfer share. It says to the first whether the second one has begun,
-/// and to the second one whether it is still waited for, and whether the output is over.
+/// to the second one whether it is still waited for, and what both tell each other later.
 ///
 /// A thread that the system refuses is run after the first one, on the same thread. That is known
 /// before, mostly, by `grants_thread`; but it may refuse one that it would have granted a moment
@@ -43,17 +43,16 @@ enum Stage {
 pub(crate) struct Start {
     stage: Mutex<Stage>,
     changed: Condvar,
-    /// Whether the output is over.
-    pub(crate) over: OutputOver,
+    pub(crate) shared: Shared,
 }
 
 impl Start {
     /// The second thread has not begun.
-    pub(crate) fn new(over: OutputOver) -> Start {
+    pub(crate) fn new() -> Start {
         Start {
             stage: Mutex::new(Stage::Waited),
             changed: Condvar::new(),
-            over,
+            shared: Shared::new(),
         }
     }
 

@@ -1,30 +1,28 @@
-//! A thread that polls a pipe and sleeps until its waker is called.
+//! The turns of the two threads of a transfer.
 use crate::level::Level;
-use futures::task::{Context, Doorbell, Queue};
+use futures::task::{Context, Doorbell, Solo};
 use piper::{Reader, Writer};
 use std::alloc::AllocGlobal;
 use std::io;
-use std::io::ErrorKind;
 use std::random::RandomSource;
-use std::sync::Wait;
 
-/// The turns of one thread. It gets the first at once, and each later one when the waker was called
-/// that its last turn left.
+/// The turns of one thread. Between two of them it waits for a bell, and not at the doorbell of a
+/// queue: who waits there yields a few times first, and on a busy machine each yield lasts until all
+/// other threads had their turn.
 #[derive(Drop)]
 pub(crate) struct Turns {
-    queue: Queue,
+    task: Solo,
 }
 
 impl Turns {
     pub(crate) fn new(rt: &(impl RandomSource + AllocGlobal)) -> io::Result<Turns> {
-        let queue = Queue::new(rt, Doorbell::parking())?;
-        queue.add().map_err(io::Error::from)?.schedule();
-        Ok(Turns { queue })
+        let task = Solo::new(rt, Doorbell::spinning())?;
+        Ok(Turns { task })
     }
 
-    /// Sleeps until the next turn.
-    pub(crate) fn next(&self, rt: &impl Wait) -> io::Result<Context<'_>> {
-        self.queue.next(rt).ok_or(io::Error::from(ErrorKind::Other))
+    /// Begins a turn.
+    pub(crate) fn begin(&self) -> Context<'_> {
+        self.task.begin()
     }
 }
 
