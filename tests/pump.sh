@@ -309,13 +309,15 @@ else
     echo 'left out, for want of a loop device: block devices'
 fi
 
-# Without /proc it can't be told which files the standard streams are.
+# Without /proc it can't be told which files the standard streams are. Two of them alone are taken, since none is opened or cut.
 if unshare -m sh -c 'umount -l /proc' 2> /dev/null; then
     try 'an input that is the output, without /proc' 10 4 "it can't be told from the other files without /proc" 'cp src s; unshare -m sh -c "umount -l /proc; \$pump -o s --force < s 2>&1" | cat >&2; exit ${PIPESTATUS[0]}'
     note 'it stays' cmp -s src s
     try 'a file that is appended to, without /proc' 10 4 "it can't be told from the other files without /proc" 'unshare -m sh -c "umount -l /proc; \$pump -i s >> s" 2>&1 | cat >&2; exit ${PIPESTATUS[0]}'
     note 'it stays, too' cmp -s src s
-    try 'a file into a pipe, without /proc' 10 4 "it can't be told from the other files without /proc" '(unshare -m sh -c "umount -l /proc; \$pump < src" 2>&1 >&3 | cat >&2; exit ${PIPESTATUS[0]}) 3>&1 | cat > piped; exit ${PIPESTATUS[0]}'
+    try_silent 'pipe to pipe, without /proc' 10 0 'cat src | unshare -m sh -c "umount -l /proc; \$pump" | cmp - src && exit ${PIPESTATUS[1]}'
+    try_silent 'a file into a pipe, without /proc' 10 0 'unshare -m sh -c "umount -l /proc; \$pump < src" | cmp - src && exit ${PIPESTATUS[0]}'
+    try 'pipe to pipe and a sum, without /proc' 10 4 "it can't be told from the other files without /proc" '(cat src | unshare -m sh -c "umount -l /proc; \$pump --sha256" 2>&1 >&3 | cat >&2; exit ${PIPESTATUS[1]}) 3>&1 | cat > piped; exit ${PIPESTATUS[0]}'
 else
     echo 'left out, for want of unshare: no /proc'
 fi

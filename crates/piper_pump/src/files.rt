@@ -120,7 +120,7 @@ fn refuse_held(alloc: Global, target: &Target) -> Result<(), Ended> {
 }
 
 // Refuses a file that is also the input or another output, or that reports go into, and files that
-// can't be told from one another.
+// can't be told from one another; but not the standard streams alone, which nobody opens or cuts.
 fn refuse_shared<R: Files + AllocGlobal>(
     rt: &R,
     arguments: &Arguments<'_>,
@@ -137,6 +137,9 @@ fn refuse_shared<R: Files + AllocGlobal>(
         Target::Standard(_) => (Stream::Output.said(), look_at_stream(rt, Stream::Output).id),
         Target::File(sink) => (sink.name.as_str(), sink.id()),
     };
+    if id == Some(FileId::Untold) && id == input.id && tees.is_empty() {
+        return Ok(());
+    }
     add(&mut known, name, id)?;
     for tee in tees {
         if let Target::File(sink) = &tee.dest {
