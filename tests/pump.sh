@@ -425,6 +425,7 @@ done
 mkfifo fifo3
 try 'a file that got bytes before it was cut' 10 4 '^piper_pump: late: it holds bytes' '(sleep 0.5; echo precious > late; cat fifo3 > /dev/null) & $pump -i src -o late --tee fifo3; status=$?; wait; exit $status'
 note 'it keeps them' test "$(cat late)" = precious
+try_silent 'two pumps that write one file, which was empty' 10 0 ': > both; (echo second; sleep 1) | $pump --start-at 100 -o both & sleep 0.4; echo first | $pump -o both && wait $! && cmp both <(echo first; echo second)'
 if command -v strace > /dev/null; then
     echo old > old1
     echo old > old2

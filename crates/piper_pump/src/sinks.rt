@@ -65,9 +65,10 @@ impl Way {
         Ok(())
     }
 
+    // Without `--force` what another program writes there meanwhile stays, too.
     fn options(&self) -> OpenOptions {
         let mut how = OpenOptions::new();
-        how.write(true).append(self.appends);
+        how.write(true).append(self.appends || !self.overwrites);
         how
     }
 }
