@@ -522,6 +522,38 @@ if pid == 0:
 sys.exit(os.waitstatus_to_exitcode(os.waitpid(pid, 0)[1]))
 PYTHON
 try_silent 'progress in the background of a terminal that stops who writes' 20 0 'python3 behind.py'
+cat > failed.py <<'PYTHON'
+import os, pty, signal, subprocess, sys, termios, threading, time
+pid, near = pty.fork()
+if pid == 0:
+    mode = termios.tcgetattr(0)
+    mode[3] |= termios.TOSTOP
+    termios.tcsetattr(0, termios.TCSANOW, mode)
+    child = subprocess.Popen([os.environ["pump"], "--tee", "/dev/full"], stdin=subprocess.PIPE, stdout=subprocess.PIPE, preexec_fn=lambda: os.setpgid(0, 0))
+    def give():
+        for _ in range(4):
+            child.stdin.write(b"x" * 500_000)
+            child.stdin.flush()
+            time.sleep(0.2)
+        child.stdin.close()
+    threading.Thread(target=give, daemon=True).start()
+    got = []
+    taker = threading.Thread(target=lambda: got.append(child.stdout.read(2_000_000)), daemon=True)
+    taker.start()
+    taker.join(5)
+    if not got:
+        child.kill()
+        os._exit(99)
+    # It may be stopped now, as it tells of the copy.
+    os.tcsetpgrp(0, child.pid)
+    os.kill(child.pid, signal.SIGCONT)
+    os._exit(child.wait())
+told = os.read(near, 1000)
+status = os.waitstatus_to_exitcode(os.waitpid(pid, 0)[1])
+assert b"piper_pump: /dev/full: No space left" in told, told
+sys.exit(status)
+PYTHON
+try_silent 'a copy that fails in the background of such a terminal' 20 7 'python3 failed.py'
 
 # Signals.
 try 'SIGTERM' 10 143 '' 'sleep 5 | (exec $pump) & sleep 0.5; kill -TERM $(pgrep -P $$ -x piper_pump); wait $!'

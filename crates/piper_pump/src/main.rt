@@ -6,6 +6,7 @@ mod arguments;
 mod ended;
 mod files;
 mod found;
+mod front;
 mod input;
 mod lines;
 mod names;

@@ -6,11 +6,12 @@ ghost use Rattle.piper_transfer.specs.Transfer.{IsReady};
 ghost use Rattle.piper_pump.specs.Passed.{HasGot, HaveGot, Passes, has_lost_copy, lacks_some};
 
 use crate::ended::Ended;
+use crate::front::Front;
 use crate::outcome::Outcome;
 use crate::pace::Pace;
 use crate::progress::Progress;
 use crate::sums::SumLine;
-use crate::tees::{Tee, finish_all, give_all};
+use crate::tees::{Tee, finish_all, give_all, say_losses};
 use piper_transfer::{Destination, Meter, Ready, Source, TransferError, is_lasting};
 use sha2::{Digest, Sha256};
 use std::alloc::{AllocGlobal, Global};
@@ -36,6 +37,8 @@ pub struct Outlet<'a, R: Wait + Clock + Eprint, D: Destination + Drop> {
     pub outcome: &'a Arc<Outcome, Global>,
     /// What is reported between two writes, where no thread is granted that could report it.
     pub progress: Option<Progress>,
+    /// Whether a line may be printed while bytes pass.
+    front: Front,
 }
 
 impl<'a, R, D> Outlet<'a, R, D>
@@ -49,6 +52,7 @@ where
         drain: D,
         tees: Vec<Tee<D>>,
         outcome: &'a Arc<Outcome, Global>,
+        front: Front,
     ) -> Outlet<'a, R, D> {
         Outlet {
             rt,
@@ -59,6 +63,7 @@ where
             pace: None,
             outcome,
             progress: None,
+            front,
         }
     }
 
@@ -69,12 +74,12 @@ where
             → All (HasGot D.took names m) self.old.tees.items
             → All (HasGot D.took names (m ++ bytes.now)) self.new.tees.items }
     {
-        give_all(self.rt, self.tees.as_mut_slice(), bytes);
+        give_all(self.rt, self.tees.as_mut_slice(), bytes, &mut self.front);
         add_to_sum(&mut self.sum, bytes);
         keep_pace(self.rt, &mut self.pace, bytes.len());
         let (rt, outcome) = (self.rt, self.outcome);
         let meter = &outcome.meter;
-        report_if_due(rt, &mut self.progress, meter);
+        report_if_due(rt, &mut self.progress, meter, &mut self.front);
     }
 
     // How many of so many bytes may pass at once.
@@ -98,18 +103,20 @@ where
     {
         let (rt, outcome) = (self.rt, self.outcome);
         match &mut self.progress {
-            Some(progress) => progress.report(rt, &outcome.meter, true),
+            Some(progress) => progress.report(rt, &outcome.meter, &mut self.front, true),
             None => outcome.over.end(rt),
         }
     }
 
-    // Reports what is left after a transfer that ended so: the last line of progress, and the sum, as
-    // that of the file of this name, if it is wanted and all that the input gave was written.
+    // Reports what is left after a transfer that ended so: the last line of progress, the copies that
+    // failed and could not be told of before, and the sum, as that of the file of this name, if it is
+    // wanted and all that the input gave was written.
     fn report_rest(&mut self, moved: &Result<(), TransferError>, name: &str)
         ensures drain { self.new.drain ≡ self.old.drain }
         ensures tees { self.new.tees ≡ self.old.tees }
     {
         self.report_last();
+        say_losses(self.rt, self.tees.as_slice());
         if matches!(moved, Ok(()) | Err(TransferError::Read(_))) {
             self.report_sum(name);
         }
@@ -184,7 +191,7 @@ where
 
     fn flush(&mut self) -> io::Result<()> {
         self.drain.flush()?;
-        finish_all(self.rt, self.tees.as_mut_slice());
+        finish_all(self.rt, self.tees.as_mut_slice(), &mut self.front);
         Ok(())
     }
 }
@@ -201,12 +208,12 @@ fn keep_pace(clock: &impl Clock, pace: &mut Option<Pace>, count: usize) {
     }
 }
 
-fn report_if_due<R>(rt: &R, progress: &mut Option<Progress>, meter: &Meter)
+fn report_if_due<R>(rt: &R, progress: &mut Option<Progress>, meter: &Meter, front: &mut Front)
 where
     R: Wait + Clock + Eprint,
 {
     if let Some(progress) = progress {
-        progress.report_if_due(rt, meter);
+        progress.report_if_due(rt, meter, front);
     }
 }
 

@@ -1,14 +1,13 @@
 //! Lines on standard error that report how far a transfer is.
 
 use crate::ended::{Prefix, name_in};
+use crate::front::Front;
 use crate::lines::{Done, Drawn, Fill, Line};
 use crate::outcome::Outcome;
 use crate::run::{Nothing, STACK};
 use piper_transfer::{Meter, is_lasting};
 use std::alloc::{AllocError, Global};
-use std::fs::File;
 use std::io;
-use std::io::{Read, Seek};
 use std::marker::Send;
 use std::sync::{Arc, Condvar, Mutex, Wait};
 use std::thread::{Builder, Threads};
@@ -113,8 +112,6 @@ pub struct Progress {
     average: Option<u64>,
     /// Whether a line could not be printed, so that nobody reads them.
     is_unread: bool,
-    /// Where the system reports of this process, if it does.
-    stat: Option<File>,
 }
 
 /// Has a thread of its own report the transfer until it is over. It is not joined, so that a line
@@ -124,7 +121,7 @@ pub fn begin_watch<R>(
     rt: &R,
     outcome: &Arc<Outcome, Global>,
     watched: Watched,
-    stat: Option<File>,
+    front: Front,
 ) -> Option<Progress>
 where
     R: Wait + Threads + Clock + Eprint + Clone + Drop + Send + Sync + 'static,
@@ -135,26 +132,26 @@ where
         let started = Builder::new().stack_size(STACK).spawn_with(
             rt,
             Nothing,
-            move || watch(&runtime, &theirs, watched, stat),
+            move || watch(&runtime, &theirs, watched, front),
         );
         if started.is_ok() {
             return None;
         }
         outcome.over.turn(rt, Stage::Told);
     }
-    Some(Progress::new(watched, outcome.take_name(rt), None))
+    Some(Progress::new(watched, outcome.take_name(rt)))
 }
 
 // Prints a line after each pause until the transfer is over, and then one of the whole. Where nobody
 // reads them any more, it prints no more.
-fn watch<R>(rt: &R, outcome: &Outcome, watched: Watched, stat: Option<File>)
+fn watch<R>(rt: &R, outcome: &Outcome, watched: Watched, mut front: Front)
 where
     R: Wait + Clock + Eprint,
 {
-    let mut progress = Progress::new(watched, outcome.take_name(rt), stat);
+    let mut progress = Progress::new(watched, outcome.take_name(rt));
     for _ in rt.forever() {
         let is_over = outcome.over.wait(rt, Duration::from_millis(watched.pause));
-        progress.report(rt, &outcome.meter, is_over);
+        progress.report(rt, &outcome.meter, &mut front, is_over);
         if is_over || progress.is_unread {
             outcome.over.turn(rt, Stage::Told);
             return;
@@ -164,7 +161,7 @@ where
 
 impl Progress {
     /// Nothing is reported yet.
-    fn new(watched: Watched, name: Option<String>, stat: Option<File>) -> Progress {
+    fn new(watched: Watched, name: Option<String>) -> Progress {
         Progress {
             watched,
             name,
@@ -172,12 +169,11 @@ impl Progress {
             bytes: 0,
             average: None,
             is_unread: false,
-            stat,
         }
     }
 
     /// Prints a line if the pause since the last one is over, where no other thread does that.
-    pub fn report_if_due<R>(&mut self, rt: &R, meter: &Meter)
+    pub fn report_if_due<R>(&mut self, rt: &R, meter: &Meter, front: &mut Front)
     where
         R: Wait + Clock + Eprint,
     {
@@ -186,12 +182,13 @@ impl Progress {
             None => Duration::ZERO,
         };
         if Duration::from_millis(self.watched.pause) <= since && !self.is_unread {
-            self.report(rt, meter, false);
+            self.report(rt, meter, front, false);
         }
     }
 
-    /// Prints a line: of the time since the last one, or of the whole.
-    pub fn report<R>(&mut self, rt: &R, meter: &Meter, is_last: bool)
+    /// Prints a line: of the time since the last one, or of the whole. In the background of a terminal
+    /// it prints none.
+    pub fn report<R>(&mut self, rt: &R, meter: &Meter, front: &mut Front, is_last: bool)
     where
         R: Wait + Clock + Eprint,
     {
@@ -203,7 +200,7 @@ impl Progress {
         };
         let rate = rate(moved, elapsed(rt, since, self.watched.pause));
         self.average = Some(average(self.average, rate));
-        let answer = if self.watched.redraws && !is_in_front(&mut self.stat) {
+        let answer = if !front.is_ours() {
             Ok(())
         } else if self.watched.tells_number {
             eprintln!(rt; "{}", number_of(self.watched.total, bytes))
@@ -215,8 +212,7 @@ impl Progress {
         self.reported = Instant::now(rt).ok();
     }
 
-    // Prints a line, or draws one over the one before: a terminal that is too narrow cuts it off. In
-    // the background nothing is drawn, since the terminal may stop who writes there.
+    // Prints a line, or draws one over the one before: a terminal that is too narrow cuts it off.
     fn print<R>(&self, rt: &R, meter: &Meter, moved: Moved, is_last: bool) -> io::Result<()>
     where
         R: Wait + Clock + Eprint,
@@ -262,28 +258,6 @@ impl Progress {
             },
         })
     }
-}
-
-// Whether the terminal's foreground is the group of processes that this one is in, or the process has
-// no terminal, as the system reports in one line: after the name, in brackets, come its state, its
-// parent, its group, its session, its terminal and the group in front there.
-fn is_in_front(stat: &mut Option<File>) -> bool {
-    let mut place = [0u8; 1_024];
-    let Some(file) = stat else {
-        return true;
-    };
-    if file.rewind().is_err() {
-        return true;
-    }
-    let count = file.read(&mut place).unwrap_or(0);
-    let line = str::from_utf8(&place[..count]).unwrap_or("");
-    let Some((_, rest)) = line.rsplit_once(')') else {
-        return true;
-    };
-    let mut words = rest.split_whitespace().skip(2);
-    let group = words.next();
-    let front = words.nth(2);
-    front == Some("-1") || front == group
 }
 
 // How long ago that was, or so many milliseconds if the clock does not tell.

@@ -6,6 +6,7 @@ use crate::arguments::{Arguments, Texts, read_words};
 use crate::ended::{EndNames, Ended};
 use crate::files::{Ends, find_all, open_all};
 use crate::found::Stream;
+use crate::front::Front;
 use crate::input::{Part, begin, part_of, seek_past, size_of_part};
 use crate::numbers::{Numbers, named, numbers_of, refuse_dashes};
 use crate::outcome::Outcome;
@@ -113,13 +114,13 @@ where
         Ok(ready) => ready,
         Err(error) => return Err(Ended::of(Err(error), false)),
     };
-    let mut outlet = Outlet::new(rt, drain, tees, outcome);
+    let front = Front::new(rt, streams.redraws);
+    let mut outlet = Outlet::new(rt, drain, tees, outcome, front);
     outlet.pace = numbers.rate.map(Pace::new);
     if arguments.shows_sum {
         outlet.sum = Some(Sha256::new());
     }
     if arguments.reports_progress() {
-        let stat = File::open(rt, "/proc/self/stat").ok();
         let watched = Watched {
             capacity: numbers.sizes.capacity,
             total,
@@ -128,7 +129,8 @@ where
             pause: numbers.pause,
             begun: Instant::now(rt).ok(),
         };
-        outlet.progress = begin_watch(rt, outcome, watched, stat);
+        let front = Front::new(rt, streams.redraws);
+        outlet.progress = begin_watch(rt, outcome, watched, front);
     }
     if let Err(ended) = begin_all(rt, &mut part.0, skip, &mut outlet) {
         ready.drop();

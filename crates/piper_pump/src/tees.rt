@@ -4,6 +4,7 @@ ghost use Rattle.std.specs.List.{All};
 ghost use Rattle.piper_pump.specs.Passed.{HasGot};
 ghost use Rattle.piper_transfer.specs.Taken.{TakesMore};
 
+use crate::front::Front;
 use crate::names::Shown;
 use piper_transfer::{Destination, flush_patiently, write_patiently};
 use std::fmt::{Display, Formatter};
@@ -53,8 +54,8 @@ impl<D: Destination + Drop> Tee<D> {
     }
 
     // Writes all these bytes. If that fails, it reports so, once, by the file's name, and the file
-    // gets no more. If nobody reads reports now, this one waits for the end.
-    fn give<R: Wait + Clock + Eprint>(&mut self, rt: &R, bytes: &[u8])
+    // gets no more. If none may be printed now, this one waits for the end.
+    fn give<R: Wait + Clock + Eprint>(&mut self, rt: &R, bytes: &[u8], front: &mut Front)
         ensures { (names : List (List ℕ)) (m : List ℕ) → HasGot D.took names m self.old
             → HasGot D.took names (m ++ bytes.now) self.new }
     {
@@ -63,35 +64,41 @@ impl<D: Destination + Drop> Tee<D> {
         }
         match write_all(rt, &mut self.dest, bytes) {
             Ok(()) => {}
-            Err(error) => self.give_up(rt, error),
+            Err(error) => self.give_up(rt, error, front),
         }
     }
 
-    // Flushes the file, likewise. What is still to be said is said now, since all bytes have passed.
-    fn finish<R: Wait + Clock + Eprint>(&mut self, rt: &R)
+    // Flushes the file, likewise.
+    fn finish<R: Wait + Clock + Eprint>(&mut self, rt: &R, front: &mut Front)
         ensures { (names : List (List ℕ)) (m : List ℕ) → HasGot D.took names m self.old
             → HasGot D.took names m self.new }
     {
-        if !self.has_failed {
-            match flush_patiently(rt, &mut self.dest) {
-                Ok(()) => {}
-                Err(error) => self.give_up(rt, error),
-            }
+        if self.has_failed {
+            return;
         }
-        if let Some(error) = self.unsaid {
-            let name = self.name.as_str();
-            let _ = rt.eprintln(Loss { name, error });
-            self.unsaid = None;
+        match flush_patiently(rt, &mut self.dest) {
+            Ok(()) => {}
+            Err(error) => self.give_up(rt, error, front),
         }
     }
 
-    fn give_up(&mut self, rt: &impl Eprint, error: io::Error)
+    fn give_up(&mut self, rt: &impl Eprint, error: io::Error, front: &mut Front)
         ensures { self.new.has_failed ≡ true }
     {
         self.has_failed = true;
         let name = self.name.as_str();
-        if rt.eprintln(Loss { name, error }).is_err() {
+        if !front.is_ours() || rt.eprintln(Loss { name, error }).is_err() {
             self.unsaid = Some(error);
+        }
+    }
+}
+
+/// Says of each file that failed how it did, if that is still to be said. All bytes have passed.
+pub fn say_losses<D: Destination + Drop>(rt: &impl Eprint, tees: &[Tee<D>]) {
+    for tee in tees {
+        if let Some(error) = tee.unsaid {
+            let name = tee.name.as_str();
+            let _ = rt.eprintln(Loss { name, error });
         }
     }
 }
@@ -119,7 +126,7 @@ where
 }
 
 /// Gives each file these bytes.
-pub fn give_all<R, D>(rt: &R, tees: &mut [Tee<D>], bytes: &[u8])
+pub fn give_all<R, D>(rt: &R, tees: &mut [Tee<D>], bytes: &[u8], front: &mut Front)
 where
     R: Wait + Clock + Eprint,
     D: Destination + Drop,
@@ -127,12 +134,12 @@ where
         → All (HasGot D.took names (m ++ bytes.now)) tees.new }
 {
     for tee in tees.iter_mut() {
-        tee.give(rt, bytes);
+        tee.give(rt, bytes, front);
     }
 }
 
 /// Flushes each file.
-pub fn finish_all<R, D>(rt: &R, tees: &mut [Tee<D>])
+pub fn finish_all<R, D>(rt: &R, tees: &mut [Tee<D>], front: &mut Front)
 where
     R: Wait + Clock + Eprint,
     D: Destination + Drop,
@@ -140,6 +147,6 @@ where
         → All (HasGot D.took names m) tees.new }
 {
     for tee in tees.iter_mut() {
-        tee.finish(rt);
+        tee.finish(rt, front);
     }
 }
