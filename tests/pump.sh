@@ -463,7 +463,7 @@ try_silent 'a rate after a pause' 10 0 'python3 burst.py'
 # As a user of a shell expects.
 try 'errors that go where the bytes go' 10 0 '' '$pump src > log 2>&1 && cmp log src'
 try 'an output that is standard error, if a sum is told' 10 4 '' '$pump --sha256 src > log 2>&1; status=$?; cat log >&2; exit $status'
-try 'a help whose reader left' 10 141 '' '$pump --help | true; exit ${PIPESTATUS[0]}'
+try 'a help whose reader left' 10 141 '' '(sleep 0.5; exec $pump --help) | true; exit ${PIPESTATUS[0]}'
 note 'it is silent' test ! -s told
 try 'a FIFO as the input and the output' 5 4 'it is also the input, another output' 'mkfifo fifo4; $pump -i fifo4 -o fifo4'
 for words in '--skip 00' '--skip 0K' '--stop-after 0K' '--size 0K' '--size 00'; do
