@@ -57,7 +57,6 @@ SEALS = {
     "as_put": ("piper_ring/specs/Loads", of_sides("register")),
     "as_taken_back": ("piper_ring/specs/Loads", of_sides("cancel", "register")),
     "as_taken": ("piper_ring/specs/Loads", of_sides("take") + FINISHES),
-    "as_finished": ("piper_ring/specs/Log", FINISHES),
     "as_gone": (
         "piper_ring/specs/Loads",
         [f"piper_ring/proofs/ring/seats/{seat}/leave" for seat in ("ReadSeat", "WriteSeat")],

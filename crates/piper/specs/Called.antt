@@ -1,5 +1,5 @@
 -- What became of the wakers that a side took out of a slot.
-use Rattle.std.specs.Prelude.{⊤, ◌≡◌, ℕ, ◌⊎◌, true, false, List, [], ◌∷◌, Option, Some, None, IfSome, is_some}
+use Rattle.std.specs.Prelude.{⊤, ◌≡◌, ℕ, ◌⊎◌, true, List, [], ◌∷◌, Option, Some, None, IfSome, is_some}
 use Rattle.futures.specs.Task.{Wakes}
 use Rattle.futures.specs.declared.task.context.Context.{Context}
 use Rattle.futures.specs.declared.task.waker.Waker.{Waker}
@@ -75,7 +75,7 @@ pub record RegistersTask (a b : SlotsView) (old left : Context) : Type 0 where
 pub record HasDropped (names : Names) (start : Point) (before : Log) : Type 0 where
   pub taken : Option Waker
   pub after : Log
-  pub leaves : HasLeft names taken after
+  pub leaves : HasLeft (is_some taken) before after
   pub ran : Opened start (then (then (goes_on start) Nothing) (found_waker (is_some taken))) before after
   pub called : IfSome taken WasCalled
   pub left : LeftWakers Waker

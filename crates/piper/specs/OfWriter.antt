@@ -2,6 +2,7 @@
 use Rattle.std.specs.Prelude.{ℕ, List, Bool}
 use Rattle.piper_ring.specs.Shared.{Ring}
 use Rattle.piper_ring.specs.WriteView.{WriteView}
+use Rattle.piper_protocol.specs.OneList.{Access}
 use Rattle.piper_ring.specs.Log.{Log}
 use Rattle.piper_ring.specs.SlotsView.{SlotsView}
 use Rattle.piper.specs.declared.handles.Writer.{Writer}
@@ -49,3 +50,7 @@ slots writer = writer.side.slots
 -- what it did, call by call
 abbrev pub log : Writer → Log
 log writer = writer.side.log
+
+-- all its accesses to what both sides share, the last first
+abbrev pub accesses : Writer → List Access
+accesses writer = writer.side.log.did

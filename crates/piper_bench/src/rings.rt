@@ -1,7 +1,7 @@
 //! Bytes move through a ring, on one thread in turn or between two.
 ghost use Rattle.std.specs.Prelude.{length, slice_index_or, min, max, ◌≡◌, ◌<◌, ◌≤◌, ◌/◌, ◌+◌, ◌*◌, ◌%◌, ◌^◌};
 
-use piper::{ReadEnd, WriteEnd};
+use piper::{Logged, ReadEnd, WriteEnd};
 use rtrb::{Consumer, Producer};
 use std::sync::Wait;
 use std::thread;
@@ -118,40 +118,40 @@ pub trait Output {
         ensures { result ≤ length place.old };
 }
 
-impl Input for WriteEnd {
+impl Input for Logged<WriteEnd> {
     #[inline(always)]
     fn put<C: Copying>(&mut self, bytes: &[u8]) -> usize {
-        self.load_head_if_full();
-        let buf = self.write_buf(bytes.len());
+        self.end.load_head_if_full(&mut self.log);
+        let buf = self.end.write_buf(bytes.len());
         let n = buf.len();
         // A whole piece has a branch of its own: there the count is known before the ring's indices
         // are.
         if n == bytes.len() {
             C::copy_in(buf, bytes);
-            self.store_tail(bytes.len());
+            self.end.store_tail(bytes.len(), &mut self.log);
         } else if n != 0 {
             copy_cut(buf, &bytes[..n]);
-            self.store_tail(n);
+            self.end.store_tail(n, &mut self.log);
         }
         n
     }
 }
 
-impl Output for ReadEnd {
+impl Output for Logged<ReadEnd> {
     #[inline(always)]
     fn get<C: Copying>(&mut self, place: &mut [u8]) -> usize {
-        self.load_tail_if_empty();
-        let piece = self.peek_buf();
+        self.end.load_tail_if_empty(&mut self.log);
+        let piece = self.end.peek_buf();
         let n = piece.len();
         // As in `put`.
         if place.len() <= n {
             C::copy_out(place, &piece[..place.len()]);
-            self.store_head(place.len());
+            self.end.store_head(place.len(), &mut self.log);
             return place.len();
         }
         if n != 0 {
             copy_cut(&mut place[..n], piece);
-            self.store_head(n);
+            self.end.store_head(n, &mut self.log);
         }
         n
     }

@@ -10,7 +10,7 @@ use crate::through::through_pipe;
 use crate::to_and_fro::{Ends, Handles, Streams, to_and_fro};
 use crossbeam_channel::{Receiver, Sender, bounded};
 use futures::test::MockTask;
-use piper::{OutOfMemory, OwnedReader, OwnedWriter, ReadEnd, WriteEnd, open_ring, pipe};
+use piper::{Logged, OutOfMemory, OwnedReader, OwnedWriter, ReadEnd, WriteEnd, open_ring, pipe};
 use piper_tokio::{CompatReader, CompatWriter};
 use rtrb::RingBuffer;
 use std::alloc::AllocError;
@@ -292,7 +292,7 @@ where
 fn ring_of(
     rt: &(impl Wait + Threads + Clock + Print + AllocGlobal + Sync),
     work: Work,
-) -> Result<(ReadEnd, WriteEnd), AllocError> {
+) -> Result<(Logged<ReadEnd>, Logged<WriteEnd>), AllocError> {
     match open_ring(rt.alloc(), work.capacity) {
         Ok(ends) => Ok(ends),
         Err(OutOfMemory) => Err(AllocError),

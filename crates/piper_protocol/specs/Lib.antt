@@ -5,3 +5,4 @@ pub mod WriterIndices
 pub mod Reported
 pub mod Answer
 pub mod Table
+pub mod OneList

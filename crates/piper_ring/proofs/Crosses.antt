@@ -5,7 +5,9 @@ use Rattle.std.proofs.Crossing.{frees}
 use Rattle.piper_ring.specs.Block.{purpose, size_of_block}
 use Rattle.piper_cells.specs.Space.{lease}
 use Rattle.piper_ring.specs.Shared.{rights, slot_of, spare}
-use Rattle.std.proofs.Common.{slice_index}
+use Rattle.std.proofs.Common.{slice_index, is_some}
+use Rattle.piper_protocol.specs.OneList.{Access}
+use Rattle.piper_ring.specs.Trace.{did_owns}
 use Rattle.piper_ring.proofs.Evidence.{evidence-Keyless}
 use Rattle.piper_cells.proofs.CellCrosses.{right-Keyless}
 use Rattle.piper_ring.proofs.PlacesLaws.{run-Keyless, span-Keyless}
@@ -13,6 +15,10 @@ use Rattle.piper_ring.proofs.PlacesLaws.{run-Keyless, span-Keyless}
 pub where-Keyless : (b : Bool) (F : Fml) → Keyless F → Keyless (where_gone b F)
 where-Keyless false F k = tt
 where-Keyless true F k = k
+
+pub did-Keyless : (names : List ℕ) (keeps reads : Bool) (did : List Access) → Keyless (did_owns names keeps reads did)
+did-Keyless names true reads did = tt
+did-Keyless names false reads did = tt
 
 module _ (w p : Ptr) (z : Names) where
   writer-Keyless : (q : Share) (l : List ℕ) (n : ℕ) (b : Bool) (i : ℕ) → Keyless (writer_knows w p z q l n b i)
@@ -28,7 +34,7 @@ module _ (w p : Ptr) (z : Names) where
   ends-Keyless b = tt
 
   slot-Keyless : (r : Bool) → Keyless (slot_of w p z r)
-  slot-Keyless r s = ((λ _. tt), (tt, (right-Keyless true (slice_index z.cells s.0) s.1, λ b. ((λ _. tt), (evidence-Keyless z r b.1.1, (tt, tt))))))
+  slot-Keyless r s = ((λ _. tt), ((tt, tt), (right-Keyless true (slice_index z.cells s.0) (is_some s.1), λ b. ((λ _. tt), (evidence-Keyless z r b.1.1, (tt, tt))))))
 
   slots-Keyless : Keyless (slots w p z)
   slots-Keyless = (slot-Keyless true, slot-Keyless false)
@@ -49,7 +55,7 @@ module _ (w p : Ptr) (z : Names) where
 
   memory-Keyless : IsSend u8 → (u : State) → Keyless (memory w p z u)
   memory-Keyless s u = (
-    (tt, (tt, (tt, tt))),
+    ((tt, tt), ((tt, tt), ((tt, tt), tt))),
     (
       run-Keyless p z.capacity s u.seen (drop_list u.seen u.sent),
       (
@@ -63,7 +69,7 @@ module _ (w p : Ptr) (z : Names) where
   inner-Keyless s u = ((λ _. tt), ((writer-Keyless _ _ _ _ _, (reader-Keyless _ _ _ _, ends-Keyless _)), unless-Keyless (gone u.reader_stage) (gone u.writer_stage) (memory w p z u) (memory-Keyless s u)))
 
   common-Keyless : Keyless (common w p z)
-  common-Keyless = let s : IsSend u8 = search sendable in ((λ _. tt), inner-Keyless s)
+  common-Keyless = let s : IsSend u8 = search sendable in ((λ _. tt), (inner-Keyless s, λ turns. ((λ _. tt), ((tt, tt), (tt, (tt, (tt, (tt, tt))))))))
 
   arrived-Keyless : (k : ℕ) (l : List ℕ) → Keyless (arrived_first w p z k l)
   unfolding at_least

@@ -50,13 +50,13 @@ pub use Rattle.core.specs.Sync.RawAtomic.{asks, always}
 pub use Rattle.logbook.proofs.Fields.{lends_twice}
 pub use Rattle.piper_protocol.specs.ReaderIndices.{ReaderIndices}
 pub use Rattle.piper_protocol.specs.WriterIndices.{WriterIndices, room_in, left_in}
-pub use Rattle.piper_ring.proofs.Fields.{pointer_val, pointer_told, PointerData, pointer_made, ghost_coded, ghost_shared, lent_val, lent_told, lent_made, LentData, seven_val, seven_of, eight_val, eight_of}
+pub use Rattle.piper_ring.proofs.Fields.{pointer_val, pointer_told, PointerData, pointer_made, ghost_coded, ghost_shared, lent_val, lent_told, lent_made, LentData, nine_val, nine_of, eight_val, eight_of}
 pub use Rattle.piper_ring.specs.Block.{heap_token, words_type}
 pub use Rattle.piper_ring.specs.Places.{byte, unset, place, run_lent, places_lent}
 pub use Rattle.piper_ring.specs.ReadView.{ReadView, read_view_of, in_one_piece}
-pub use Rattle.piper_ring.specs.Shared.{announced, raised, Names, State, Holds, half, other, flag, word, writer_knows, reader_knows, ends, Inner, common, slots, deeds, gone, where_gone, until_both, arrived_first, blanks, memory, reader_owns, reader_lends, writer_owns, writer_lends, took, idle, word_room, slot_rooms, all_rooms, state_holds, began, RingIsPlaced, Known, by_reader, by_writer, knows, evidence, slot_word, waits_in, wakes_in, lent_by, ring_of}
+pub use Rattle.piper_ring.specs.Shared.{announced, raised, Names, State, Holds, half, other, flag, mirrored, word, writer_knows, reader_knows, ends, Inner, Whole, common, slots, deeds, gone, where_gone, until_both, arrived_first, blanks, memory, reader_owns, reader_lends, writer_owns, writer_lends, took, idle, word_room, slot_rooms, all_rooms, state_holds, began, RingIsPlaced, Known, by_reader, by_writer, knows, evidence, slot_word, waits_in, wakes_in, lent_by, ring_of}
 pub use Rattle.piper_ring.specs.SlotValues.{of_waits, of_wakes}
-pub use Rattle.piper_ring.specs.Slot.{Stored, as_stored, nothing_stored, stored_code, Lying, number, is_odd, Waits, Wakes, AreAt, Exchanges, IsTicket, IsRemembered, waits_code, wakes_code, both_at, both, cell, slot_at, slot}
+pub use Rattle.piper_ring.specs.Slot.{Stored, as_stored, nothing_stored, stored_code, Filled, filled, Lying, ticket_if, number, is_odd, Waits, Wakes, AreAt, Exchanges, IsTicket, IsRemembered, waits_code, wakes_code, both_at, both, cell, slot_at, slot}
 pub use Rattle.piper_ring.specs.Streams.{Stream, Reaches, streams, reaches_same, open_reaches, reaches_trans}
 pub use Rattle.piper_ring.specs.WriteView.{WriteView}
 pub use Rattle.rtrb.proofs.Asks.{Lies}

@@ -1,11 +1,15 @@
 -- An end leaves: it closes the ring, and then gives up its places; the second one to leave gets all
 -- of the memory. Assumes `Logic`.
-use Rattle.piper_ring.proofs.Kit.{fwand, ◌<◌, Lying, slot_word, slot_rooms, ◌≡◌, ℕ, zero, suc, ◌+◌, ◌-◌, ◌*◌, ◌≤◌, Bool, true, false, List, [], ◌∷◌, length, sym, refl, ap, ◌∙◌, subst, arith, Ura, numbers, latest, SProp, ent, sep, upd, ex, via, upd_i, Share, Fml, ftrue, fsep, Logic, sem, latest_grows, latest_shows, ‵, raw, ◌⊛◌, some, given, ◌$◌, ◌∵◌, !, qed, by, move, keep, split, split3, fsplit, fsplit3, fjoin, fjoin3, fpick, fpack, pick, learn, show, frame, assume, settle, suffices, rewrite, use1, use2, use3, done, drop as forget, Ptr, block_ptr, block_of, count_of, nothing, asks, always, Lies, length-drop, span_join, span_map, span, array_of, Ty, w64, ty_int, lone, apply∗, id⊢, froom, fex, unset, full_share, u8, slot_of as offset_of, Names, State, Holds, half, other, flag, gone, until_both, where_gone, word, word_room, all_rooms, slots, blanks, memory, writer_knows, reader_knows, ends, raised, state_holds, Inner, common, drop_list}
+use Rattle.piper_ring.proofs.Kit.{position_of, fwand, ◌<◌, Filled, filled, slot_word, slot_rooms, ◌≡◌, ℕ, zero, suc, ◌+◌, ◌-◌, ◌*◌, ◌≤◌, Bool, true, false, List, [], ◌∷◌, length, sym, refl, ap, ◌∙◌, subst, arith, Ura, numbers, latest, SProp, ent, sep, upd, ex, via, upd_i, Share, Fml, ftrue, fsep, Logic, sem, latest_grows, latest_shows, ‵, raw, ◌⊛◌, some, given, ◌$◌, ◌∵◌, !, qed, by, move, keep, split, split3, fsplit, fsplit3, fjoin, fjoin3, fpick, fpack, pick, learn, show, frame, assume, settle, suffices, rewrite, use1, use2, use3, done, drop as forget, Ptr, block_ptr, block_of, count_of, nothing, asks, always, Lies, length-drop, span_join, span_map, span, array_of, Ty, w64, ty_int, lone, apply∗, id⊢, froom, fex, unset, full_share, u8, slot_of as offset_of, Names, State, Holds, half, other, flag, gone, until_both, where_gone, word, word_room, all_rooms, slots, blanks, memory, writer_knows, reader_knows, ends, raised, state_holds, Inner, common, drop_list}
 use Rattle.rtrb.proofs.Spans.{ring_in}
 use Rattle.piper_ring.proofs.PlacesParts.{forgets}
 use mir.Raw.{raw as bare}
 use Rattle.piper_ring.specs.Places.{fact}
-use Rattle.piper_ring.proofs.Steps.{flag_small, Rest, OneStays, ReaderSees, WriterSees, reader_opens, writer_opens, closes, inside, raise}
+use Rattle.std.specs.Coded.{Coded, coded_ℕ, coded_bool}
+use Rattle.piper_ring.specs.Shared.{closed_is, mirrored}
+use Rattle.piper_ring.specs.Trace.{bytes_code, closed_name, head_name, tail_name}
+use Rattle.piper_ring.specs.declared.log.Log.{Log}
+use Rattle.piper_ring.proofs.Steps.{Closed, ClosedAt, Kept, closed_stored_noted, flag_small, Rest, OneStays, ReaderSees, WriterSees, reader_opens, writer_opens, closes, inside, raise}
 use Rattle.piper_cells.specs.Space.{lease}
 use Rattle.piper_ring.specs.Block.{space_room}
 use Rattle.piper_ring.specs.Shared.{block_room, bytes_room, found_left, four_rooms, frame as frame_of, leases, left_in, one_gone, slot_of as slot_in, titles, wakers_left, whole}
@@ -79,10 +83,14 @@ module _ {M : Type 1} {𝓤 : Ura M} (𝓛 : Logic 𝓤) (w p : Ptr) (z : Names)
   abbrev u : Ty
   u = ty_int w64
 
+  -- a word is room again
+  rooms : {X : Type 0} (c : Coded X) (γ d n : ℕ) (x : X) → ⟦ mirrored c γ w d n x ⟧ ⊢ ⟦ word_room w d ⟧
+  rooms c γ d n x = qed 𝓛 (‵ (mirrored c γ w d n x) ∷ []) ∵ fsplit ! $ keep ! (0 ∷ []) $ by ! (𝓛.laws.at_room u (block_of w) (d + count_of w) _)
+
   -- a slot's word says which cell lies there
   left_of : (r : Bool) → ⟦ slot_in w p z r ⟧ ⊢ ⟦ left_in w p z (slot_word r * 8) ⟧
-  left_of r = qed 𝓛 (‵ (slot_in w p z r) ∷ []) ∵ fpick ! (λ s. fsplit3 ! $ fpick ! (λ there. forget ! $ move ! (1 ∷ []) $ fsplit ! $ move ! (1 ∷ []) $ forget ! $ move ! (1 ∷ 0 ∷ []) $ fjoin ! $
-      nothing ! $ fpack ! (s.0 < 4) (λ _. ftrue) there $ fjoin ! $ fpack ! Lying (found_left w p z (slot_word r * 8)) s $ done !))
+  left_of r = qed 𝓛 (‵ (slot_in w p z r) ∷ []) ∵ fpick ! (λ s. fsplit3 ! $ fpick ! (λ there. forget ! $ fsplit ! $ move ! (2 ∷ []) $ fsplit ! $ keep ! (2 ∷ 0 ∷ []) $ fjoin ! $
+      nothing ! $ fpack ! (s.0 < 4) (λ _. ftrue) there $ fjoin ! $ fpack ! Filled (found_left w p z (slot_word r * 8)) (filled s) $ done !))
 
   slots_end : ⟦ slots w p z ⟧ ⊢ ⟦ wakers_left w p z ⟧
   slots_end = qed 𝓛 (‵ (slots w p z) ∷ []) ∵ fsplit ! $ use1 𝓛 (‵ (left_in w p z 144)) (left_of true) $ move ! (1 ∷ []) $ use1 𝓛 (‵ (left_in w p z 112)) (left_of false) $ move ! (1 ∷ 0 ∷ []) $ fjoin ! $ done !
@@ -102,8 +110,8 @@ module _ {M : Type 1} {𝓤 : Ura M} (𝓛 : Logic 𝓤) (w p : Ptr) (z : Names)
   gathers : (s : State) → Holds cap s → gone s.reader_stage ≡ true → gone s.writer_stage ≡ true → ⟦ memory w p z s ⟧ ⊢ ⟦ whole w p z ⟧
   gathers s so gr gw = let b : ℕ = block_of w in let o : ℕ = count_of w in let known = so.known in let arrived = so.arrived in let written = so.written in let freed = so.freed in let sl : ℕ = length s.sent in let pend : List ℕ = drop_list s.seen s.sent in let pl : length pend ≡ sl - s.seen = length-drop s.seen s.sent in
       qed 𝓛 (‵ (memory w p z s) ∷ []) ∵ fsplit ! $ fsplit3 ! $ move ! (2 ∷ []) $ fsplit ! $
-      use1 𝓛 (‵ (word_room w 136)) (𝓛.laws.at_room u b (136 + o) _) $ move ! (1 ∷ []) $ use1 𝓛 (‵ (word_room w 0)) (𝓛.laws.at_room u b (0 + o) _) $ move ! (2 ∷ []) $
-      use1 𝓛 (‵ (word_room w 8)) (𝓛.laws.at_room u b (8 + o) _) $ move ! (3 ∷ []) $ use1 𝓛 (‵ (word_room w 208)) (𝓛.laws.at_room u b (208 + o) _) $
+      use1 𝓛 (‵ (word_room w 136)) (rooms coded_bool (closed_name z.traced) 136 (flag s.closed) s.closed) $ move ! (1 ∷ []) $ use1 𝓛 (‵ (word_room w 0)) (𝓛.laws.at_room u b (0 + o) _) $ move ! (2 ∷ []) $
+      use1 𝓛 (‵ (word_room w 8)) (rooms coded_ℕ (head_name z.traced) 8 (position_of cap s.head) s.head) $ move ! (3 ∷ []) $ use1 𝓛 (‵ (word_room w 208)) (rooms bytes_code (tail_name z.traced) 208 (position_of cap sl) s.sent) $
       move ! (3 ∷ 2 ∷ []) $ fjoin ! $ move ! (2 ∷ 1 ∷ 0 ∷ []) $ fjoin3 ! $ move ! (1 ∷ []) $ fsplit ! $ move ! (1 ∷ []) $ fsplit3 ! $ move ! (2 ∷ []) $ fsplit ! $
       rewrite ! 0 (λ (c : Bool). ‵ (where_gone c (blanks w p z sl (s.limit - sl)))) gw refl $ rewrite ! 3 (λ (c : Bool). ‵ (where_gone c (blanks w p z s.head (s.seen - s.head)))) gr refl $
       move ! (2 ∷ []) $ fpick ! (λ ys. fsplit ! $ fpick ! (λ ly. forget ! $ let size : length ys ≡ s.head + cap - s.limit = ly in
@@ -161,9 +169,10 @@ module _ {M : Type 1} {𝓤 : Ura M} (𝓛 : Logic 𝓤) (w p : Ptr) (z : Names)
   IsClosing head seen = fsep (raised z.closed true) (RK half head seen 1)
 
   -- the reader closes the ring, as it is about to leave
-  pub reader_closes : (head seen i : ℕ) → i ≤ 1 → ⟦ C ⟧ ∗ ⟦ RK half head seen i ⟧ ⊢ access 136 one (λ _. IsClosing head seen)
-  reader_closes head seen i le = let Then : Fml = IsClosing head seen in let Z : Pr = ex 𝓤 (Holding 136 one (λ _. Then)) in
-      inside 𝓛 w p z 136 one (λ _. Then) ⟦ RK half head seen i ⟧ (qed 𝓛 (‵ I ∷ ‵ (RK half head seen i) ∷ []) ∵
+  pub reader_closes : (head seen i : ℕ) → i ≤ 1 → (k : Log) → k.keeps ≡ true → k.names ≡ z
+      → ⟦ C ⟧ ∗ ⟦ RK half head seen i ⟧ ∗ ⟦ Kept 𝓛 w p z k k.did ⟧ ⊢ access 136 one (Closed 𝓛 w p z k (IsClosing head seen))
+  reader_closes head seen i le k kept own = let Then : Fml = IsClosing head seen in let At : Bool → Pr = ClosedAt 𝓛 w p z (λ c. c) one (λ _. true) (λ _ _. Then) in let Z : Pr = ex 𝓤 At in
+      closed_stored_noted 𝓛 w p z Then ⟦ RK half head seen i ⟧ (qed 𝓛 (‵ I ∷ ‵ (RK half head seen i) ∷ []) ∵
       use2 𝓛 (some (λ (s : State). given (ReaderSees 𝓛 w p z head seen i s) (‵ (RK half head seen i) ⊛ ‵ (RK other s.head s.seen s.reader_stage) ⊛ ‵ (WK other s.sent s.limit s.shut s.writer_stage) ⊛ ‵ (Rest 𝓛 w p z s)))) (reader_opens 𝓛 w p z half head seen i le) $ pick ! (λ s. learn ! (λ so. split3 ! $
       let ei = so.3 in let last = so.0.stages.1 in let small = flag_small s.closed in let s' : State = record s { closed = true; reader_stage = 1 } in let near : OneStays 𝓛 w p z s' = omega arith in
       let so' : Holds cap s' = record { known = so.0.known; arrived = so.0.arrived; written = so.0.written; freed = so.0.freed; closing = omega arith; shutting = flag_small s.shut; stages = (omega arith, last) } in
@@ -173,11 +182,11 @@ module _ {M : Type 1} {𝓤 : Ura M} (𝓛 : Logic 𝓤) (w p : Ptr) (z : Names)
       settle 𝓛 Z (‵ (latest numbers half z.reader_stage 1) ⊛ ‵ (latest numbers other z.reader_stage 1)) $ suffices ! _ (upd_i 𝓤 Z) $ split ! $
       move ! (7 ∷ 0 ∷ []) $ fjoin ! $ move ! (0 ∷ 7 ∷ []) $ fjoin ! $ move ! (5 ∷ 1 ∷ []) $ fjoin ! $ move ! (0 ∷ 5 ∷ []) $ fjoin ! $ move ! (3 ∷ []) $ fsplit ! $ fsplit3 ! $ move ! (2 ∷ []) $ fsplit ! $ move ! (1 ∷ []) $
       rewrite ! 0 (λ (c : Bool). ‵ (word w 0 (one_gone c (gone s.writer_stage)))) {x = false} {y = gone s.reader_stage} (here s.reader_stage (omega arith)) refl $ move ! (1 ∷ []) $
-      show ! (Holding 136 one (λ _. Then)) (flag s.closed) $ frame ! $ assume ! (‵ (word w 136 1)) $ suffices ! _ (upd_i 𝓤 (⟦ I ⟧ ∗ ⟦ Then ⟧)) $
+      show ! At s.closed $ frame ! $ assume ! (‵ (closed_is w p z 1 true)) $ suffices ! _ (upd_i 𝓤 (⟦ I ⟧ ∗ ⟦ Then ⟧)) $
       fjoin ! $ move ! (1 ∷ 2 ∷ 0 ∷ []) $ fjoin3 ! $ move ! (1 ∷ []) $ fsplit ! $ move ! (1 ∷ []) $ fsplit3 ! $ move ! (1 ∷ []) $
       rewrite ! 0 (λ (c : Bool). ‵ (where_gone c (blanks w p z s.head (s.seen - s.head)))) {x = false} {y = gone s.reader_stage} (here s.reader_stage (omega arith)) refl $
       rewrite ! 2 (λ (c : Bool). ‵ (fsep (where_gone (gone s.writer_stage) (blanks w p z (length s.sent) (s.limit - length s.sent))) (fsep (fsep (titles w p z) (leases w p z c (gone s.writer_stage))) (slots w p z)))) {x = false} {y = gone s.reader_stage} (here s.reader_stage (omega arith)) refl $
-      move ! (1 ∷ 0 ∷ 2 ∷ []) $ fjoin3 ! $ move ! (1 ∷ 0 ∷ []) $ fjoin ! $ move ! (1 ∷ 0 ∷ []) $ fjoin ! $ move ! (3 ∷ []) $ use1 𝓛 (‵ (ends w p z true) ⊛ ‵ (raised z.closed true)) (latest_shows numbers 𝓛 full_share z.closed 1 1 (omega arith)) $ split ! $ move ! (0 ∷ 2 ∷ []) $ fjoin ! $ move ! (4 ∷ 2 ∷ 0 ∷ []) $ use3 𝓛 (‵ I) (closes 𝓛 w p z s' so' near) $ frame ! $ fjoin ! $ done !)))
+      move ! (1 ∷ 0 ∷ 2 ∷ []) $ fjoin3 ! $ move ! (1 ∷ 0 ∷ []) $ fjoin ! $ move ! (1 ∷ 0 ∷ []) $ fjoin ! $ move ! (3 ∷ []) $ use1 𝓛 (‵ (ends w p z true) ⊛ ‵ (raised z.closed true)) (latest_shows numbers 𝓛 full_share z.closed 1 1 (omega arith)) $ split ! $ move ! (0 ∷ 2 ∷ []) $ fjoin ! $ move ! (4 ∷ 2 ∷ 0 ∷ []) $ use3 𝓛 (‵ I) (closes 𝓛 w p z s' so' near) $ frame ! $ fjoin ! $ done !))) k kept own
 
   abbrev no_writer : State → State
   no_writer t = record t { writer_stage = 2 }

@@ -9,6 +9,7 @@ pub mod Rights
 pub mod Reaching
 pub mod Evidence
 pub mod Crosses
+pub mod Trace
 pub mod Steps
 pub mod LoadIfNone
 pub mod Reclaim

@@ -1,10 +1,10 @@
 -- The places of the bytes that the reader saw published come to it, with no step of the program.
 -- Assumes `Logic`.
-use Rattle.piper_ring.proofs.Kit.{◌≡◌, ℕ, ◌+◌, ◌-◌, ◌≤◌, Bool, false, List, [], ◌∷◌, ◌++◌, length, take, sym, refl, ap, ◌∙◌, length-append, append_assoc, arith, take-append_seam, Ura, Order, numbers, latest, SProp, ent, sep, ex, guard, upd, upd_i, Share, Fml, Logic, sem, latest_bounds, latest_shows, ‵, raw, ◌⊛◌, some, given, ◌$◌, ◌∵◌, !, qed, move, keep, split, split3, fsplit, fsplit3, fjoin, fjoin3, pick, learn, check, show, frame, assume, settle, suffices, rewrite, use1, use2, use3, done, drop as forget, Ptr, run, byte, Names, State, Holds, half, other, flag, gone, where_gone, blanks, announced, began, writer_knows, reader_knows, Inner, common, Stream, Reaches, streams, open_reaches, drop_list}
+use Rattle.piper_ring.proofs.Kit.{◌≡◌, ℕ, ◌+◌, ◌-◌, ◌≤◌, Bool, false, List, [], ◌∷◌, ◌++◌, length, take, sym, refl, ap, ◌∙◌, length-append, append_assoc, arith, take-append_seam, Ura, Order, numbers, latest, SProp, ent, sep, ex, guard, upd, upd_i, Share, Fml, Logic, sem, latest_bounds, latest_shows, ‵, raw, ◌⊛◌, some, given, ◌$◌, ◌∵◌, !, qed, move, keep, split, split3, fsplit, fsplit3, fjoin, fjoin3, pick, learn, check, show, frame, settle, suffices, rewrite, use1, use2, use3, done, drop as forget, Ptr, run, byte, Names, State, Holds, half, other, flag, gone, where_gone, blanks, announced, began, writer_knows, reader_knows, Inner, common, Stream, Reaches, streams, open_reaches, drop_list}
 use Rattle.std.proofs.Math.Seq.{drop-append_seam}
 use Rattle.piper_ring.proofs.Reaching.{begins}
 use Rattle.piper_ring.proofs.PlacesParts.{run_cut}
-use Rattle.piper_ring.proofs.Steps.{flag_small, not_gone, Rest, OneStays, ReaderSees, reader_opens, closes, raise}
+use Rattle.piper_ring.proofs.Steps.{quietly, flag_small, not_gone, Rest, OneStays, ReaderSees, reader_opens, closes, raise}
 
 pub pending_is : (have xs sent : List ℕ) (seen k : ℕ) → length have ≡ seen → seen ≡ k → have ++ xs ≡ sent → drop_list k sent ≡ xs
 pending_is have xs sent seen k lh e pre = (λ i. drop_list (sym (lh ∙ e) i) (sym pre i)) ∙ drop-append_seam have xs
@@ -45,7 +45,7 @@ module _ {M : Type 1} {𝓤 : Ura M} (𝓛 : Logic 𝓤) (w p : Ptr) (z : Names)
 
   pub accepts : length have ≡ seen → seen ≤ length published → ent 𝓤 (⟦ common w p z ⟧ ∗ ⟦ RK half head seen (flag left) ⟧ ∗ ⟦ Hv have ⟧ ∗ ⟦ P ⟧) (H.⇛ (ex 𝓤 Accepted))
   accepts lh long = let I : Fml = Inner w p z in let Q : SProp 𝓤 = ex 𝓤 Accepted in let Z : SProp 𝓤 = ⟦ I ⟧ ∗ Q in let RH : Fml = RK half head seen (flag left) in
-      qed 𝓛 (‵ (common w p z) ∷ ‵ RH ∷ ‵ (Hv have) ∷ ‵ P ∷ []) ∵ fsplit ! $ forget ! $ suffices ! _ (𝓛.invs.inv_acc I Q) $ frame ! $ assume ! (‵ I) $
+      quietly 𝓛 w p z (⟦ RH ⟧ ∗ ⟦ Hv have ⟧ ∗ ⟦ P ⟧) Q (qed 𝓛 (‵ I ∷ ‵ RH ∷ ‵ (Hv have) ∷ ‵ P ∷ []) ∵
       use2 𝓛 (some (λ (s : State). given (ReaderSees 𝓛 w p z head seen (flag left) s) (‵ RH ⊛ ‵ (RK other s.head s.seen s.reader_stage) ⊛ ‵ (writer_knows w p z other s.sent s.limit s.shut s.writer_stage) ⊛ ‵ (Rest 𝓛 w p z s)))) (reader_opens 𝓛 w p z half head seen (flag left) (flag_small left)) $ pick ! (λ s. learn ! (λ so. split3 ! $
       move ! (2 ∷ []) $ split ! $ fsplit3 ! $ move ! (0 ∷ 6 ∷ []) $
       use2 𝓛 (given (Reaches (have, false) (s.sent, s.shut)) (‵ (latest O other z.sent (s.sent, s.shut)) ⊛ ‵ (Hv have))) (latest_bounds O 𝓛 other z.sent (s.sent, s.shut) (have, false)) $ learn ! (λ pre. split ! $ move ! (0 ∷ 7 ∷ []) $
@@ -67,4 +67,4 @@ module _ {M : Type 1} {𝓤 : Ura M} (𝓛 : Logic 𝓤) (w p : Ptr) (z : Names)
       rewrite ! 0 (λ (l : List ℕ). ‵ (run B seen l)) (take-append_seam xs rest) refl $
       rewrite ! 1 (λ (l : List ℕ). ‵ (run B top l)) (drop-append_seam xs rest ∙ sym (pending_is published rest s.sent top top refl refl pt.0.1)) refl $
       move ! (1 ∷ 2 ∷ []) $ fjoin ! $ move ! (2 ∷ 0 ∷ []) $ fjoin ! $ move ! (2 ∷ 0 ∷ []) $ fjoin ! $ move ! (4 ∷ 2 ∷ 0 ∷ []) $ use3 𝓛 (‵ I) (closes 𝓛 w p z s' so' near) $ frame ! $
-      show ! Accepted xs $ check ! (whole, omega arith) $ keep ! (0 ∷ 1 ∷ 2 ∷ []) $ done !))))
+      show ! Accepted xs $ check ! (whole, omega arith) $ keep ! (0 ∷ 1 ∷ 2 ∷ []) $ done !)))))

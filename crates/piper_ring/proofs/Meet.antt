@@ -1,10 +1,10 @@
 -- Both ends held by one thread open the invariant with no step of the program: the reader gets all
 -- that was published, the writer all that is free, and a ring that was seen closed is shut. Assumes
 -- `Logic`.
-use Rattle.piper_ring.proofs.Kit.{◌≡◌, ℕ, ◌+◌, ◌-◌, ◌≤◌, Bool, false, List, [], ◌∷◌, ◌++◌, length, sym, refl, ap, subst, ◌∙◌, arith, Order, numbers, latest, prefix_refl, latest_bounds, latest_shows, run, byte, Ura, SProp, ent, sep, ex, guard, upd, upd_i, Fml, ftrue, fsep, Logic, sem, keep, ‵, raw, ◌⊛◌, some, given, ◌$◌, ◌∵◌, !, qed, move, split, split3, fsplit, fsplit3, fjoin, fjoin3, fpick, fpack, pick, learn, check, show, frame, assume, settle, suffices, rewrite, use1, use2, use3, done, nothing, drop as forget, Ptr, Names, State, Holds, half, other, idle, flag, gone, where_gone, blanks, deeds, raised, announced, began, writer_knows, reader_knows, ends, Inner, common, Stream, Reaches, streams, open_reaches, drop_list}
+use Rattle.piper_ring.proofs.Kit.{◌≡◌, ℕ, ◌+◌, ◌-◌, ◌≤◌, Bool, false, List, [], ◌∷◌, ◌++◌, length, sym, refl, ap, subst, ◌∙◌, arith, Order, numbers, latest, prefix_refl, latest_bounds, latest_shows, run, byte, Ura, SProp, ent, sep, ex, guard, upd, upd_i, Fml, ftrue, fsep, Logic, sem, keep, ‵, raw, ◌⊛◌, some, given, ◌$◌, ◌∵◌, !, qed, move, split, split3, fsplit, fsplit3, fjoin, fjoin3, fpick, fpack, pick, learn, check, show, frame, settle, suffices, rewrite, use1, use2, use3, done, nothing, drop as forget, Ptr, Names, State, Holds, half, other, idle, flag, gone, where_gone, blanks, deeds, raised, announced, began, writer_knows, reader_knows, ends, Inner, common, Stream, Reaches, streams, open_reaches, drop_list}
 use Rattle.std.proofs.Math.Seq.{drop-length}
 use Rattle.piper_ring.proofs.LoadIfNone.{pending_is}
-use Rattle.piper_ring.proofs.Steps.{ends_show, flag_small, not_gone, Rest, OneStays, WriterSees, writer_opens, reader_agrees, closes, raise}
+use Rattle.piper_ring.proofs.Steps.{quietly, ends_show, flag_small, not_gone, Rest, OneStays, WriterSees, writer_opens, reader_agrees, closes, raise}
 
 module _ {M : Type 1} {𝓤 : Ura M} (𝓛 : Logic 𝓤) (w p : Ptr) (z : Names) (head seen : ℕ) (sent : List ℕ) (limit : ℕ) (shut there : Bool) (have : List ℕ) (heard : Stream) (other_saw : Bool) where
   open 𝓛 use {H}
@@ -50,7 +50,7 @@ module _ {M : Type 1} {𝓤 : Ura M} (𝓛 : Logic 𝓤) (w p : Ptr) (z : Names)
 
   pub joins : length have ≡ seen → there ≡ false → ent 𝓤 (⟦ common w p z ⟧ ∗ ⟦ RK ⟧ ∗ ⟦ Hv have ⟧ ∗ ⟦ WK ⟧ ∗ ⟦ T ⟧ ∗ ⟦ S other_saw ⟧) (H.⇛ (ex 𝓤 Joined))
   joins lh is_there = let I : Fml = Inner w p z in let Q : SProp 𝓤 = ex 𝓤 Joined in let Z : SProp 𝓤 = ⟦ I ⟧ ∗ Q in
-      qed 𝓛 (‵ (common w p z) ∷ ‵ RK ∷ ‵ (Hv have) ∷ ‵ WK ∷ ‵ T ∷ ‵ (S other_saw) ∷ []) ∵ fsplit ! $ forget ! $ suffices ! _ (𝓛.invs.inv_acc I Q) $ frame ! $ assume ! (‵ I) $ move ! (0 ∷ 3 ∷ []) $
+      quietly 𝓛 w p z (⟦ RK ⟧ ∗ ⟦ Hv have ⟧ ∗ ⟦ WK ⟧ ∗ ⟦ T ⟧ ∗ ⟦ S other_saw ⟧) Q (qed 𝓛 (‵ I ∷ ‵ RK ∷ ‵ (Hv have) ∷ ‵ WK ∷ ‵ T ∷ ‵ (S other_saw) ∷ []) ∵ move ! (0 ∷ 3 ∷ []) $
       use2 𝓛 (some (λ (s : State). given (WriterSees 𝓛 w p z sent limit shut 0 s) (‵ WK ⊛ ‵ (writer_knows w p z other s.sent s.limit s.shut s.writer_stage) ⊛ ‵ (reader_knows w p z other s.head s.seen s.reader_stage) ⊛ ‵ (Rest 𝓛 w p z s)))) (writer_opens 𝓛 w p z half sent limit shut 0 (flag_small false)) $ pick ! (λ s. learn ! (λ so. split3 ! $
       move ! (2 ∷ []) $ split ! $ move ! (4 ∷ 0 ∷ []) $
       use2 𝓛 (given ((head ≡ s.head) × (seen ≡ s.seen) × (flag there ≡ s.reader_stage)) (‵ RK ⊛ ‵ (reader_knows w p z other s.head s.seen s.reader_stage))) (reader_agrees 𝓛 w p z half head seen (flag there) s.head s.seen s.reader_stage) $ learn ! (λ e. split ! $
@@ -81,4 +81,4 @@ module _ {M : Type 1} {𝓤 : Ura M} (𝓛 : Logic 𝓤) (w p : Ptr) (z : Names)
       nothing ! $ rewrite ! 0 (λ (l : List ℕ). ‵ (run B top l)) {x = drop_list top s.sent} {y = []} (sym (drop-length s.sent)) refl $
       nothing ! $ nothing ! $ fpack ! (length {A = ℕ} [] ≡ full - full) (λ _. ftrue) (omega arith) $ fjoin ! $ fpack ! (List ℕ) (idle w p z full (full - full)) [] $
       move ! (0 ∷ 3 ∷ 4 ∷ []) $ fjoin3 ! $ move ! (1 ∷ 0 ∷ []) $ fjoin ! $ move ! (3 ∷ 0 ∷ []) $ fjoin ! $ move ! (3 ∷ 0 ∷ []) $ fjoin ! $ move ! (5 ∷ 3 ∷ 0 ∷ []) $ use3 𝓛 (‵ I) (closes 𝓛 w p z s' so' near) $ frame ! $
-      show ! Joined (xs, ys) $ check ! (whole ∙ sym so.1, omega arith, subst (λ (a : Stream). Reaches heard a) (λ j. (sym so.1 j, sym so.3 j)) ht, omega arith) $ move ! (1 ∷ 0 ∷ []) $ done !))))))))
+      show ! Joined (xs, ys) $ check ! (whole ∙ sym so.1, omega arith, subst (λ (a : Stream). Reaches heard a) (λ j. (sym so.1 j, sym so.3 j)) ht, omega arith) $ move ! (1 ∷ 0 ∷ []) $ done !)))))))))

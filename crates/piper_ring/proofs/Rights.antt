@@ -1,5 +1,5 @@
 -- What an end knows is cut and joined, lent, and moved up. Assumes `Logic`.
-use Rattle.piper_ring.proofs.Kit.{ℕ, Bool, List, [], ◌∷◌, Ura, Order, numbers, latest, SProp, ent, sep, snd∗, Lft, Share, Fml, GName, ftrue, fsep, finv, before, Logic, sem, ‵, raw, ◌⊛◌, ◌$◌, ◌∵◌, !, qed, move, drop, split, fsplit, fjoin, fpick, fpack, frame, use1, use2, updating, now, done, Ptr, beside_shr_laws, nothing, Lends, Lends-both, Lends-first, lends_twice, streams, Names, half, flag, writer_knows, reader_knows, arrived_first, Inner, RingIsPlaced, common, reader_owns, reader_lends, writer_owns, writer_lends, Known, by_reader, by_writer, knows}
+use Rattle.piper_ring.proofs.Kit.{ℕ, Bool, List, [], ◌∷◌, Ura, Order, numbers, latest, SProp, ent, sep, snd∗, Lft, Share, Fml, GName, ftrue, fsep, finv, before, Logic, sem, ‵, raw, ◌⊛◌, ◌$◌, ◌∵◌, !, qed, move, drop, split, fsplit, fjoin, fpick, fpack, frame, use1, use2, updating, now, done, Ptr, beside_shr_laws, nothing, Lends, Lends-both, Lends-first, lends_twice, streams, Names, half, flag, writer_knows, reader_knows, arrived_first, Whole, RingIsPlaced, common, reader_owns, reader_lends, writer_owns, writer_lends, Known, by_reader, by_writer, knows}
 use base.Share.{left, right, halves}
 use base.Fml.{fbor, fshr_bor}
 use ghost.Rules.{Halves}
@@ -54,7 +54,7 @@ module _ {M : Type 1} {𝓤 : Ura M} (𝓛 : Logic 𝓤) where
     C = common w p z
 
     abbrev I : Fml
-    I = Inner w p z
+    I = Whole w p z
 
     pub common_twice : ⟦ C ⟧ ⊢ ⟦ C ⟧ ∗ ⟦ C ⟧
     common_twice = let Where : Type 0 = RingIsPlaced w p z in qed 𝓛 (‵ C ∷ []) ∵ fsplit ! $ fpick ! (λ here. drop ! $

@@ -1,6 +1,6 @@
 -- The steps of both sides on a slot. Assumes `Logic`.
-use Rattle.piper_ring.proofs.Kit.{◌*◌, ◌^◌, ◌<◌, lit<, flag, ◌≡◌, ℕ, ◌+◌, ◌≤◌, ◌⊎◌, inl, inr, Bool, true, false, List, [], ◌∷◌, sym, refl, subst, arith, Ura, SProp, ent, sep, upd, ex, guard, upd_i, apply∗, Share, Fml, ftrue, fsep, fex, fwand, fobs, Logic, sem, ‵, raw, ◌⊛◌, some, given, ◌$◌, ◌∵◌, !, qed, by, move, keep, split, split3, fsplit, fsplit3, fjoin, fjoin3, fpick, fpack, pick, learn, check, show, frame, assume, settle, suffices, rewrite, use1, use2, done, drop as forget, Ptr, block_ptr, block_of, count_of, nothing, asks, always, Lies, Lying, number, is_odd, Waits, Wakes, AreAt, Exchanges, IsTicket, waits_code, wakes_code, both_at, both, cell, slot_at, slot, IsRemembered, Names, State, Holds, other, word, reader_knows, writer_knows, slots, Inner, common, Order, numbers, latest, latest_shows, Stream, streams, reaches_same, took, raised, Stored, as_stored, stored_code, Known, by_reader, by_writer, knows, evidence, slot_word, waits_in, wakes_in}
-use Rattle.std.proofs.Common.{◌%◌, ◌==◌, ap}
+use Rattle.piper_ring.proofs.Kit.{◌*◌, ◌^◌, ◌<◌, lit<, flag, ◌≡◌, ℕ, ◌+◌, ◌≤◌, ◌⊎◌, inl, inr, Bool, true, false, List, [], ◌∷◌, sym, refl, subst, arith, Ura, SProp, ent, sep, upd, ex, guard, upd_i, apply∗, Share, Fml, ftrue, fsep, fex, fwand, fobs, Logic, sem, ‵, raw, ◌⊛◌, some, given, ◌$◌, ◌∵◌, !, qed, by, move, keep, split, split3, fsplit, fsplit3, fjoin, fjoin3, fpick, fpack, pick, learn, check, show, frame, assume, settle, suffices, rewrite, use1, use2, done, drop as forget, Ptr, block_ptr, block_of, count_of, nothing, asks, always, Filled, filled, Lying, number, ticket_if, mirrored, is_odd, Waits, Wakes, AreAt, Exchanges, IsTicket, waits_code, wakes_code, both_at, both, cell, slot_at, slot, IsRemembered, Names, State, Holds, other, reader_knows, writer_knows, slots, Inner, common, Order, numbers, latest, latest_shows, Stream, streams, reaches_same, took, raised, Stored, as_stored, stored_code, Known, by_reader, by_writer, knows, evidence, slot_word, waits_in, wakes_in}
+use Rattle.std.proofs.Common.{◌%◌, ◌==◌, ◌∙◌, Option, Some, None, is_some, ap}
 use Rattle.std.proofs.lemmas.Bool.{false≢true}
 use base.Fml.{fauth}
 use types.Tokens.{name_agree}
@@ -8,16 +8,24 @@ use Rattle.std.specs.Coded.{Coded}
 use Rattle.piper_ring.specs.Places.{fact}
 use Rattle.piper_ring.specs.Shared.{slot_of, waiter, waker}
 use Rattle.piper_ring.proofs.Evidence.{evidence_twice}
-use Rattle.piper_ring.proofs.Steps.{flag_small, inside, Rest, OneStays, ReaderSees, WriterSees, reader_opens, writer_opens, closes}
+use Rattle.piper_protocol.specs.OneList.{Access, FindsWords, Words, loaded_slot, slot_in, swapped, with_slot, words_after}
+use Rattle.piper_ring.specs.Trace.{side_of, slot_name, ticket_code}
+use Rattle.piper_ring.specs.declared.log.Log.{Log}
+use Rattle.piper_ring.proofs.Trace.{takes_slot}
+use Rattle.piper_ring.proofs.Steps.{Holding, Kept, Noted, access_noted, flag_small, no_load, quietly, Rest, OneStays, ReaderSees, WriterSees, reader_opens, writer_opens, closes}
 
 pub word_fits : (r : Bool) → slot_word r * 8 < 2 ^ 64
 word_fits true = lit< tt
 word_fits false = lit< tt
 
 -- the word says by its lowest bit whether a waker is there
-pub odd_number : (s : Lying) → is_odd (number s) ≡ s.1
+pub odd_number : (s : Filled) → is_odd (number s) ≡ s.1
 odd_number (i, true) = let e : (2 * i + 1) % 2 ≡ 1 = omega arith in ap (λ (m : ℕ). m == 1) e
 odd_number (i, false) = let e : (2 * i + 0) % 2 ≡ 0 = omega arith in ap (λ (m : ℕ). m == 1) e
+
+-- a waker in the slot is the one of the last registration
+abbrev pub IsLast : Option ℕ → ℕ → Type 0
+IsLast lies tickets = lies ≡ ticket_if (is_some lies) tickets
 
 module _ {X : Type 0} where
   -- what the side that waits becomes when a cell goes into its slot, if the other had stored x
@@ -25,37 +33,45 @@ module _ {X : Type 0} where
   after true a x = (true, (a.1.0 + 1, x))
   after false a x = (false, a.1)
 
-  goes_in : (filled full : Bool) (a : Waits X) (b : Wakes X) → AreAt X full a b → AreAt X filled (after filled a b.1) b
-  goes_in true true a b h = let lt = h.2 in (refl, refl, omega arith)
-  goes_in true false a b h = let le = h.0 in (refl, refl, omega arith)
-  goes_in false true a b h = let lt = h.2 in (omega arith, λ no. absurd (false≢true no))
-  goes_in false false a b h = (h.0, λ no. absurd (false≢true no))
+  -- what lies in the slot then
+  abbrev pub put_in : Bool → Waits X → Option ℕ
+  put_in filled a = ticket_if filled (a.1.0 + 1)
+
+  goes_in : (filled : Bool) (lies : Option ℕ) (a : Waits X) (b : Wakes X) → AreAt X lies a b → AreAt X (put_in filled a) (after filled a b.1) b
+  goes_in true (Some t) a b h = let lt = h.2 in (refl, refl, omega arith, refl)
+  goes_in true None a b h = let le = h.0 in (refl, refl, omega arith, refl)
+  goes_in false (Some t) a b h = let lt = h.2 in (omega arith, λ no. absurd (false≢true no))
+  goes_in false None a b h = (h.0, λ no. absurd (false≢true no))
 
   exchanges : (filled : Bool) (a : Waits X) (x : X) → Exchanges X filled a (after filled a x)
   exchanges true a x = refl
   exchanges false a x = refl
 
-  waited : (full : Bool) (a : Waits X) (b : Wakes X) → AreAt X full a b → full ≡ true → a.0 ≡ true
-  waited true a b h e = h.0
-  waited false a b h e = absurd (false≢true e)
+  pub put_ticket : (filled : Bool) (a v : Waits X) → Exchanges X filled a v → put_in filled a ≡ ticket_if filled v.1.0
+  put_ticket true a v e = ap (λ (u : Waits X). Some u.1.0) (sym e)
+  put_ticket false a v e = refl
+
+  waited : (lies : Option ℕ) (a : Waits X) (b : Wakes X) → AreAt X lies a b → (is_some lies ≡ true → a.0 ≡ true) × IsLast lies a.1.0
+  waited (Some t) a b h = (λ _. h.0, ap Some h.3)
+  waited None a b h = (λ e. absurd (false≢true e), refl)
 
   -- what the side that waits is after a load of its slot
   abbrev pub seen_own : Bool → Waits X → Waits X
   seen_own true a = a
   seen_own false a = (false, a.1)
 
-  own_seen : (full : Bool) (a : Waits X) (b : Wakes X) → AreAt X full a b → AreAt X full (seen_own full a) b
-  own_seen true a b h = h
-  own_seen false a b h = (h.0, λ no. absurd (false≢true no))
+  own_seen : (lies : Option ℕ) (a : Waits X) (b : Wakes X) → AreAt X lies a b → AreAt X lies (seen_own (is_some lies) a) b
+  own_seen (Some t) a b h = h
+  own_seen None a b h = (h.0, λ no. absurd (false≢true no))
 
   -- what the side that wakes is after a load of the slot, if it has stored x
   abbrev pub seen_other : Bool → Wakes X → X → Wakes X
   seen_other true b x = b
   seen_other false b x = (b.0, x)
 
-  other_seen : (full : Bool) (a : Waits X) (b : Wakes X) (x : X) → AreAt X full a b → AreAt X full a (seen_other full b x)
-  other_seen true a b x h = h
-  other_seen false a b x h = h
+  other_seen : (lies : Option ℕ) (a : Waits X) (b : Wakes X) (x : X) → AreAt X lies a b → AreAt X lies a (seen_other (is_some lies) b x)
+  other_seen (Some t) a b x h = h
+  other_seen None a b x h = h
 
   pub own_stays : (full : Bool) (a v : Waits X) → v ≡ seen_own full a → full ≡ true → v ≡ a
   own_stays true a v e is = e
@@ -74,13 +90,13 @@ module _ {X : Type 0} where
   other_gone false b v x e is = e
 
   -- it empties the slot, and takes the last ticket, or none was there
-  comes_out : (full : Bool) (a : Waits X) (b : Wakes X) (x : X) → AreAt X full a b → (t : ℕ) × IsTicket full b.0 t × AreAt X false a (t, x)
-  comes_out true a b x h = (a.1.0, h.2, (omega arith, λ _. refl))
-  comes_out false a b x h = (b.0, refl, h)
+  comes_out : (lies : Option ℕ) (a : Waits X) (b : Wakes X) (x : X) → AreAt X lies a b → (t : ℕ) × (IsTicket (is_some lies) b.0 t × IsLast lies t) × AreAt X None a (t, x)
+  comes_out (Some t) a b x h = (a.1.0, (h.2, ap Some h.3), (omega arith, λ _. refl))
+  comes_out None a b x h = (b.0, (refl, refl), h)
 
-  pub remembers : (full : Bool) (a : Waits X) (b : Wakes X) → AreAt X full a b → IsRemembered X a b
-  remembers true a b h waits new = absurd (new h.1)
-  remembers false a b h waits new = h.1 waits
+  pub remembers : (lies : Option ℕ) (a : Waits X) (b : Wakes X) → AreAt X lies a b → IsRemembered X a b
+  remembers (Some t) a b h waits new = absurd (new h.1)
+  remembers None a b h waits new = h.1 waits
 
 module _ {M : Type 1} {𝓤 : Ura M} (𝓛 : Logic 𝓤) (w p : Ptr) (z : Names) where
   open 𝓛 use {H, A}
@@ -108,10 +124,6 @@ module _ {M : Type 1} {𝓤 : Ura M} (𝓛 : Logic 𝓤) (w p : Ptr) (z : Names)
   -- an access of the word d bytes on
   abbrev access : (d : ℕ) (f : ℕ → ℕ) (after : ℕ → Fml) → Pr
   access d f after = let spot : Ptr = block_ptr (block_of w) (d + count_of w) in asks 𝓛 spot f always after
-
-  -- the word d bytes on, under the invariant
-  abbrev Holding : (d : ℕ) (f : ℕ → ℕ) (after : ℕ → Fml) (n : ℕ) → Pr
-  Holding d f after n = Lies 𝓛 (block_of w) (d + count_of w) f after I n
 
   abbrev RK : Share → ℕ → ℕ → ℕ → Fml
   RK = reader_knows w p z
@@ -147,15 +159,30 @@ module _ {M : Type 1} {𝓤 : Ura M} (𝓛 : Logic 𝓤) (w p : Ptr) (z : Names)
   writers_own K h = let F : Fml = slot_of w p z false in let S : Fml = slots w p z in qed 𝓛 (‵ I ∷ ‵ K ∷ []) ∵ use2 𝓛 (‵ K ⊛ ‵ S ⊛ ‵ (fwand S I)) h $ split3 ! $ frame ! $
       fsplit ! $ move ! (1 ∷ []) $ frame ! $ assume ! (‵ F) $ move ! (1 ∷ 0 ∷ []) $ fjoin ! $ by ! (apply∗ 𝓤 ⟦ S ⟧ ⟦ I ⟧)
 
-  module _ {X : Type 0} (far : ℕ) (γ δ : ℕ) (c : Coded X) (shows : X → Fml) (K : Fml) where
+  module _ {X : Type 0} (r : Bool) (far : ℕ) (γ δ : ℕ) (c : Coded X) (shows : X → Fml) (K : Fml) where
+    abbrev μ : ℕ
+    μ = slot_name z.traced r
+
     abbrev F : Fml
-    F = slot w far z.cells γ δ c shows
+    F = slot w far z.cells μ γ δ c shows
 
-    abbrev B : Bool → Fml
-    B = both w far z.cells γ δ c shows
+    abbrev B : Option ℕ → Fml
+    B = both w far z.cells μ γ δ c shows
 
-    abbrev Cell : Lying → Fml
-    Cell = cell w far z.cells γ δ c shows
+    abbrev Cell : Filled → Fml
+    Cell = cell w far z.cells μ γ δ c shows
+
+    -- the word of the slot, in which another thing lies afterwards
+    abbrev SlotAt : (f : ℕ → ℕ) (v' : Lying → Option ℕ) (then : Lying → ℕ → Fml) → Lying → Pr
+    SlotAt f v' then = Holding 𝓛 w p z ticket_code μ far (slot_in (side_of r)) (with_slot (side_of r)) (takes_slot 𝓛 w z.traced I r) f (λ s. number (filled s)) (λ s. s.1) v' then
+
+    abbrev SlotNoted : (f : ℕ → ℕ) (v' : Lying → Option ℕ) (then : Lying → ℕ → Fml) → Log → (Lying → Access) → ℕ → Fml
+    SlotNoted f v' then = Noted 𝓛 w p z ticket_code μ far (slot_in (side_of r)) (with_slot (side_of r)) (takes_slot 𝓛 w z.traced I r) f (λ s. number (filled s)) (λ s. s.1) v' then
+
+    abbrev slot_noted : (f : ℕ → ℕ) (v' : Lying → Option ℕ) (then : Lying → ℕ → Fml) (Q : Pr) (a : Lying → Access) → ⟦ I ⟧ ∗ Q ⊢ upd 𝓤 (ex 𝓤 (SlotAt f v' then))
+        → ((s : Lying) (t : Words) → s.1 ≡ slot_in (side_of r) t → FindsWords (a s) t) → ((s : Lying) (t : Words) → s.1 ≡ slot_in (side_of r) t → words_after (a s) t ≡ with_slot (side_of r) (v' s) t)
+        → (k : Log) → (k.keeps ≡ true → k.names ≡ z) → (k.keeps ≡ false → ((m : ℕ) → f m ≡ m) × ((s : Lying) → v' s ≡ s.1)) → ⟦ C ⟧ ∗ Q ∗ ⟦ Kept 𝓛 w p z k k.did ⟧ ⊢ access far f (SlotNoted f v' then k a)
+    slot_noted f v' then = access_noted 𝓛 w p z ticket_code μ far (slot_in (side_of r)) (with_slot (side_of r)) (takes_slot 𝓛 w z.traced I r) f (λ s. number (filled s)) (λ s. s.1) v' then
 
     -- what the side has that waits, and the one that wakes
     abbrev Waiting : Waits X → Fml
@@ -165,61 +192,67 @@ module _ {M : Type 1} {𝓤 : Ura M} (𝓛 : Logic 𝓤) (w p : Ptr) (z : Names)
     Waking b = fobs δ ((wakes_code X c).code b)
 
     -- the cell that came out, of which the number that was found speaks, and what the side has then
-    abbrev out_at : (Bool → Fml) → ℕ → Lying → Fml
-    out_at Y n s = fsep (fact ((s.0 < 4) × (n ≡ number s))) (fsep (Cell s) (Y s.1))
+    abbrev out_at : (Option ℕ → Fml) → Lying → ℕ → Fml
+    out_at Y s n = fsep K (fsep (fact ((s.0 < 4) × (n ≡ number (filled s)))) (fsep (Cell (filled s)) (Y s.1)))
 
-    abbrev pub Swapped : (Bool → Fml) → ℕ → Fml
-    Swapped Y n = fsep K (fex Lying (out_at Y n))
+    abbrev pub Swapped : Lying → (Option ℕ → Fml) → Log → ℕ → Fml
+    Swapped own Y k = SlotNoted (λ _. number (filled own)) (λ _. own.1) (out_at Y) k (λ s. swapped (side_of r) s.1 own.1)
 
     -- one swap: the own cell goes in, and another comes out, whatever else the step does to both sides
-    trades : Lent K F → (own : Lying) → own.0 < 4 → (Z : Fml) (Y : Bool → Fml) → ((full : Bool) → ⟦ B full ⟧ ∗ ⟦ Z ⟧ ⊢ upd 𝓤 (⟦ B own.1 ⟧ ∗ ⟦ Y full ⟧))
-        → ⟦ C ⟧ ∗ ⟦ K ⟧ ∗ ⟦ fsep (Cell own) Z ⟧ ⊢ access far (λ _. number own) (Swapped Y)
-    trades lends own small Z Y can = let f : ℕ → ℕ = λ _. number own in let then : ℕ → Fml = Swapped Y in let G : Pr = ex 𝓤 (Holding far f then) in
-        inside 𝓛 w p z far f then (⟦ K ⟧ ∗ ⟦ fsep (Cell own) Z ⟧) (qed 𝓛 (‵ I ∷ ‵ K ∷ ‵ (fsep (Cell own) Z) ∷ []) ∵ use2 𝓛 (‵ K ⊛ ‵ F ⊛ ‵ (fwand F I)) lends $ split3 ! $ move ! (1 ∷ []) $
+    trades : Lent K F → (own : Lying) → own.0 < 4 → (Z : Fml) (Y : Option ℕ → Fml) → ((lies : Option ℕ) → ⟦ B lies ⟧ ∗ ⟦ Z ⟧ ⊢ upd 𝓤 (⟦ B own.1 ⟧ ∗ ⟦ Y lies ⟧))
+        → (k : Log) → k.keeps ≡ true → k.names ≡ z → ⟦ C ⟧ ∗ (⟦ K ⟧ ∗ ⟦ fsep (Cell (filled own)) Z ⟧) ∗ ⟦ Kept 𝓛 w p z k k.did ⟧ ⊢ access far (λ _. number (filled own)) (Swapped own Y k)
+    trades lends own small Z Y can k kept is = let f : ℕ → ℕ = λ _. number (filled own) in let At : Lying → Pr = SlotAt f (λ _. own.1) (out_at Y) in let G : Pr = ex 𝓤 At in let new : Fml = mirrored ticket_code μ w far (number (filled own)) own.1 in
+        slot_noted f (λ _. own.1) (out_at Y) (⟦ K ⟧ ∗ ⟦ fsep (Cell (filled own)) Z ⟧) (λ s. swapped (side_of r) s.1 own.1) (qed 𝓛 (‵ I ∷ ‵ K ∷ ‵ (fsep (Cell (filled own)) Z) ∷ []) ∵ use2 𝓛 (‵ K ⊛ ‵ F ⊛ ‵ (fwand F I)) lends $ split3 ! $ move ! (1 ∷ []) $
         fpick ! (λ s. fsplit3 ! $ fpick ! (λ there. forget ! $ move ! (1 ∷ []) $ fsplit ! $ move ! (5 ∷ []) $ fsplit ! $
         -- [the own right; Z; the right that lay there; both sides; the word; K; the way back]
         move ! (3 ∷ 1 ∷ []) $ use2 𝓛 (raw (upd 𝓤 (⟦ B own.1 ⟧ ∗ ⟦ Y s.1 ⟧))) (can s.1) $ settle 𝓛 G (‵ (B own.1) ⊛ ‵ (Y s.1)) $ suffices ! _ (upd_i 𝓤 G) $ split ! $
         -- [both sides; Y; the own right; the right that lay there; the word; K; the way back]
-        move ! (4 ∷ []) $ show ! (Holding far f then) (number s) $ frame ! $ assume ! (‵ (word w far (number own))) $ suffices ! _ (upd_i 𝓤 (⟦ I ⟧ ∗ ⟦ then (number s) ⟧)) $
-        move ! (3 ∷ 1 ∷ []) $ fjoin ! $ move ! (1 ∷ 0 ∷ []) $ fjoin ! $ nothing ! $ fpack ! (own.0 < 4) (λ _. ftrue) small $ fjoin ! $ fpack ! Lying (slot_at w far z.cells γ δ c shows) own $
+        move ! (4 ∷ []) $ show ! At s $ frame ! $ assume ! (‵ new) $ let n : ℕ = number (filled s) in suffices ! _ (upd_i 𝓤 (⟦ I ⟧ ∗ ⟦ out_at Y s n ⟧)) $
+        move ! (3 ∷ 1 ∷ []) $ fjoin ! $ move ! (1 ∷ 0 ∷ []) $ fjoin ! $ nothing ! $ fpack ! (own.0 < 4) (λ _. ftrue) small $ fjoin ! $ fpack ! Lying (slot_at w far z.cells μ γ δ c shows) own $
         -- [the slot; Y; the right that lay there; K; the way back]
         move ! (0 ∷ 4 ∷ []) $ use2 𝓛 (‵ I) (apply∗ 𝓤 ⟦ F ⟧ ⟦ I ⟧) $ frame ! $ move ! (1 ∷ 0 ∷ []) $ fjoin ! $
-        nothing ! $ fpack ! ((s.0 < 4) × (number s ≡ number s)) (λ _. ftrue) (there, refl) $ fjoin ! $ fpack ! Lying (out_at Y (number s)) s $ move ! (1 ∷ 0 ∷ []) $ fjoin ! $ done !)))
+        nothing ! $ fpack ! ((s.0 < 4) × (n ≡ n)) (λ _. ftrue) (there, refl) $ fjoin ! $ move ! (1 ∷ 0 ∷ []) $ fjoin ! $ done !)))
+        (λ s t e. e) (λ s t e. refl) k (λ _. is) (no_load 𝓛 w p z kept)
 
-    abbrev loaded_at : (Bool → Fml) → ℕ → Lying → Fml
-    loaded_at Y n s = fsep (fact (n ≡ number s)) (Y s.1)
+    abbrev loaded_at : (Option ℕ → Fml) → Lying → ℕ → Fml
+    loaded_at Y s n = fsep K (fsep (fact (n ≡ number (filled s))) (Y s.1))
 
-    abbrev pub Loaded : (Bool → Fml) → ℕ → Fml
-    Loaded Y n = fsep K (fex Lying (loaded_at Y n))
+    abbrev pub Loaded : (Option ℕ → Fml) → Log → ℕ → Fml
+    Loaded Y k = SlotNoted (λ n. n) (λ s. s.1) (loaded_at Y) k (λ s. loaded_slot (side_of r) (is_some s.1))
+
+    same_slot : (q : Bool) (lies : Option ℕ) (t : Words) → lies ≡ slot_in (side_of q) t → t ≡ with_slot (side_of q) lies t
+    same_slot true lies t e = ap (λ (y : Option ℕ). record t { reader_slot = y }) (sym e)
+    same_slot false lies t e = ap (λ (y : Option ℕ). record t { writer_slot = y }) (sym e)
 
     -- one load, which leaves the word
-    looks : Lent K F → (Z : Fml) (Y : Bool → Fml) → ((full : Bool) → ⟦ B full ⟧ ∗ ⟦ Z ⟧ ⊢ upd 𝓤 (⟦ B full ⟧ ∗ ⟦ Y full ⟧))
-        → ⟦ C ⟧ ∗ ⟦ K ⟧ ∗ ⟦ Z ⟧ ⊢ access far (λ n. n) (Loaded Y)
-    looks lends Z Y can = let f : ℕ → ℕ = λ n. n in let then : ℕ → Fml = Loaded Y in let G : Pr = ex 𝓤 (Holding far f then) in
-        inside 𝓛 w p z far f then (⟦ K ⟧ ∗ ⟦ Z ⟧) (qed 𝓛 (‵ I ∷ ‵ K ∷ ‵ Z ∷ []) ∵ use2 𝓛 (‵ K ⊛ ‵ F ⊛ ‵ (fwand F I)) lends $ split3 ! $ move ! (1 ∷ []) $
+    looks : Lent K F → (Z : Fml) (Y : Option ℕ → Fml) → ((lies : Option ℕ) → ⟦ B lies ⟧ ∗ ⟦ Z ⟧ ⊢ upd 𝓤 (⟦ B lies ⟧ ∗ ⟦ Y lies ⟧))
+        → (k : Log) → (k.keeps ≡ true → k.names ≡ z) → ⟦ C ⟧ ∗ (⟦ K ⟧ ∗ ⟦ Z ⟧) ∗ ⟦ Kept 𝓛 w p z k k.did ⟧ ⊢ access far (λ n. n) (Loaded Y k)
+    looks lends Z Y can k own = let f : ℕ → ℕ = λ n. n in let At : Lying → Pr = SlotAt f (λ s. s.1) (loaded_at Y) in let G : Pr = ex 𝓤 At in
+        slot_noted f (λ s. s.1) (loaded_at Y) (⟦ K ⟧ ∗ ⟦ Z ⟧) (λ s. loaded_slot (side_of r) (is_some s.1)) (qed 𝓛 (‵ I ∷ ‵ K ∷ ‵ Z ∷ []) ∵ use2 𝓛 (‵ K ⊛ ‵ F ⊛ ‵ (fwand F I)) lends $ split3 ! $ move ! (1 ∷ []) $
         fpick ! (λ s. fsplit3 ! $ fpick ! (λ there. forget ! $ move ! (1 ∷ []) $ fsplit ! $
         -- [the right that lies there; both sides; the word; K; the way back; Z]
         move ! (1 ∷ 5 ∷ []) $ use2 𝓛 (raw (upd 𝓤 (⟦ B s.1 ⟧ ∗ ⟦ Y s.1 ⟧))) (can s.1) $ settle 𝓛 G (‵ (B s.1) ⊛ ‵ (Y s.1)) $ suffices ! _ (upd_i 𝓤 G) $ split ! $
         -- [both sides; Y; the right; the word; K; the way back]
-        move ! (3 ∷ []) $ show ! (Holding far f then) (number s) $ frame ! $ assume ! (‵ (word w far (number s))) $ suffices ! _ (upd_i 𝓤 (⟦ I ⟧ ∗ ⟦ then (number s) ⟧)) $
-        move ! (3 ∷ 1 ∷ []) $ fjoin ! $ move ! (1 ∷ 0 ∷ []) $ fjoin ! $ nothing ! $ fpack ! (s.0 < 4) (λ _. ftrue) there $ fjoin ! $ fpack ! Lying (slot_at w far z.cells γ δ c shows) s $
+        move ! (3 ∷ []) $ let n : ℕ = number (filled s) in show ! At s $ frame ! $ assume ! (‵ (mirrored ticket_code μ w far n s.1)) $ suffices ! _ (upd_i 𝓤 (⟦ I ⟧ ∗ ⟦ loaded_at Y s n ⟧)) $
+        move ! (3 ∷ 1 ∷ []) $ fjoin ! $ move ! (1 ∷ 0 ∷ []) $ fjoin ! $ nothing ! $ fpack ! (s.0 < 4) (λ _. ftrue) there $ fjoin ! $ fpack ! Lying (slot_at w far z.cells μ γ δ c shows) s $
         -- [the slot; Y; K; the way back]
-        move ! (0 ∷ 3 ∷ []) $ use2 𝓛 (‵ I) (apply∗ 𝓤 ⟦ F ⟧ ⟦ I ⟧) $ frame ! $ nothing ! $ fpack ! (number s ≡ number s) (λ _. ftrue) refl $ fjoin ! $ fpack ! Lying (loaded_at Y (number s)) s $ move ! (1 ∷ 0 ∷ []) $ fjoin ! $ done !)))
+        move ! (0 ∷ 3 ∷ []) $ use2 𝓛 (‵ I) (apply∗ 𝓤 ⟦ F ⟧ ⟦ I ⟧) $ frame ! $ nothing ! $ fpack ! (n ≡ n) (λ _. ftrue) refl $ fjoin ! $ move ! (1 ∷ 0 ∷ []) $ fjoin ! $ done !)))
+        (λ s t e. ap is_some e) (λ s t e. same_slot r s.1 t e) k own (λ _. (λ m. refl, λ s. refl))
 
     -- the side that waits becomes a'
-    waits_on : (full filled : Bool) (a : Waits X) (change : Wakes X → Waits X) → ((b : Wakes X) → AreAt X full a b → AreAt X filled (change b) b)
-        → (Q : Waits X → Type 0) → ((b : Wakes X) → AreAt X full a b → Q (change b)) → ((b : Wakes X) → ⟦ shows a.1.1 ⟧ ∗ ⟦ shows b.1 ⟧ ⊢ ⟦ shows b.1 ⟧ ∗ ⟦ shows (change b).1.1 ⟧)
-        → ⟦ B full ⟧ ∗ ⟦ Waiting a ⟧ ⊢ upd 𝓤 (⟦ B filled ⟧ ∗ ⟦ fex (Waits X) (λ a'. fsep (fact (Q a')) (Waiting a')) ⟧)
-    waits_on full filled a change keeps Q tells hears = let End : Fml = fex (Waits X) (λ a'. fsep (fact (Q a')) (Waiting a')) in let G : Pr = ⟦ B filled ⟧ ∗ ⟦ End ⟧ in let k : Coded (Waits X) = waits_code X c in
-        qed 𝓛 (‵ (B full) ∷ ‵ (Waiting a) ∷ []) ∵ fpick ! (λ s. fsplit3 ! $ fpick ! (λ so. forget ! $ move ! (1 ∷ []) $ fsplit ! $ move ! (3 ∷ []) $ fsplit ! $
+    waits_on : (lies next : Option ℕ) (a : Waits X) (change : Wakes X → Waits X) → ((b : Wakes X) → AreAt X lies a b → AreAt X next (change b) b)
+        → (Q : Waits X → Type 0) → ((b : Wakes X) → AreAt X lies a b → Q (change b)) → ((b : Wakes X) → ⟦ shows a.1.1 ⟧ ∗ ⟦ shows b.1 ⟧ ⊢ ⟦ shows b.1 ⟧ ∗ ⟦ shows (change b).1.1 ⟧)
+        → ⟦ B lies ⟧ ∗ ⟦ Waiting a ⟧ ⊢ upd 𝓤 (⟦ B next ⟧ ∗ ⟦ fex (Waits X) (λ a'. fsep (fact (Q a')) (Waiting a')) ⟧)
+    waits_on lies next a change keeps Q tells hears = let End : Fml = fex (Waits X) (λ a'. fsep (fact (Q a')) (Waiting a')) in let G : Pr = ⟦ B next ⟧ ∗ ⟦ End ⟧ in let k : Coded (Waits X) = waits_code X c in
+        qed 𝓛 (‵ (B lies) ∷ ‵ (Waiting a) ∷ []) ∵ fpick ! (λ s. fsplit3 ! $ fpick ! (λ so. forget ! $ move ! (1 ∷ []) $ fsplit ! $ move ! (3 ∷ []) $ fsplit ! $
         -- [the own; its evidence; what the waiter is; what the waker is; the evidence]
         let b : Wakes X = s.1 in let new : Waits X = change b in
-        move ! (0 ∷ 2 ∷ []) $ name_agree ! k (λ e. let so' : AreAt X full a b = subst (λ (y : Waits X). AreAt X full y b) (sym e) so in
+        move ! (0 ∷ 2 ∷ []) $ name_agree ! k (λ e. let so' : AreAt X lies a b = subst (λ (y : Waits X). AreAt X lies y b) (sym e) so in
         use2 𝓛 (raw (upd 𝓤 (⟦ fobs γ (k.code new) ⟧ ∗ ⟦ fauth γ (k.code new) ⟧))) (𝓛.names.name_set_upd γ (k.code a) (k.code s.0) (k.code new)) $ settle 𝓛 G (‵ (fobs γ (k.code new)) ⊛ ‵ (fauth γ (k.code new))) $ suffices ! _ (upd_i 𝓤 G) $ split ! $
         -- [the own; what the waiter is; its evidence; what the waker is; the evidence]
         move ! (2 ∷ 4 ∷ []) $ use2 𝓛 (‵ (shows b.1) ⊛ ‵ (shows new.1.1)) (hears b) $ split ! $
         -- [the evidence; that of the own; the own; what the waiter is; what the waker is]
-        move ! (3 ∷ 4 ∷ []) $ fjoin ! $ move ! (1 ∷ 0 ∷ []) $ fjoin ! $ nothing ! $ fpack ! (AreAt X filled new b) (λ _. ftrue) (keeps b so') $ fjoin ! $ fpack ! (Waits X × Wakes X) (both_at w far z.cells γ δ c shows filled) (new, b) $ frame ! $
+        move ! (3 ∷ 4 ∷ []) $ fjoin ! $ move ! (1 ∷ 0 ∷ []) $ fjoin ! $ nothing ! $ fpack ! (AreAt X next new b) (λ _. ftrue) (keeps b so') $ fjoin ! $ fpack ! (Waits X × Wakes X) (both_at w far z.cells μ γ δ c shows next) (new, b) $ frame ! $
         move ! (1 ∷ 0 ∷ []) $ fjoin ! $ nothing ! $ fpack ! (Q new) (λ _. ftrue) (tells b so') $ fjoin ! $ fpack ! (Waits X) (λ a'. fsep (fact (Q a')) (Waiting a')) new $ done !)))
 
     -- evidence can be had twice
@@ -234,79 +267,81 @@ module _ {M : Type 1} {𝓤 : Ura M} (𝓛 : Logic 𝓤) (w p : Ptr) (z : Names)
     hears_old x y = qed 𝓛 (‵ (shows x) ∷ ‵ (shows y) ∷ []) ∵ move ! (1 ∷ 0 ∷ []) $ done !
 
     -- what the side is that put a cell into its own slot, if that held a waker before or not
-    abbrev pub IsExchanged : Waits X → Bool → Bool → Waits X → Type 0
-    IsExchanged a filled full a' = Exchanges X filled a a' × (full ≡ true → a.0 ≡ true)
+    abbrev pub IsExchanged : Waits X → Bool → Option ℕ → Waits X → Type 0
+    IsExchanged a filled lies a' = Exchanges X filled a a' × (is_some lies ≡ true → a.0 ≡ true) × IsLast lies a.1.0
 
-    abbrev exchanged_as : Waits X → Bool → Bool → Waits X → Fml
-    exchanged_as a filled full a' = fsep (fact (IsExchanged a filled full a')) (Waiting a')
+    abbrev exchanged_as : Waits X → Bool → Option ℕ → Waits X → Fml
+    exchanged_as a filled lies a' = fsep (fact (IsExchanged a filled lies a')) (Waiting a')
 
-    abbrev pub Exchanged : Waits X → Bool → Bool → Fml
-    Exchanged a filled full = fex (Waits X) (exchanged_as a filled full)
+    abbrev pub Exchanged : Waits X → Bool → Option ℕ → Fml
+    Exchanged a filled lies = fex (Waits X) (exchanged_as a filled lies)
 
     hears : Twice → (filled : Bool) (a : Waits X) (b : Wakes X) → ⟦ shows a.1.1 ⟧ ∗ ⟦ shows b.1 ⟧ ⊢ ⟦ shows b.1 ⟧ ∗ ⟦ shows (after filled a b.1).1.1 ⟧
     hears twice true a b = hears_new twice a.1.1 b.1
     hears twice false a b = hears_old a.1.1 b.1
 
-    exchange : Lent K F → Twice → (a : Waits X) (own : Lying) → own.0 < 4 → ⟦ C ⟧ ∗ ⟦ K ⟧ ∗ ⟦ fsep (Cell own) (Waiting a) ⟧ ⊢ access far (λ _. number own) (Swapped (Exchanged a own.1))
-    exchange lends twice a own small = let filled : Bool = own.1 in trades lends own small (Waiting a) (Exchanged a filled) (λ full.
-        waits_on full filled a (λ b. after filled a b.1) (λ b h. goes_in filled full a b h) (IsExchanged a filled full) (λ b h. (exchanges filled a b.1, waited full a b h)) (hears twice filled a))
+    exchange : Lent K F → Twice → (a : Waits X) (i : ℕ) (full : Bool) → i < 4 → (k : Log) → k.keeps ≡ true → k.names ≡ z
+        → ⟦ C ⟧ ∗ (⟦ K ⟧ ∗ ⟦ fsep (Cell (filled (i, put_in full a))) (Waiting a) ⟧) ∗ ⟦ Kept 𝓛 w p z k k.did ⟧ ⊢ access far (λ _. number (filled (i, put_in full a))) (Swapped (i, put_in full a) (Exchanged a full) k)
+    exchange lends twice a i full small = trades lends (i, put_in full a) small (Waiting a) (Exchanged a full) (λ lies.
+        waits_on lies (put_in full a) a (λ b. after full a b.1) (λ b h. goes_in full lies a b h) (IsExchanged a full lies) (λ b h. let was = waited lies a b h in (exchanges full a b.1, was.0, was.1)) (hears twice full a))
 
     -- what the side is that loaded its own slot
-    abbrev pub IsSeen : Waits X → Bool → Waits X → Type 0
-    IsSeen a full a' = (a' ≡ seen_own full a) × (full ≡ true → a.0 ≡ true)
+    abbrev pub IsSeen : Waits X → Option ℕ → Waits X → Type 0
+    IsSeen a lies a' = (a' ≡ seen_own (is_some lies) a) × (is_some lies ≡ true → a.0 ≡ true)
 
-    abbrev seen_as : Waits X → Bool → Waits X → Fml
-    seen_as a full a' = fsep (fact (IsSeen a full a')) (Waiting a')
+    abbrev seen_as : Waits X → Option ℕ → Waits X → Fml
+    seen_as a lies a' = fsep (fact (IsSeen a lies a')) (Waiting a')
 
-    abbrev pub Seen : Waits X → Bool → Fml
-    Seen a full = fex (Waits X) (seen_as a full)
+    abbrev pub Seen : Waits X → Option ℕ → Fml
+    Seen a lies = fex (Waits X) (seen_as a lies)
 
     keeps_old : (full : Bool) (a : Waits X) (b : Wakes X) → ⟦ shows a.1.1 ⟧ ∗ ⟦ shows b.1 ⟧ ⊢ ⟦ shows b.1 ⟧ ∗ ⟦ shows (seen_own full a).1.1 ⟧
     keeps_old true a b = hears_old a.1.1 b.1
     keeps_old false a b = hears_old a.1.1 b.1
 
-    load_own_slot : Lent K F → (a : Waits X) → ⟦ C ⟧ ∗ ⟦ K ⟧ ∗ ⟦ Waiting a ⟧ ⊢ access far (λ n. n) (Loaded (Seen a))
-    load_own_slot lends a = looks lends (Waiting a) (Seen a) (λ full. waits_on full full a (λ _. seen_own full a) (λ b h. own_seen full a b h) (IsSeen a full) (λ b h. (refl, waited full a b h)) (keeps_old full a))
+    load_own_slot : Lent K F → (a : Waits X) → (k : Log) → (k.keeps ≡ true → k.names ≡ z) → ⟦ C ⟧ ∗ (⟦ K ⟧ ∗ ⟦ Waiting a ⟧) ∗ ⟦ Kept 𝓛 w p z k k.did ⟧ ⊢ access far (λ n. n) (Loaded (Seen a) k)
+    load_own_slot lends a = looks lends (Waiting a) (Seen a) (λ lies. waits_on lies lies a (λ _. seen_own (is_some lies) a) (λ b h. own_seen lies a b h) (IsSeen a lies) (λ b h. (refl, (waited lies a b h).0)) (keeps_old (is_some lies) a))
 
     one_shows : (y x o : X) → (y ≡ x) ⊎ (y ≡ o) → ⟦ shows x ⟧ ∗ ⟦ shows o ⟧ ⊢ ⟦ shows y ⟧
     one_shows y x o (inl e) = qed 𝓛 (‵ (shows x) ∷ ‵ (shows o) ∷ []) ∵ rewrite ! 0 (λ (u : X). ‵ (shows u)) {x = y} {y = x} (sym e) refl $ keep ! (0 ∷ []) $ done !
     one_shows y x o (inr e) = qed 𝓛 (‵ (shows x) ∷ ‵ (shows o) ∷ []) ∵ rewrite ! 1 (λ (u : X). ‵ (shows u)) {x = y} {y = o} (sym e) refl $ keep ! (1 ∷ []) $ done !
 
     -- the side that wakes becomes b', with evidence of what it has stored
-    wakes_on : (full filled : Bool) (b : Wakes X) (x : X) (Q : Wakes X → Type 0) → ((a : Waits X) → AreAt X full a b → (b' : Wakes X) × AreAt X filled a b' × Q b' × ((b'.1 ≡ x) ⊎ (b'.1 ≡ b.1)))
-        → ⟦ B full ⟧ ∗ ⟦ fsep (Waking b) (shows x) ⟧ ⊢ upd 𝓤 (⟦ B filled ⟧ ∗ ⟦ fex (Wakes X) (λ b'. fsep (fact (Q b')) (Waking b')) ⟧)
-    wakes_on full filled b x Q can = let End : Fml = fex (Wakes X) (λ b'. fsep (fact (Q b')) (Waking b')) in let G : Pr = ⟦ B filled ⟧ ∗ ⟦ End ⟧ in let k : Coded (Wakes X) = wakes_code X c in
-        qed 𝓛 (‵ (B full) ∷ ‵ (fsep (Waking b) (shows x)) ∷ []) ∵ fpick ! (λ s. fsplit3 ! $ fpick ! (λ so. forget ! $ move ! (1 ∷ []) $ fsplit ! $ move ! (3 ∷ []) $ fsplit ! $
+    wakes_on : (lies next : Option ℕ) (b : Wakes X) (x : X) (Q : Wakes X → Type 0) → ((a : Waits X) → AreAt X lies a b → (b' : Wakes X) × AreAt X next a b' × Q b' × ((b'.1 ≡ x) ⊎ (b'.1 ≡ b.1)))
+        → ⟦ B lies ⟧ ∗ ⟦ fsep (Waking b) (shows x) ⟧ ⊢ upd 𝓤 (⟦ B next ⟧ ∗ ⟦ fex (Wakes X) (λ b'. fsep (fact (Q b')) (Waking b')) ⟧)
+    wakes_on lies next b x Q can = let End : Fml = fex (Wakes X) (λ b'. fsep (fact (Q b')) (Waking b')) in let G : Pr = ⟦ B next ⟧ ∗ ⟦ End ⟧ in let k : Coded (Wakes X) = wakes_code X c in
+        qed 𝓛 (‵ (B lies) ∷ ‵ (fsep (Waking b) (shows x)) ∷ []) ∵ fpick ! (λ s. fsplit3 ! $ fpick ! (λ so. forget ! $ move ! (1 ∷ []) $ fsplit ! $ move ! (3 ∷ []) $ fsplit ! $
         -- [the own; its evidence; what the waiter is; what the waker is; the evidence that lay there]
         let a : Waits X = s.0 in
-        move ! (0 ∷ 3 ∷ []) $ name_agree ! k (λ e. let r = can a (subst (λ (y : Wakes X). AreAt X full a y) (sym e) so) in let new : Wakes X = r.0 in
+        move ! (0 ∷ 3 ∷ []) $ name_agree ! k (λ e. let r = can a (subst (λ (y : Wakes X). AreAt X lies a y) (sym e) so) in let new : Wakes X = r.0 in
         use2 𝓛 (raw (upd 𝓤 (⟦ fobs δ (k.code new) ⟧ ∗ ⟦ fauth δ (k.code new) ⟧))) (𝓛.names.name_set_upd δ (k.code b) (k.code s.1) (k.code new)) $ settle 𝓛 G (‵ (fobs δ (k.code new)) ⊛ ‵ (fauth δ (k.code new))) $ suffices ! _ (upd_i 𝓤 G) $ split ! $
         -- [the own; what the waker is; its evidence; what the waiter is; the evidence that lay there]
         rewrite ! 4 (λ (y : Wakes X). ‵ (shows y.1)) {x = b} {y = s.1} (sym e) refl $ move ! (2 ∷ 4 ∷ []) $ use2 𝓛 (‵ (shows new.1)) (one_shows new.1 x b.1 r.3) $
         -- [the evidence; the own; what the waker is; what the waiter is]
-        move ! (3 ∷ 2 ∷ []) $ fjoin ! $ move ! (1 ∷ 0 ∷ []) $ fjoin ! $ nothing ! $ fpack ! (AreAt X filled a new) (λ _. ftrue) r.1 $ fjoin ! $ fpack ! (Waits X × Wakes X) (both_at w far z.cells γ δ c shows filled) (a, new) $ frame ! $
+        move ! (3 ∷ 2 ∷ []) $ fjoin ! $ move ! (1 ∷ 0 ∷ []) $ fjoin ! $ nothing ! $ fpack ! (AreAt X next a new) (λ _. ftrue) r.1 $ fjoin ! $ fpack ! (Waits X × Wakes X) (both_at w far z.cells μ γ δ c shows next) (a, new) $ frame ! $
         nothing ! $ fpack ! (Q new) (λ _. ftrue) r.2 $ fjoin ! $ fpack ! (Wakes X) (λ b'. fsep (fact (Q b')) (Waking b')) new $ done !)))
 
     -- what the side is that emptied the other's slot
-    abbrev pub IsTaken : Wakes X → X → Bool → Wakes X → Type 0
-    IsTaken b x full b' = IsTicket full b.0 b'.0 × (b'.1 ≡ x)
+    abbrev pub IsTaken : Wakes X → X → Option ℕ → Wakes X → Type 0
+    IsTaken b x lies b' = (IsTicket (is_some lies) b.0 b'.0 × IsLast lies b'.0) × (b'.1 ≡ x)
 
-    abbrev pub Taken : Wakes X → X → Bool → Fml
-    Taken b x full = fex (Wakes X) (λ b'. fsep (fact (IsTaken b x full b')) (Waking b'))
+    abbrev pub Taken : Wakes X → X → Option ℕ → Fml
+    Taken b x lies = fex (Wakes X) (λ b'. fsep (fact (IsTaken b x lies b')) (Waking b'))
 
-    empty : Lent K F → (b : Wakes X) (x : X) (i : ℕ) → i < 4 → ⟦ C ⟧ ∗ ⟦ K ⟧ ∗ ⟦ fsep (Cell (i, false)) (fsep (Waking b) (shows x)) ⟧ ⊢ access far (λ _. number (i, false)) (Swapped (Taken b x))
-    empty lends b x i small = trades lends (i, false) small (fsep (Waking b) (shows x)) (Taken b x) (λ full. wakes_on full false b x (IsTaken b x full) (λ a h. let r = comes_out full a b x h in ((r.0, x), r.2, (r.1, refl), inl refl)))
+    empty : Lent K F → (b : Wakes X) (x : X) (i : ℕ) → i < 4 → (k : Log) → k.keeps ≡ true → k.names ≡ z
+        → ⟦ C ⟧ ∗ (⟦ K ⟧ ∗ ⟦ fsep (Cell (i, false)) (fsep (Waking b) (shows x)) ⟧) ∗ ⟦ Kept 𝓛 w p z k k.did ⟧ ⊢ access far (λ _. number (i, false)) (Swapped (i, None) (Taken b x) k)
+    empty lends b x i small = trades lends (i, None) small (fsep (Waking b) (shows x)) (Taken b x) (λ lies. wakes_on lies None b x (IsTaken b x lies) (λ a h. let o = comes_out lies a b x h in ((o.0, x), o.2, (o.1, refl), inl refl)))
 
     -- what the side is that loaded the other's slot
-    abbrev pub Looked : Wakes X → X → Bool → Fml
-    Looked b x full = fex (Wakes X) (λ b'. fsep (fact (b' ≡ seen_other full b x)) (Waking b'))
+    abbrev pub Looked : Wakes X → X → Option ℕ → Fml
+    Looked b x lies = fex (Wakes X) (λ b'. fsep (fact (b' ≡ seen_other (is_some lies) b x)) (Waking b'))
 
     sees : (full : Bool) (b : Wakes X) (x : X) → ((seen_other full b x).1 ≡ x) ⊎ ((seen_other full b x).1 ≡ b.1)
     sees true b x = inr refl
     sees false b x = inl refl
 
-    load_other_slot : Lent K F → (b : Wakes X) (x : X) → ⟦ C ⟧ ∗ ⟦ K ⟧ ∗ ⟦ fsep (Waking b) (shows x) ⟧ ⊢ access far (λ n. n) (Loaded (Looked b x))
-    load_other_slot lends b x = looks lends (fsep (Waking b) (shows x)) (Looked b x) (λ full. wakes_on full full b x (λ b'. b' ≡ seen_other full b x) (λ a h. (seen_other full b x, other_seen full a b x h, refl, sees full b x)))
+    load_other_slot : Lent K F → (b : Wakes X) (x : X) → (k : Log) → (k.keeps ≡ true → k.names ≡ z) → ⟦ C ⟧ ∗ (⟦ K ⟧ ∗ ⟦ fsep (Waking b) (shows x) ⟧) ∗ ⟦ Kept 𝓛 w p z k k.did ⟧ ⊢ access far (λ n. n) (Loaded (Looked b x) k)
+    load_other_slot lends b x = looks lends (fsep (Waking b) (shows x)) (Looked b x) (λ lies. wakes_on lies lies b x (λ b'. b' ≡ seen_other (is_some lies) b x) (λ a h. (seen_other (is_some lies) b x, other_seen lies a b x h, refl, sees (is_some lies) b x)))
 
     abbrev pub Met : Waits X → Wakes X → Pr
     Met a b = guard 𝓤 (IsRemembered X a b) (⟦ K ⟧ ∗ ⟦ Waiting a ⟧ ∗ ⟦ Waking b ⟧)
@@ -314,17 +349,17 @@ module _ {M : Type 1} {𝓤 : Ura M} (𝓛 : Logic 𝓤) (w p : Ptr) (z : Names)
     -- both sides held by one thread: it is no step
     meets : Lent K F → (a : Waits X) (b : Wakes X) → ⟦ C ⟧ ∗ ⟦ K ⟧ ∗ ⟦ Waiting a ⟧ ∗ ⟦ Waking b ⟧ ⊢ H.⇛ (Met a b)
     meets lends a b = let Q : Pr = Met a b in let Z : Pr = ⟦ I ⟧ ∗ Q in
-        qed 𝓛 (‵ C ∷ ‵ K ∷ ‵ (Waiting a) ∷ ‵ (Waking b) ∷ []) ∵ fsplit ! $ forget ! $ suffices ! _ (𝓛.invs.inv_acc I Q) $ frame ! $ assume ! (‵ I) $
-        use2 𝓛 (‵ K ⊛ ‵ F ⊛ ‵ (fwand F I)) lends $ split3 ! $ move ! (1 ∷ []) $ fpick ! (λ s. fsplit3 ! $ fpick ! (λ there. forget ! $ move ! (1 ∷ []) $ fsplit ! $ move ! (1 ∷ []) $ fpick ! (λ r. fsplit3 ! $ fpick ! (λ so. forget ! $ move ! (1 ∷ []) $ fsplit ! $
+        quietly 𝓛 w p z (⟦ K ⟧ ∗ ⟦ Waiting a ⟧ ∗ ⟦ Waking b ⟧) Q (qed 𝓛 (‵ I ∷ ‵ K ∷ ‵ (Waiting a) ∷ ‵ (Waking b) ∷ []) ∵
+        use2 𝓛 (‵ K ⊛ ‵ F ⊛ ‵ (fwand F I)) lends $ split3 ! $ move ! (1 ∷ []) $ fpick ! (λ s. fsplit3 ! $ fpick ! (λ there. forget ! $ move ! (1 ∷ []) $ fsplit ! $ move ! (1 ∷ []) $ fpick ! (λ both_are. fsplit3 ! $ fpick ! (λ so. forget ! $ move ! (1 ∷ []) $ fsplit ! $
         -- [what the waiter is; what the waker is; the evidence; the right; the word; K; the way back; a; b]
         move ! (7 ∷ []) $ fsplit ! $ move ! (0 ∷ 2 ∷ []) $ name_agree ! (waits_code X c) (λ ea. move ! (9 ∷ 3 ∷ []) $ name_agree ! (wakes_code X c) (λ eb.
         -- [b; what the waker is; a; what the waiter is; a's evidence; the evidence; the right; the word; K; the way back]
-        move ! (3 ∷ 1 ∷ []) $ fjoin ! $ move ! (4 ∷ 0 ∷ []) $ fjoin ! $ nothing ! $ fpack ! (AreAt X s.1 r.0 r.1) (λ _. ftrue) so $ fjoin ! $ fpack ! (Waits X × Wakes X) (both_at w far z.cells γ δ c shows s.1) r $
+        move ! (3 ∷ 1 ∷ []) $ fjoin ! $ move ! (4 ∷ 0 ∷ []) $ fjoin ! $ nothing ! $ fpack ! (AreAt X s.1 both_are.0 both_are.1) (λ _. ftrue) so $ fjoin ! $ fpack ! (Waits X × Wakes X) (both_at w far z.cells μ γ δ c shows s.1) both_are $
         -- [both sides; b; a; a's evidence; the right; the word; K; the way back]
-        move ! (4 ∷ 0 ∷ []) $ fjoin ! $ move ! (4 ∷ 0 ∷ []) $ fjoin ! $ nothing ! $ fpack ! (s.0 < 4) (λ _. ftrue) there $ fjoin ! $ fpack ! Lying (slot_at w far z.cells γ δ c shows) s $
+        move ! (4 ∷ 0 ∷ []) $ fjoin ! $ move ! (4 ∷ 0 ∷ []) $ fjoin ! $ nothing ! $ fpack ! (s.0 < 4) (λ _. ftrue) there $ fjoin ! $ fpack ! Lying (slot_at w far z.cells μ γ δ c shows) s $
         -- [the slot; b; a; a's evidence; K; the way back]
         move ! (0 ∷ 5 ∷ []) $ use2 𝓛 (‵ I) (apply∗ 𝓤 ⟦ F ⟧ ⟦ I ⟧) $ suffices ! _ (upd_i 𝓤 Z) $ frame ! $ move ! (1 ∷ 2 ∷ []) $ fjoin ! $ move ! (2 ∷ 0 ∷ 1 ∷ []) $
-        check ! (subst (λ (q : Waits X × Wakes X). IsRemembered X q.0 q.1) (λ j. (sym ea j, sym eb j)) (remembers s.1 r.0 r.1 so)) $ done !))))))
+        check ! (subst (λ (q : Waits X × Wakes X). IsRemembered X q.0 q.1) (λ j. (sym ea j, sym eb j)) (remembers s.1 both_are.0 both_are.1 so)) $ done !)))))))
 
   -- an end that lends its words knows that both slots are there
   slot_lent : (q : Share) (k : Known) (r : Bool) → Lent (knows w p z k q) (slot_of w p z r)
@@ -333,9 +368,9 @@ module _ {M : Type 1} {𝓤 : Ura M} (𝓛 : Logic 𝓤) (w p : Ptr) (z : Names)
   slot_lent q (by_writer sent limit shut) true = readers_own (WK q sent limit shut 0) (writer_lent q sent limit shut 0 (flag_small false))
   slot_lent q (by_writer sent limit shut) false = writers_own (WK q sent limit shut 0) (writer_lent q sent limit shut 0 (flag_small false))
 
-  module _ (q : Share) (k : Known) (r : Bool) where
+  module _ (q : Share) (k₀ : Known) (r : Bool) where
     abbrev K : Fml
-    K = knows w p z k q
+    K = knows w p z k₀ q
 
     abbrev far : ℕ
     far = slot_word r * 8
@@ -349,43 +384,51 @@ module _ {M : Type 1} {𝓤 : Ura M} (𝓛 : Logic 𝓤) (w p : Ptr) (z : Names)
     abbrev Theirs : Wakes Stored → Fml
     Theirs b = wakes_in z r b.0 b.1
 
-    abbrev Own : Lying → Fml
-    Own = cell w far z.cells (waiter z r) (waker z r) stored_code shows
+    abbrev Own : Filled → Fml
+    Own = cell w far z.cells (slot_name z.traced r) (waiter z r) (waker z r) stored_code shows
 
-    abbrev pub SwapsOwn : Waits Stored → Bool → ℕ → Fml
-    SwapsOwn a filled = Swapped far (waiter z r) (waker z r) stored_code shows K (Exchanged far (waiter z r) (waker z r) stored_code shows K a filled)
+    -- what is kept by the log
+    abbrev Keep : Log → Fml
+    Keep k = Kept 𝓛 w p z k k.did
 
-    exchange_so : (a : Waits Stored) (own : Lying) → own.0 < 4 → ⟦ C ⟧ ∗ ⟦ K ⟧ ∗ ⟦ fsep (Own own) (Mine a) ⟧ ⊢ access far (λ _. number own) (SwapsOwn a own.1)
-    exchange_so = exchange far (waiter z r) (waker z r) stored_code shows K (slot_lent q k r) (evidence_twice 𝓛 z r)
+    abbrev pub SwapsOwn : Waits Stored → Filled → Log → ℕ → Fml
+    SwapsOwn a own = Swapped r far (waiter z r) (waker z r) stored_code shows K (own.0, put_in own.1 a) (Exchanged r far (waiter z r) (waker z r) stored_code shows K a own.1)
+
+    pub put_filled : (full : Bool) (t : ℕ) → is_some (ticket_if full t) ≡ full
+    put_filled true t = refl
+    put_filled false t = refl
 
     -- what the word is told to be
-    pub exchange_own : (a : Waits Stored) (own : Lying) (new : ℕ) → own.0 < 4 → new ≡ number own → ⟦ C ⟧ ∗ ⟦ K ⟧ ∗ ⟦ fsep (Own own) (Mine a) ⟧ ⊢ access far (λ _. new) (SwapsOwn a own.1)
-    exchange_own a own new small e = subst (λ (m : ℕ). ⟦ C ⟧ ∗ ⟦ K ⟧ ∗ ⟦ fsep (Own own) (Mine a) ⟧ ⊢ access far (λ _. m) (SwapsOwn a own.1)) (sym e) (exchange_so a own small)
+    pub exchange_own : (a : Waits Stored) (own : Filled) (new : ℕ) → own.0 < 4 → new ≡ number own → (k : Log) → k.keeps ≡ true → k.names ≡ z
+        → ⟦ C ⟧ ∗ (⟦ K ⟧ ∗ ⟦ fsep (Own own) (Mine a) ⟧) ∗ ⟦ Keep k ⟧ ⊢ access far (λ _. new) (SwapsOwn a own k)
+    exchange_own a own new small e k kept is = let same : is_some (put_in own.1 a) ≡ own.1 = put_filled own.1 (a.1.0 + 1) in
+        subst (λ (u : ℕ × Bool). ⟦ C ⟧ ∗ (⟦ K ⟧ ∗ ⟦ fsep (Own (own.0, u.1)) (Mine a) ⟧) ∗ ⟦ Keep k ⟧ ⊢ access far (λ _. u.0) (SwapsOwn a own k))
+        {x = (number (own.0, is_some (put_in own.1 a)), is_some (put_in own.1 a))} {y = (new, own.1)} (λ j. ((ap (λ (b : Bool). number (own.0, b)) same ∙ sym e) j, same j))
+        (exchange r far (waiter z r) (waker z r) stored_code shows K (slot_lent q k₀ r) (evidence_twice 𝓛 z r) a own.0 own.1 small k kept is)
 
-    abbrev pub LoadsOwn : Waits Stored → ℕ → Fml
-    LoadsOwn a = Loaded far (waiter z r) (waker z r) stored_code shows K (Seen far (waiter z r) (waker z r) stored_code shows K a)
+    abbrev pub LoadsOwn : Waits Stored → Log → ℕ → Fml
+    LoadsOwn a = Loaded r far (waiter z r) (waker z r) stored_code shows K (Seen r far (waiter z r) (waker z r) stored_code shows K a)
 
-    pub load_own : (a : Waits Stored) → ⟦ C ⟧ ∗ ⟦ K ⟧ ∗ ⟦ Mine a ⟧ ⊢ access far (λ n. n) (LoadsOwn a)
-    load_own = load_own_slot far (waiter z r) (waker z r) stored_code shows K (slot_lent q k r)
+    pub load_own : (a : Waits Stored) → (k : Log) → (k.keeps ≡ true → k.names ≡ z) → ⟦ C ⟧ ∗ (⟦ K ⟧ ∗ ⟦ Mine a ⟧) ∗ ⟦ Keep k ⟧ ⊢ access far (λ n. n) (LoadsOwn a k)
+    load_own = load_own_slot r far (waiter z r) (waker z r) stored_code shows K (slot_lent q k₀ r)
 
-    abbrev pub EmptiesOther : Wakes Stored → Stored → ℕ → Fml
-    EmptiesOther b x = Swapped far (waiter z r) (waker z r) stored_code shows K (Taken far (waiter z r) (waker z r) stored_code shows K b x)
+    abbrev pub EmptiesOther : Wakes Stored → Stored → ℕ → Log → ℕ → Fml
+    EmptiesOther b x i = Swapped r far (waiter z r) (waker z r) stored_code shows K (i, None) (Taken r far (waiter z r) (waker z r) stored_code shows K b x)
 
-    empty_so : (b : Wakes Stored) (x : Stored) (i : ℕ) → i < 4 → ⟦ C ⟧ ∗ ⟦ K ⟧ ∗ ⟦ fsep (Own (i, false)) (fsep (Theirs b) (shows x)) ⟧ ⊢ access far (λ _. number (i, false)) (EmptiesOther b x)
-    empty_so = empty far (waiter z r) (waker z r) stored_code shows K (slot_lent q k r)
+    pub empty_other : (b : Wakes Stored) (x : Stored) (i new : ℕ) → i < 4 → new ≡ number (i, false) → (k : Log) → k.keeps ≡ true → k.names ≡ z
+        → ⟦ C ⟧ ∗ (⟦ K ⟧ ∗ ⟦ fsep (Own (i, false)) (fsep (Theirs b) (shows x)) ⟧) ∗ ⟦ Keep k ⟧ ⊢ access far (λ _. new) (EmptiesOther b x i k)
+    empty_other b x i new small e k kept is = subst (λ (m : ℕ). ⟦ C ⟧ ∗ (⟦ K ⟧ ∗ ⟦ fsep (Own (i, false)) (fsep (Theirs b) (shows x)) ⟧) ∗ ⟦ Keep k ⟧ ⊢ access far (λ _. m) (EmptiesOther b x i k)) (sym e)
+        (empty r far (waiter z r) (waker z r) stored_code shows K (slot_lent q k₀ r) b x i small k kept is)
 
-    pub empty_other : (b : Wakes Stored) (x : Stored) (i new : ℕ) → i < 4 → new ≡ number (i, false) → ⟦ C ⟧ ∗ ⟦ K ⟧ ∗ ⟦ fsep (Own (i, false)) (fsep (Theirs b) (shows x)) ⟧ ⊢ access far (λ _. new) (EmptiesOther b x)
-    empty_other b x i new small e = subst (λ (m : ℕ). ⟦ C ⟧ ∗ ⟦ K ⟧ ∗ ⟦ fsep (Own (i, false)) (fsep (Theirs b) (shows x)) ⟧ ⊢ access far (λ _. m) (EmptiesOther b x)) (sym e) (empty_so b x i small)
+    abbrev pub LooksAtOther : Wakes Stored → Stored → Log → ℕ → Fml
+    LooksAtOther b x = Loaded r far (waiter z r) (waker z r) stored_code shows K (Looked r far (waiter z r) (waker z r) stored_code shows K b x)
 
-    abbrev pub LooksAtOther : Wakes Stored → Stored → ℕ → Fml
-    LooksAtOther b x = Loaded far (waiter z r) (waker z r) stored_code shows K (Looked far (waiter z r) (waker z r) stored_code shows K b x)
-
-    pub load_other : (b : Wakes Stored) (x : Stored) → ⟦ C ⟧ ∗ ⟦ K ⟧ ∗ ⟦ fsep (Theirs b) (shows x) ⟧ ⊢ access far (λ n. n) (LooksAtOther b x)
-    load_other = load_other_slot far (waiter z r) (waker z r) stored_code shows K (slot_lent q k r)
+    pub load_other : (b : Wakes Stored) (x : Stored) → (k : Log) → (k.keeps ≡ true → k.names ≡ z) → ⟦ C ⟧ ∗ (⟦ K ⟧ ∗ ⟦ fsep (Theirs b) (shows x) ⟧) ∗ ⟦ Keep k ⟧ ⊢ access far (λ n. n) (LooksAtOther b x k)
+    load_other = load_other_slot r far (waiter z r) (waker z r) stored_code shows K (slot_lent q k₀ r)
 
     -- both sides of the slot, held by one thread
-    pub meet : (a : Waits Stored) (b : Wakes Stored) → ⟦ C ⟧ ∗ ⟦ K ⟧ ∗ ⟦ Mine a ⟧ ∗ ⟦ Theirs b ⟧ ⊢ H.⇛ (Met far (waiter z r) (waker z r) stored_code shows K a b)
-    meet = meets far (waiter z r) (waker z r) stored_code shows K (slot_lent q k r)
+    pub meet : (a : Waits Stored) (b : Wakes Stored) → ⟦ C ⟧ ∗ ⟦ K ⟧ ∗ ⟦ Mine a ⟧ ∗ ⟦ Theirs b ⟧ ⊢ H.⇛ (Met r far (waiter z r) (waker z r) stored_code shows K a b)
+    meet = meets r far (waiter z r) (waker z r) stored_code shows K (slot_lent q k₀ r)
 
   -- what the writer's right to the stream shows
   pub writer_stored : (q : Share) (sent : List ℕ) (limit : ℕ) (shut : Bool) → ⟦ WK q sent limit shut 0 ⟧ ⊢ ⟦ WK q sent limit shut 0 ⟧ ∗ ⟦ evidence z true (as_stored sent 0 shut) ⟧

@@ -1,6 +1,7 @@
 pub mod Places
 pub mod Streams
 pub mod Words
+pub mod Trace
 pub mod Block
 pub mod Slot
 pub mod Shared

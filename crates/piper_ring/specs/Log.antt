@@ -1,5 +1,6 @@
 -- What a log says: where its side's last call is, by the call table.
-use Rattle.std.specs.Prelude.{◌≡◌, ℕ, ◌⊎◌, Bool, List, [], ◌∷◌, Option, Result, Ok, Err, true, false, ⊤}
+use Rattle.std.specs.Prelude.{◌≡◌, ℕ, Bool, List, [], ◌∷◌, Option, None, is_some, Result, Ok, Err, true, false, not, ⊤}
+use Rattle.piper_protocol.specs.OneList.{Access, AreOneList, stored_closed, swapped}
 use Rattle.piper_protocol.specs.Table.{Next, ends, goes_on, look_begun, read_action, read_row, write_action, write_row}
 use Rattle.piper_protocol.specs.declared.answer.Answer.{Answer}
 use Rattle.piper_protocol.specs.declared.answer.Answer.TheVariants.{Done}
@@ -13,10 +14,9 @@ use Rattle.piper_protocol.specs.declared.table.Point.TheVariants.{Reader, Writer
 use Rattle.piper_protocol.specs.declared.table.Purpose.TheVariants.{Copy}
 use Rattle.piper_protocol.specs.declared.table.ReadPoint.TheVariants as at
 use Rattle.piper_protocol.specs.declared.table.Side.{Side}
-use Rattle.piper_protocol.specs.declared.table.Side.TheVariants as side
 use Rattle.piper_protocol.specs.declared.table.WritePoint.TheVariants as on
-use Rattle.piper_ring.specs.Loads.{FoundClosed, FoundConsumed, FoundPublished, FoundWaiter}
 use Rattle.piper_ring.specs.Shared.{Names}
+use Rattle.piper_ring.specs.Trace.{side_of}
 use Rattle.piper_ring.specs.declared.log.Line.{Line}
 use Rattle.piper_ring.specs.declared.log.Line.TheVariants.{Began, Made, ClosedLoaded, Drew}
 use Rattle.piper_ring.specs.declared.log.Log.{Log as log}
@@ -57,6 +57,10 @@ drawn is_drawn point = idle point
 
 -- what a log says
 
+-- two logs say the same of the calls
+abbrev pub AreAlike : log → log → Type 0
+AreAlike a b = a.lines ≡ b.lines
+
 -- where the last call is after these lines, and what it answered
 abbrev pub comes_to : List Line → Next Point
 comes_to [] = ends (Reader at.Idle) Done
@@ -83,6 +87,32 @@ before_of (Drew is_drawn ∷ before) = before_of before
 -- a log, and with one line more
 abbrev pub Log : Type 0
 Log = log
+
+-- it is the log of this side of the ring
+abbrev pub IsLogOf : Names → Bool → Log → Type 0
+IsLogOf names reads log = (log.keeps ≡ true) × (log.names ≡ names) × (log.reads ≡ reads)
+
+-- of which nothing is noted yet
+abbrev pub IsNew : Names → Bool → Log → Type 0
+IsNew names reads log = IsLogOf names reads log × (log.did ≡ []) × (log.lines ≡ [])
+
+-- the first has the accesses of the reader, if that is `true`, else those of the writer, and the second
+-- those of the other side: they are what is left of one list
+abbrev pub AreSides : Bool → List Access → List Access → Type 0
+AreSides true a b = AreOneList a b
+AreSides false a b = AreOneList b a
+
+-- a load of this side may be noted in it: nobody keeps it, or the side does
+abbrev pub MayNote : Names → Bool → Log → Type 0
+MayNote names reads log = log.keeps ≡ true → (log.names ≡ names) × (log.reads ≡ reads)
+
+abbrev pub did : Access → Log → Log
+did access log = record log { did = access ∷ log.did }
+
+-- the same, if the access was made
+abbrev pub did_if : Bool → Access → Log → Log
+did_if true access log = did access log
+did_if false access log = log
 
 abbrev pub with_line : Line → Log → Log
 with_line line log = record log { lines = line ∷ log.lines }
@@ -145,29 +175,19 @@ pub record WakesNext (now : Next Point) : Type 0 where
   pub wakes : action (then now (waker true)).point ≡ does.Wake
   pub same : then (then now (waker true)) Nothing ≡ then now (waker false)
 
--- evidence of what an access found
+-- the side that waits in a side's own slot, and the one that waits in the other
+abbrev pub own : Bool → Side
+own reads = side_of reads
 
--- the other side's index was loaded
-abbrev pub WasIndexLoaded : Type 0
-WasIndexLoaded = (names : Names) × (count : ℕ) × (FoundPublished names count ⊎ FoundConsumed names count)
+abbrev pub other : Bool → Side
+other reads = side_of (not reads)
 
-abbrev pub WasClosedLoaded : Bool → Type 0
-WasClosedLoaded is_closed = (names : Names) × FoundClosed names is_closed
-
--- the other side's slot was checked
-abbrev pub WasSlotLoaded : Bool → Type 0
-WasSlotLoaded is_found = (names : Names) × FoundWaiter names is_found
-
--- a side of this ring left: after its close it checked the other's slot, and found this waker there or
--- none; its log ends there. It is sealed: no proof looks into it, and only those of `finish` use the
--- lemma below
-pub HasLeft : {T : Type 0} → Names → Option T → Log → Type 0
-HasLeft names taken log = ⊤
-
-pub as_finished : {T : Type 0} (names : Names) (taken : Option T) (log : Log)
-    → HasLeft names taken log
-unfolding HasLeft
-as_finished names taken log = tt
+-- the last accesses of a side that left: it closed, and then emptied the other's slot, in which it
+-- found a waker or none
+abbrev pub HasLeft : Bool → Log → Log → Type 0
+HasLeft is_found a b =
+    (found : Option ℕ) × (is_some found ≡ is_found)
+    × (b.did ≡ swapped (other a.reads) found None ∷ stored_closed ∷ a.did)
 
 -- this step was made, which is no access of a ring. It is sealed: no proof looks into it, and only
 -- those of the functions that make the step use the lemma below
@@ -188,12 +208,3 @@ IsOutside does.Yield = WasMade does.Yield
 IsOutside does.CallDestination = ⊤
 IsOutside does.CallSource = ⊤
 IsOutside action = ⊥
-
--- the side that waits in a side's own slot, and the one that waits in the other
-abbrev pub own : Bool → Side
-own true = side.Reader
-own false = side.Writer
-
-abbrev pub other : Bool → Side
-other true = side.Writer
-other false = side.Reader

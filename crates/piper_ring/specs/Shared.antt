@@ -12,7 +12,7 @@ use denote.Builtin.{u8}
 use denote.RawPtr.{Ptr, coded_ptr, block_of, count_of, InBlock}
 use denote.Sharing.{said, beside, one}
 use Rattle.core.specs.Allocator.{array_of}
-use Rattle.std.specs.Coded.{Coded, code_by, coded×, coded_list}
+use Rattle.std.specs.Coded.{Coded, code_by, coded×, coded_bool, coded_list}
 use Rattle.rtrb.specs.Fifo.{position_of}
 use Rattle.rtrb.specs.Shared.{run, span}
 use Rattle.piper_cells.specs.TokenCell.{right as right_to}
@@ -21,8 +21,9 @@ use Rattle.piper_ring.specs.Block.{behind, heap_token, purpose, size_of_block, s
 use Rattle.piper_ring.specs.Places.{fact, byte, unset}
 pub use Rattle.piper_ring.specs.Streams.{Stream}
 use Rattle.piper_ring.specs.Streams.{streams}
-pub use Rattle.piper_ring.specs.Words.{flag, word, word_room, where_gone}
-use Rattle.piper_ring.specs.Slot.{Lying, Stored, number, slot, stored_code, waits_code, wakes_code}
+pub use Rattle.piper_ring.specs.Words.{flag, mirrored, word, word_room, where_gone}
+use Rattle.piper_ring.specs.Trace.{bytes_code, closed_name, head_name, slot_name, tail_name, trace}
+use Rattle.piper_ring.specs.Slot.{Filled, Stored, number, slot, stored_code, waits_code, wakes_code}
 
 -- The capacity, and the ghost names under which the ring's history is kept.
 pub record Names : Type 0 where
@@ -50,9 +51,11 @@ pub record Names : Type 0 where
   pub cells : List ℕ
   -- the lifetime for which the space of these cells is lent
   pub life : ℕ
+  -- what the words stand for, and what each side did
+  pub traced : List ℕ
 
-abbrev pub names_of : (c s l h e o i j a b d f : ℕ) → List ℕ → ℕ → Names
-names_of c s l h e o i j a b d f cells life = record {
+abbrev pub names_of : (c s l h e o i j a b d f : ℕ) → List ℕ → ℕ → List ℕ → Names
+names_of c s l h e o i j a b d f cells life traced = record {
   capacity = c;
   sent = s;
   limit = l;
@@ -67,6 +70,7 @@ names_of c s l h e o i j a b d f cells life = record {
   reader_wakes = f;
   cells = cells;
   life = life;
+  traced = traced;
 }
 
 abbrev pub Three : Type 0
@@ -75,14 +79,15 @@ Three = ℕ × (ℕ × ℕ)
 abbrev pub coded_three : Coded Three
 coded_three = coded× coded_ℕ (coded× coded_ℕ coded_ℕ)
 
-abbrev pub of_threes : Three → Three → Three → Three → List ℕ → ℕ → Names
+abbrev pub of_threes : Three → Three → Three → Three → List ℕ → ℕ → List ℕ → Names
 of_threes a b c d = names_of a.0 a.1.0 a.1.1 b.0 b.1.0 b.1.1 c.0 c.1.0 c.1.1 d.0 d.1.0 d.1.1
 
 abbrev pub names_code : Coded Names
 names_code =
-    code_by ((Three × Three) × ((Three × Three) × (List ℕ × ℕ)))
+    code_by ((Three × Three) × ((Three × Three) × (List ℕ × (ℕ × List ℕ))))
     (coded× (coded× coded_three coded_three)
-    (coded× (coded× coded_three coded_three) (coded× (coded_list coded_ℕ) coded_ℕ)))
+    (coded× (coded× coded_three coded_three)
+    (coded× (coded_list coded_ℕ) (coded× coded_ℕ (coded_list coded_ℕ)))))
     (λ z. (
       ((z.capacity, (z.sent, z.limit)), (z.head, (z.seen, z.closed))),
       (
@@ -90,10 +95,10 @@ names_code =
           (z.reader_stage, (z.writer_stage, z.reader_waits)),
           (z.writer_wakes, (z.writer_waits, z.reader_wakes)),
         ),
-        (z.cells, z.life),
+        (z.cells, (z.life, z.traced)),
       ),
     ))
-    (λ p. of_threes p.0.0 p.0.1 p.1.0.0 p.1.0.1 p.1.1.0 p.1.1.1) (λ _. refl)
+    (λ p. of_threes p.0.0 p.0.1 p.1.0.0 p.1.0.1 p.1.1.0 p.1.1.1.0 p.1.1.1.1) (λ _. refl)
 
 -- which ring it is: where its words and its memory begin, and its names
 pub record Ring : Type 0 where
@@ -226,13 +231,23 @@ module _ (w p : Ptr) (z : Names) where
   -- for what the reader consumes
   abbrev pub slot_of : Bool → Fml
   slot_of r =
-      slot w (slot_word r * 8) z.cells (waiter z r) (waker z r) stored_code (evidence z r)
+      slot w (slot_word r * 8) z.cells (slot_name z.traced r) (waiter z r) (waker z r) stored_code
+      (evidence z r)
+
+  abbrev pub head_is : ℕ → ℕ → Fml
+  head_is = mirrored coded_ℕ (head_name z.traced) w 8
+
+  abbrev pub tail_is : ℕ → List ℕ → Fml
+  tail_is = mirrored bytes_code (tail_name z.traced) w 208
+
+  abbrev pub closed_is : ℕ → Bool → Fml
+  closed_is = mirrored coded_bool (closed_name z.traced) w 136
 
   abbrev pub words : State → Fml
   words s =
-      fsep (word w 8 (position_of z.capacity s.head))
-      (fsep (word w 208 (position_of z.capacity (length s.sent)))
-      (fsep (word w 136 (flag s.closed))
+      fsep (head_is (position_of z.capacity s.head) s.head)
+      (fsep (tail_is (position_of z.capacity (length s.sent)) s.sent)
+      (fsep (closed_is (flag s.closed) s.closed)
       (word w 0 (one_gone (gone s.reader_stage) (gone s.writer_stage)))))
 
   abbrev pub idle : ℕ → ℕ → List ℕ → Fml
@@ -316,11 +331,15 @@ module _ (w p : Ptr) (z : Names) where
   abbrev pub Inner : Fml
   Inner = fex State state_holds
 
+  -- with the list of all accesses
+  abbrev pub Whole : Fml
+  Whole = fsep Inner (trace z.traced)
+
   abbrev pub RingIsPlaced : Type 0
   RingIsPlaced = InBlock w × (p ≡ behind w) × (size_of_block z.capacity < 2 ^ 63)
 
   abbrev pub common : Fml
-  common = fsep (fact RingIsPlaced) (finv Inner)
+  common = fsep (fact RingIsPlaced) (finv Whole)
 
   -- the bytes `have` were sent first
   abbrev pub arrived_first : ℕ → List ℕ → Fml
@@ -355,12 +374,12 @@ module _ (w p : Ptr) (z : Names) where
   words_lent r s κ = fsep common (fsep (fex Known (lent_by κ)) (evidence z r s))
 
   -- the word of a slot, and the right to the cell that lies there
-  abbrev pub found_left : ℕ → Lying → Fml
+  abbrev pub found_left : ℕ → Filled → Fml
   found_left far s =
       fsep (fact (s.0 < 4)) (fsep (word w far (number s)) (right_to true (slice_index z.cells s.0) s.1))
 
   abbrev pub left_in : ℕ → Fml
-  left_in far = fex Lying (found_left far)
+  left_in far = fex Filled (found_left far)
 
   abbrev pub wakers_left : Fml
   wakers_left = fsep (left_in 144) (left_in 112)

@@ -3,13 +3,14 @@
 -- moves with the word: each side has the right to one cell more, in which nothing is, and each slot to
 -- the one that lies in it. Either side changes a slot by one step: its own cell goes in, and the one
 -- that lay there comes out.
-use Rattle.std.specs.Prelude.{◌≡◌, ◌≢◌, ℕ, ◌+◌, ◌*◌, ◌%◌, ◌<◌, ◌≤◌, ◌==◌, Bool, true, false, List, [], slice_index, refl}
+use Rattle.std.specs.Prelude.{◌≡◌, ◌≢◌, ℕ, ◌+◌, ◌*◌, ◌%◌, ◌<◌, ◌≤◌, ◌==◌, Bool, true, false, List, [], Option, Some, None, is_some, slice_index, refl}
 use base.Fml.{Fml, fsep, fex, fauth}
 use denote.RawPtr.{Ptr}
 use Rattle.std.specs.Coded.{Coded, code_by, coded×, coded_list, coded_ℕ, coded_bool}
 use Rattle.piper_ring.specs.Places.{fact}
 use Rattle.piper_cells.specs.TokenCell.{right}
-use Rattle.piper_ring.specs.Words.{flag, word}
+use Rattle.piper_ring.specs.Words.{flag, mirrored}
+use Rattle.piper_ring.specs.Trace.{ticket_code}
 
 -- What a side has stored for the other to find: the bytes that the writer published, or how many
 -- the reader consumed, and whether the ring was closed.
@@ -33,13 +34,25 @@ stored_code =
     code_by (List ℕ × (ℕ × Bool)) (coded× (coded_list coded_ℕ) (coded× coded_ℕ coded_bool))
     (λ s. (s.bytes, (s.count, s.closed))) (λ p. as_stored p.0 p.1.0 p.1.1) (λ _. refl)
 
--- which cell lies in a slot, and whether a waker is in it
-abbrev pub Lying : Type 0
-Lying = ℕ × Bool
+-- a cell, and whether a waker is in it
+abbrev pub Filled : Type 0
+Filled = ℕ × Bool
 
--- what the word says then
-abbrev pub number : Lying → ℕ
+-- what the word of a slot says in which the cell lies
+abbrev pub number : Filled → ℕ
 number s = 2 * s.0 + flag s.1
+
+-- which cell lies in a slot, and the ticket of the waker that is in it
+abbrev pub Lying : Type 0
+Lying = ℕ × Option ℕ
+
+abbrev pub filled : Lying → Filled
+filled s = (s.0, is_some s.1)
+
+-- the ticket, if there is a waker
+abbrev pub ticket_if : Bool → ℕ → Option ℕ
+ticket_if true ticket = Some ticket
+ticket_if false ticket = None
 
 abbrev pub is_odd : ℕ → Bool
 is_odd n = n % 2 == 1
@@ -60,10 +73,11 @@ module _ (X : Type 0) where
   abbrev pub Wakes : Type 0
   Wakes = ℕ × X
 
-  -- how both sides are, if a waker is in the slot, or if none is
-  abbrev pub AreAt : Bool → Waits → Wakes → Type 0
-  AreAt true a b = (a.0 ≡ true) × (b.1 ≡ a.1.1) × (b.0 < a.1.0)
-  AreAt false a b = (b.0 ≤ a.1.0) × (a.0 ≡ true → b.0 ≡ a.1.0)
+  -- how both sides are, if a waker with this ticket is in the slot, or if none is
+  abbrev pub AreAt : Option ℕ → Waits → Wakes → Type 0
+  AreAt (Some ticket) a b =
+      (a.0 ≡ true) × (b.1 ≡ a.1.1) × (b.0 < a.1.0) × (ticket ≡ a.1.0)
+  AreAt None a b = (b.0 ≤ a.1.0) × (a.0 ≡ true → b.0 ≡ a.1.0)
 
   abbrev pub waits_code : Coded X → Coded Waits
   waits_code c = coded× coded_bool (coded× coded_ℕ c)
@@ -82,25 +96,28 @@ module _ (X : Type 0) where
   abbrev pub IsRemembered : Waits → Wakes → Type 0
   IsRemembered a b = a.0 ≡ true → b.1 ≢ a.1.1 → b.0 ≡ a.1.0
 
--- the word lies `far` bytes after w; the ghost names are those of the side that waits and of the side
--- that wakes; `shows` is evidence of what was stored
-module _ {X : Type 0} (w : Ptr) (far : ℕ) (cells : List ℕ) (waits wakes : ℕ) (c : Coded X) (shows : X → Fml) where
-  abbrev pub both_at : Bool → Waits X × Wakes X → Fml
-  both_at full s =
-      fsep (fact (AreAt X full s.0 s.1))
+-- the word lies `far` bytes after w; the ghost names are those of the slot, of the side that waits and
+-- of the side that wakes; `shows` is evidence of what was stored
+module _ {X : Type 0} (w : Ptr) (far : ℕ) (cells : List ℕ) (name waits wakes : ℕ) (c : Coded X) (shows : X → Fml) where
+  abbrev pub both_at : Option ℕ → Waits X × Wakes X → Fml
+  both_at lies s =
+      fsep (fact (AreAt X lies s.0 s.1))
       (fsep (shows s.1.1)
       (fsep (fauth waits ((waits_code X c).code s.0)) (fauth wakes ((wakes_code X c).code s.1))))
 
   -- what both sides are, if a waker is in the slot, or if none is
-  abbrev pub both : Bool → Fml
-  both full = fex (Waits X × Wakes X) (both_at full)
+  abbrev pub both : Option ℕ → Fml
+  both lies = fex (Waits X × Wakes X) (both_at lies)
 
   -- the right to the cell that lies there
-  abbrev pub cell : Lying → Fml
+  abbrev pub cell : Filled → Fml
   cell s = right true (slice_index cells s.0) s.1
 
   abbrev pub slot_at : Lying → Fml
-  slot_at s = fsep (fact (s.0 < 4)) (fsep (word w far (number s)) (fsep (cell s) (both s.1)))
+  slot_at s =
+      fsep (fact (s.0 < 4))
+      (fsep (mirrored ticket_code name w far (number (filled s)) s.1)
+      (fsep (cell (filled s)) (both s.1)))
 
   abbrev pub slot : Fml
   slot = fex Lying slot_at

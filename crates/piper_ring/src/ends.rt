@@ -4,6 +4,7 @@
 pub(crate) mod cells;
 pub(crate) mod finished;
 pub(crate) mod leaving;
+pub(crate) mod logged;
 pub(crate) mod opening;
 pub(crate) mod reader;
 pub(crate) mod room;

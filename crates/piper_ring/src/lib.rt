@@ -8,6 +8,7 @@ mod ring;
 
 pub use ends::cells::LeftWakers;
 pub use ends::finished::{Finished, FinishedReader, FinishedWriter};
+pub use ends::logged::Logged;
 pub use ends::opening::{open_ring, open_with_slots};
 pub use ends::reader::ReadEnd;
 pub use ends::slots::looks::Look;

@@ -1,7 +1,10 @@
 //! What a side did, call by call, in the words of the call table. It has no bytes: an access of a
 //! side adds what it found, and clauses read it.
 ghost use Rattle.std.specs.Borrow.{ftrue};
-ghost use Rattle.std.specs.Prelude.{◌≡◌, List, []};
+ghost use Rattle.std.specs.Prelude.{◌≡◌, Bool, List, false};
+ghost use Rattle.piper_protocol.specs.OneList.{Access};
+ghost use Rattle.piper_ring.specs.Shared.{Names, names_code};
+ghost use Rattle.piper_ring.specs.Trace.{access_code, did_owns};
 ghost use Rattle.piper_ring.specs.declared.log.Line.{Line};
 
 use piper_protocol::table::{Action, Found, Point};
@@ -20,14 +23,20 @@ pub enum Line {
     Drew(bool),
 }
 
-/// All that a side did, the last first.
+/// All that a side of a ring did, the last first: the reader if `reads`, else the writer. `did` has
+/// each access of what both sides share, with what it found and left: the access itself adds it, and
+/// nothing else can. A query keeps no log.
 pub struct Log {
-    mark: PhantomData<*mut u8>,
+    pub(crate) mark: PhantomData<*mut u8>,
+    pub(crate) ghost names: { Names } by { names_code },
+    pub(crate) ghost reads: { Bool },
+    pub(crate) ghost keeps: { Bool },
+    pub(crate) ghost did: { List Access } by { access_code },
     ghost lines: { List Line },
 }
 
 impl Model for Log {
-    ghost also_owns = { λ _. ftrue };
+    ghost also_owns = { λ l. did_owns l.names.traced l.keeps l.reads l.did };
 
     ghost also_shares = { λ _ _ _. ftrue };
 }
@@ -45,10 +54,12 @@ impl Drop for Log {
 }
 
 impl Log {
-    ghost use Rattle.piper_ring.specs.Log.{WasClosedLoaded, WasIndexLoaded, WasMade, WasSlotLoaded, began, closed_loaded, drew, made, next, with_line};
+    ghost use Rattle.piper_ring.specs.Log.{WasMade, began, closed_loaded, drew, made, next, with_line};
 
-    pub(crate) fn new() -> Log
-        ensures { result.lines ≡ [] }
+    /// A log that nobody keeps, for a query.
+    #[inline(always)]
+    pub(crate) fn unkept() -> Log
+        ensures { result.keeps ≡ false }
     {
         Log { mark: PhantomData }
     }
@@ -61,40 +72,12 @@ impl Log {
         self.push(&Line::Began(first));
     }
 
-    /// The other side's index was loaded, and nothing is known even now, or something is.
-    #[inline(always)]
-    pub(crate) fn index_loaded(&mut self, none: bool)
-        requires { WasIndexLoaded }
-        ensures { self.new ≡ made (Found.IndexLoaded none) self.old }
-    {
-        self.note(Found::IndexLoaded { none });
-    }
-
-    /// Closed was loaded.
-    #[inline(always)]
-    pub(crate) fn closed_loaded(&mut self, is_closed: bool)
-        requires { WasClosedLoaded is_closed }
-        ensures { self.new ≡ made (Found.Flag is_closed) self.old }
-    {
-        self.note(Found::Flag(is_closed));
-    }
-
     /// Closed was loaded as a look of the writer begins.
     #[inline(always)]
     pub(crate) fn closed_loaded_first(&mut self, none: bool, is_closed: bool)
-        requires { WasClosedLoaded is_closed }
         ensures { self.new ≡ closed_loaded none is_closed self.old }
     {
         self.push(&Line::ClosedLoaded { none, is_closed });
-    }
-
-    /// The other side's slot was checked, and a waker was registered there or not.
-    #[inline(always)]
-    pub(crate) fn slot_loaded(&mut self, is_found: bool)
-        requires { WasSlotLoaded is_found }
-        ensures { self.new ≡ made (Found.Waker is_found) self.old }
-    {
-        self.note(Found::Waker(is_found));
     }
 
     /// A copy drew.
@@ -115,8 +98,7 @@ impl Log {
         self.note(Found::Nothing);
     }
 
-    /// A step was made whose evidence is in what its side is afterwards, or that is no access of a
-    /// side.
+    /// The step that the table has next was made, and found this.
     #[inline(always)]
     pub(crate) fn note(&mut self, found: Found)
         ensures { self.new ≡ made found self.old }

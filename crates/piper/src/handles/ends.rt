@@ -8,7 +8,8 @@ use piper_ring::{
 };
 
 impl Reader {
-    ghost use Rattle.piper.specs.OfReader.{end_of, ring};
+    ghost use Rattle.piper_protocol.specs.OneList.{AreOneList};
+    ghost use Rattle.piper.specs.OfReader.{accesses, end_of, ring};
     ghost use Rattle.piper.specs.OfWriter as of_writer;
     ghost use Rattle.piper.specs.ReaderCalls.{MeetWoken, Meets, ReaderObserves, ReaderWasWoken};
 
@@ -45,9 +46,13 @@ impl Reader {
     /// side has nothing to do and the pipe is open. If both sides are pending so, one of them took
     /// and called the other's waker: a pipe is not empty and full.
     ///
+    /// All accesses of both to what they share are one list, in which each found what the last one
+    /// before it left.
+    ///
     /// Requires: both handles are of one pipe.
     pub fn meet(&mut self, other: &mut Writer)
         requires { of_writer.ring other.old ≡ ring self.old }
+        ensures list { AreOneList (accesses self.old) (of_writer.accesses other.old) }
         ensures met { Meets self.old self.new other.old other.new }
         ensures woken { MeetWoken self.old self.new other.old other.new }
     {
@@ -62,19 +67,22 @@ impl Reader {
     /// Requires: the mark is of the same pipe.
     pub fn meet_finished(&mut self, left: &mut FinishedWriter)
         requires { left.old.mark.names ≡ (ring self.old).names }
+        ensures list { AreOneList (accesses self.old) left.old.log.did }
         ensures woken { ReaderWasWoken self.old left.old }
         ensures observes { ReaderObserves left.old.mark self.old self.new }
         ensures last { left.old.mark.shut ≡ true }
         ensures rest { left.new ≡ left.old }
     {
         self.side.meet_slot(&mut left.slots);
+        self.side.meet_log(&mut left.log);
         self.side.observe(&left.mark);
     }
 }
 
 impl Writer {
     ghost use Rattle.piper.specs.Handles.{lends_room};
-    ghost use Rattle.piper.specs.OfWriter.{end_of, ring, saw};
+    ghost use Rattle.piper_protocol.specs.OneList.{AreOneList};
+    ghost use Rattle.piper.specs.OfWriter.{accesses, end_of, ring, saw};
     ghost use Rattle.piper.specs.WriterCalls.{MayLend, MustLend, WriterObserves, WriterWasWoken};
 
     /// Its end of the ring.
@@ -115,11 +123,13 @@ impl Writer {
     /// Requires: the mark is of the same pipe.
     pub fn meet_finished(&mut self, left: &mut FinishedReader)
         requires { left.old.mark.consumed.names ≡ (ring self.old).names }
+        ensures list { AreOneList left.old.log.did (accesses self.old) }
         ensures woken { WriterWasWoken self.old left.old }
         ensures observes { WriterObserves left.old.mark.consumed.count true self.old self.new }
         ensures rest { left.new ≡ left.old }
     {
         self.side.meet_slot(&mut left.slots);
+        self.side.meet_log(&mut left.log);
         self.side.observe_last(&left.mark);
     }
 

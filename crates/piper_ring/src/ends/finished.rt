@@ -1,5 +1,6 @@
 //! What is left of a side that has left.
-ghost use Rattle.std.specs.Prelude.{◌≡◌, true};
+ghost use Rattle.std.specs.Prelude.{◌≡◌, true, false};
+ghost use Rattle.piper_ring.specs.Log.{IsLogOf};
 
 use crate::ends::cells::LeftWakers;
 use crate::ends::slots::reader::ReadRegistrations;
@@ -27,6 +28,7 @@ pub struct FinishedReader {
     /// What the side did.
     pub log: Log,
     ghost of_one_ring: { slots.names ≡ mark.consumed.names },
+    ghost own_log: { IsLogOf slots.names true log },
     ghost after_its_close: { slots.stored.closed ≡ true },
 }
 
@@ -40,5 +42,6 @@ pub struct FinishedWriter {
     /// What the side did.
     pub log: Log,
     ghost of_one_ring: { slots.names ≡ mark.names },
+    ghost own_log: { IsLogOf slots.names false log },
     ghost after_its_close: { (mark.shut ≡ true) × (slots.stored.closed ≡ true) },
 }

@@ -3,6 +3,7 @@ ghost use Rattle.std.specs.Prelude.{◌≡◌, ℕ, ◌+◌, ◌-◌, ◌*◌, �
 
 use crate::ends::leaving::LeavingReader;
 use crate::ends::writer::WriteEnd;
+use crate::log::Log;
 use crate::ring::marks::{ClosedMark, LastReadMark, ReadMark, WriteMark};
 use crate::ring::places::Places;
 use crate::ring::seats::ReadSeat;
@@ -49,7 +50,9 @@ impl Model for ReadEnd {
 impl ReadEnd {
     ghost use Rattle.piper_ring.specs.ReadView.{KeepsAll, LoadsTail, ReadEndMayHave, Observes, ReaderLoadsClosed, in_one_piece};
     ghost use Rattle.piper_ring.specs.Meeting.{EndsMeet};
+    ghost use Rattle.piper_protocol.specs.OneList.{loaded_closed, loaded_tail, stored_closed, stored_head};
     ghost use Rattle.piper_ring.specs.Loads.{FoundClosed};
+    ghost use Rattle.piper_ring.specs.Log.{IsLogOf, MayNote, did};
     ghost use Rattle.piper_ring.specs.Shared.{ring_of};
 
     /// The capacity of the ring. No more bytes are known than that.
@@ -81,7 +84,10 @@ impl ReadEnd {
     pub fn len(&self) -> usize
         ensures { ReadEndMayHave self.now result }
     {
-        let (tail, _) = self.parts.seat.load_tail(&self.parts.heard);
+        let (tail, _) = self
+            .parts
+            .seat
+            .load_tail(&self.parts.heard, &mut Log::unkept());
         self.parts.indices.unread_to(tail as usize)
     }
 
@@ -93,7 +99,11 @@ impl ReadEnd {
         ensures found { FoundClosed self.now.ring.names result }
     {
         let mut saw = self.parts.saw.duplicate();
-        self.parts.seat.load_closed(&mut saw, &self.parts.observed) != 0
+        let parts = &self.parts;
+        parts
+            .seat
+            .load_closed(&mut saw, &parts.observed, &mut Log::unkept())
+            != 0
     }
 
     /// The known bytes that are contiguous, at least one if any is known. The slice stays as it
@@ -130,12 +140,15 @@ impl ReadEnd {
     /// Loads the tail, and so knows of bytes that were published: of all there are, once it is known
     /// where the pipe ends. It is for an end that knows of none: one that does has something to do,
     /// and need not touch the other's word.
-    pub fn load_tail(&mut self)
-        requires { length self.old.known ≡ 0 }
-        ensures { LoadsTail self.old.all self.old self.new }
+    pub fn load_tail(&mut self, log: &mut Log)
+        requires none { length self.old.known ≡ 0 }
+        requires log { MayNote self.old.ring.names true log.old }
+        ensures end { LoadsTail self.old.all self.old self.new }
+        ensures noted { log.new ≡ did (loaded_tail
+            (length self.new.taken + length self.new.known)) log.old }
     {
         let parts = &mut self.parts;
-        let (tail, published) = parts.seat.load_tail(&parts.heard);
+        let (tail, published) = parts.seat.load_tail(&parts.heard, log);
         parts.seat.accept(&mut parts.known, &published);
         parts.heard.observe(&published);
         parts.indices.set_tail(tail as usize);
@@ -152,12 +165,14 @@ impl ReadEnd {
     }
 
     /// `load_tail`, if it knows of no byte.
-    pub fn load_tail_if_empty(&mut self)
+    pub fn load_tail_if_empty(&mut self, log: &mut Log)
+        requires { IsLogOf self.old.ring.names true log.old }
         ensures none { self.old.known ≡ [] → LoadsTail self.old.all self.old self.new }
-        ensures known { 0 < length self.old.known → self.new ≡ self.old }
+        ensures known { 0 < length self.old.known → (self.new ≡ self.old) × (log.new ≡ log.old) }
+        ensures log { IsLogOf self.new.ring.names true log.new }
     {
         if self.knows_none() {
-            self.load_tail();
+            self.load_tail(log);
         }
     }
 
@@ -182,39 +197,45 @@ impl ReadEnd {
 
     /// Loads closed, and keeps what it saw. If it is closed, it is known from then
     /// on where the pipe ends.
-    pub fn load_closed(&mut self) -> bool
-        ensures { ReaderLoadsClosed self.old.observed_shut result self.old self.new }
+    pub fn load_closed(&mut self, log: &mut Log) -> bool
+        requires { MayNote self.old.ring.names true log.old }
+        ensures end { ReaderLoadsClosed self.old.observed_shut result self.old self.new }
+        ensures noted { log.new ≡ did (loaded_closed result) log.old }
     {
         let observed = self.parts.observed.duplicate();
-        self.load_closed_knowing(&observed)
+        self.load_closed_knowing(&observed, log)
     }
 
     /// `load_closed`, with evidence of what the writer did besides: it finds that, too.
-    pub(crate) fn load_closed_knowing(&mut self, more: &WriteMark) -> bool
-        requires { more.now.names ≡ self.old.ring.names }
-        ensures { ReaderLoadsClosed more.now.shut result self.old self.new }
+    pub(crate) fn load_closed_knowing(&mut self, more: &WriteMark, log: &mut Log) -> bool
+        requires ring { more.now.names ≡ self.old.ring.names }
+        requires log { MayNote self.old.ring.names true log.old }
+        ensures end { ReaderLoadsClosed more.now.shut result self.old self.new }
+        ensures noted { log.new ≡ did (loaded_closed result) log.old }
     {
         let parts = &mut self.parts;
         let mut observed = parts.observed.duplicate();
         observed.observe(more);
-        let is_closed = parts.seat.load_closed(&mut parts.saw, &observed) != 0;
+        let is_closed = parts.seat.load_closed(&mut parts.saw, &observed, log) != 0;
         parts.heard.observe(&parts.saw);
         is_closed
     }
 
     /// Takes the first `n` known bytes off, which are contiguous, and stores the head past them:
     /// their places are the writer's again. It wakes nobody.
-    pub fn store_head(&mut self, n: usize)
-        requires { n ≤ in_one_piece self.old }
-        ensures { self.new ≡ record self.old {
+    pub fn store_head(&mut self, n: usize, log: &mut Log)
+        requires piece { n ≤ in_one_piece self.old }
+        requires log { IsLogOf self.old.ring.names true log.old }
+        ensures end { self.new ≡ record self.old {
           taken = self.old.taken ++ take n self.old.known;
           known = drop n self.old.known;
         } }
+        ensures noted { log.new ≡ did (stored_head (take n self.old.known)) log.old }
     {
         let parts = &mut self.parts;
         let back = parts.known.split(n);
         let head = parts.indices.consume(n);
-        parts.seat.store_head(back, head as u64);
+        parts.seat.store_head(log, back, head as u64);
     }
 
     /// Closes the pipe and drops this end. The memory is freed if the writer's end is gone. It
@@ -223,18 +244,22 @@ impl ReadEnd {
     ///
     /// The answer is evidence, for the writer's end, that the pipe is closed, and of all that was
     /// ever consumed.
-    pub fn finish(self) -> LastReadMark
-        ensures { (result.consumed.names ≡ self.ring.names)
+    pub fn finish(self, log: &mut Log) -> LastReadMark
+        requires { IsLogOf self.ring.names true log.old }
+        ensures noted { log.new ≡ did stored_closed log.old }
+        ensures consumed { (result.consumed.names ≡ self.ring.names)
             × (result.consumed.count ≡ length self.taken) }
     {
         let consumed = self.mark();
-        let (leaving, closed) = self.close();
+        let (leaving, closed) = self.close(log);
         let _none = leaving.leave::<()>(None);
         LastReadMark { consumed, closed }
     }
 
     /// Closes the pipe, since this end is about to leave.
-    pub(crate) fn close(self) -> (LeavingReader, ClosedMark)
+    pub(crate) fn close(self, log: &mut Log) -> (LeavingReader, ClosedMark)
+        requires { IsLogOf self.ring.names true log.old }
+        ensures noted { log.new ≡ did stored_closed log.old }
         ensures ring { ring_of result.0.seat.words result.0.seat.at result.0.seat.names
             ≡ self.ring }
         ensures head { result.0.seat.head ≡ length self.taken }
@@ -251,7 +276,7 @@ impl ReadEnd {
             alloc,
             indices,
         } = parts;
-        let closed = seat.store_closed();
+        let closed = seat.store_closed(log);
         let leaving = LeavingReader {
             seat,
             known: known.forget(),
@@ -260,11 +285,5 @@ impl ReadEnd {
             capacity: indices.capacity(),
         };
         (leaving, closed)
-    }
-}
-
-impl Drop for ReadEnd {
-    fn drop(self) {
-        self.finish();
     }
 }

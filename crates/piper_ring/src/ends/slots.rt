@@ -1,6 +1,7 @@
 //! What each end has of the two slots, at which a side waits for the other. A side that waits puts
 //! its waker, of any type, into its slot, and whoever takes its ticket gets it out.
 ghost use Rattle.std.specs.Prelude.{◌≡◌, ℕ, Bool, true, not};
+ghost use Rattle.piper_ring.specs.Log.{IsLogOf};
 ghost use Rattle.piper_ring.specs.Shared.{Names};
 ghost use Rattle.piper_ring.specs.Slot.{Stored};
 
@@ -10,6 +11,7 @@ pub(crate) mod side;
 pub(crate) mod writer;
 
 use crate::ends::cells::OwnCell;
+use crate::log::Log;
 use crate::ring::slots::{SlotWords, WaiterState, WakerState};
 use piper_cells::lent_space::Lease;
 use std::marker::Model;
@@ -42,6 +44,10 @@ pub trait SlotEnd {
     /// What keeps the space of the cells lent.
     fn lease(&self) -> &Lease
         ensures { result.now.life ≡ (names_of self.now).life };
+
+    /// Closes the ring, and leaves it.
+    fn close(self, log: &mut Log)
+        requires { IsLogOf (names_of self) READS log.old };
 
     /// Evidence of what the other end had stored when it last checked before this one registered.
     fn hear(slot: &mut WaiterState) -> Self::Heard

@@ -21,7 +21,7 @@ fn goes_round(rt: &(impl Abort + AllocGlobal), capacity: usize, len: usize)
         received = received.wrapping_add(came.unwrap_or(0));
     }
     same(rt, &what, received, sent);
-    same(rt, &what, (reader.len(), writer.len()), (0, 0));
+    same(rt, &what, (reader.end.len(), writer.end.len()), (0, 0));
 }
 
 #[test]
@@ -37,10 +37,10 @@ fn bytes_go_round_the_ring(rt: HostRuntime) {
 fn lends_grow_with_the_places_that_are_set(rt: HostRuntime) {
     let (_reader, mut writer) = ring_of(&rt, 200_000);
     for lent in [4_096, 12_288, 36_864, 110_592, 36_160, 0] {
-        let buf = writer.write_buf(200_000);
+        let buf = writer.end.write_buf(200_000);
         same(&rt, &"lent", buf.len(), lent);
         let n = buf.len();
-        writer.store_tail(n);
+        writer.end.store_tail(n, &mut writer.log);
     }
 }
 
@@ -50,14 +50,14 @@ fn leave_in_turn(rt: &(impl Abort + AllocGlobal), left: usize, is_reader_first: 
     let (mut reader, mut writer) = ring_of(rt, 3);
     for _ in 0..2 {
         send(&mut writer, &[7; 3][..left.min(3)]);
-        reader.load_tail_if_empty();
+        reader.end.load_tail_if_empty(&mut reader.log);
     }
     if is_reader_first {
         drop(reader);
-        same(rt, &"closed by the reader", writer.is_closed(), true);
+        same(rt, &"closed by the reader", writer.end.is_closed(), true);
     } else {
         drop(writer);
-        same(rt, &"closed by the writer", reader.is_closed(), true);
+        same(rt, &"closed by the writer", reader.end.is_closed(), true);
     }
 }
 

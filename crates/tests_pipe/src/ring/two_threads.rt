@@ -3,12 +3,12 @@ ghost use Rattle.std.specs.Prelude.{◌<◌, ◌^◌};
 
 use crate::compare::same_of as same;
 use crate::ring::acts::{receive_due, ring_of, send, send_due};
-use piper_ring::{ReadEnd, WriteEnd};
+use piper_ring::{Logged, ReadEnd, WriteEnd};
 use std::sync::Wait;
 use std::thread;
 
 /// Publishes `total` bytes in pieces of changing length, and leaves.
-fn publish_all(rt: &impl Wait, mut writer: WriteEnd, total: usize, most: usize)
+fn publish_all(rt: &impl Wait, mut writer: Logged<WriteEnd>, total: usize, most: usize)
     requires { (0 < most) × (most < 2 ^ 32) }
 {
     let mut sent = 0usize;
@@ -29,14 +29,14 @@ fn publish_all(rt: &impl Wait, mut writer: WriteEnd, total: usize, most: usize)
 
 /// Consumes until the ring is closed and nothing is left, in pieces of changing length, and leaves.
 /// The answer is how many bytes came in order.
-fn consume_all(rt: &impl Wait, mut reader: ReadEnd, most: usize) -> usize
+fn consume_all(rt: &impl Wait, mut reader: Logged<ReadEnd>, most: usize) -> usize
     requires { (0 < most) × (most < 2 ^ 32) }
 {
     let mut received = 0usize;
     let mut round = 0usize;
     for _ in rt.forever() {
         round = round.wrapping_add(1);
-        let is_closed = reader.load_closed();
+        let is_closed = reader.end.load_closed(&mut reader.log);
         match receive_due(&mut reader, received, 1 + round % most) {
             None => return received,
             Some(0) if is_closed => return received,
@@ -74,11 +74,11 @@ fn both_ends_leave_at_once(rt: HostRuntime) {
 fn threads_share_both_ends(rt: HostRuntime) {
     let (mut reader, mut writer) = ring_of(&rt, 8);
     send(&mut writer, &[1, 2, 3]);
-    reader.load_tail_if_empty();
+    reader.end.load_tail_if_empty(&mut reader.log);
     let told = thread::join(
         &rt,
-        || (reader.peek_buf().len(), writer.is_closed()),
-        || (reader.len(), writer.len()),
+        || (reader.end.peek_buf().len(), writer.end.is_closed()),
+        || (reader.end.len(), writer.end.len()),
     );
     same(&rt, &"told on both threads", told, ((3, false), (3, 3)));
 }

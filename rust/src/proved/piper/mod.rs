@@ -15,6 +15,6 @@ pub use error::{CopyError, PipeError, PipeResult};
 pub use handles::{Reader, Writer, pipe};
 /* pub use owned::{DEFAULT_SEED, OwnedReader, OwnedWriter, owned_pipe}; */
 pub use crate::proved::piper_ring::{
-    FinishedReader, FinishedWriter, LastReadMark, OutOfMemory, ReadEnd, ReadMark, WriteEnd,
+    FinishedReader, FinishedWriter, LastReadMark, Logged, OutOfMemory, ReadEnd, ReadMark, WriteEnd,
     WriteMark, open_ring,
 };

@@ -1,12 +1,14 @@
 //! The reader's side: how it waits in its slot, and wakes whoever waits in the writer's.
-ghost use Rattle.std.specs.Prelude.{◌≡◌, ◌<◌, ◌≤◌, ◌++◌, [], length, take, drop, None, true, false, is_some, IsTrue, IsFalse};
-ghost use Rattle.piper_ring.specs.Log.{Comes, HasLeft, made, next, now, then};
+ghost use Rattle.std.specs.Prelude.{◌≡◌, ◌+◌, ◌<◌, ◌≤◌, ◌++◌, [], length, take, drop, None, true, false, is_some, IsTrue, IsFalse};
+ghost use Rattle.piper_protocol.specs.OneList.{AreOneList, loaded_closed, loaded_tail, stored_head};
+ghost use Rattle.piper_ring.specs.Log.{Comes, HasLeft, did, made, next, now, then};
 
 use crate::ends::finished::{Finished, FinishedReader};
 use crate::ends::reader::ReadEnd;
 use crate::ends::slots::side::Side;
 use crate::ends::slots::writer::WriteSide;
 use crate::ends::slots::{Registrations, SlotEnd};
+use crate::log::Log;
 use crate::ring::marks::{LastReadMark, WriteMark};
 use crate::ring::memory::WRITER_SLOT;
 use crate::ring::slots::{SlotWords, WaiterState};
@@ -47,6 +49,10 @@ impl SlotEnd for ReadEnd {
         &self.parts.lease
     }
 
+    fn close(self, log: &mut Log) {
+        self.finish(log);
+    }
+
     #[inline(always)]
     fn hear(slot: &mut WaiterState) -> WriteMark {
         slot.heard_by_reader()
@@ -72,12 +78,13 @@ impl<T> Side<ReadEnd, T> {
             × (IsFalse result → HasBytes self.new.end) }
         ensures end { LoadsTail self.old.slots.heard.bytes self.old.end self.new.end }
         ensures side { Becomes self.old self.new self.new.end self.old.slots
-            (made (Found.IndexLoaded result) self.old.log) }
+            (made (Found.IndexLoaded result) (did (loaded_tail
+            (length self.new.end.taken + length self.new.end.known)) self.old.log)) }
     {
         self.end.observe_stored(&self.slots.parts.heard);
-        self.end.load_tail();
+        self.end.load_tail(&mut self.log);
         let none = self.end.knows_none();
-        self.log.index_loaded(none);
+        self.log.note(Found::IndexLoaded { none });
         none
     }
 
@@ -89,10 +96,12 @@ impl<T> Side<ReadEnd, T> {
         ensures end { ReaderLoadsClosed self.old.slots.heard.closed result
             self.old.end self.new.end }
         ensures side { Becomes self.old self.new self.new.end self.old.slots
-            (made (Found.Flag result) self.old.log) }
+            (made (Found.Flag result) (did (loaded_closed result) self.old.log)) }
     {
-        let is_closed = self.end.load_closed_knowing(&self.slots.parts.heard);
-        self.log.closed_loaded(is_closed);
+        let is_closed = self
+            .end
+            .load_closed_knowing(&self.slots.parts.heard, &mut self.log);
+        self.log.note(Found::Flag(is_closed));
         is_closed
     }
 
@@ -105,9 +114,10 @@ impl<T> Side<ReadEnd, T> {
         ensures { Becomes self.old self.new (record self.old.end {
           taken = self.old.end.taken ++ take n self.old.end.known;
           known = drop n self.old.end.known;
-        }) self.old.slots (made Found.Nothing self.old.log) }
+        }) self.old.slots (made Found.Nothing
+            (did (stored_head (take n self.old.end.known)) self.old.log)) }
     {
-        self.end.store_head(n);
+        self.end.store_head(n, &mut self.log);
         self.log.note(Found::Nothing);
     }
 
@@ -122,7 +132,7 @@ impl<T> Side<ReadEnd, T> {
         ensures looked { (result.side.slots.stored.count ≡ length self.end.taken)
             × (result.side.slots.stored.closed ≡ true) × WaitsAsBefore self.slots result.side.slots }
         ensures ticket { TakesTicket self.slots result.side.slots result.taken }
-        ensures leaves { HasLeft self.end.ring.names result.taken result.side.log }
+        ensures leaves { HasLeft (is_some result.taken) self.log result.side.log }
         ensures left { GetsLeft self.end.ring.names result.left }
     {
         let Side {
@@ -132,14 +142,20 @@ impl<T> Side<ReadEnd, T> {
             mut log,
         } = self;
         let consumed = end.mark();
-        let (leaving, closed) = end.close();
+        let (leaving, closed) = end.close(&mut log);
         log.note(Found::Nothing);
         let parts = &mut slots.parts;
         let word = 2 * parts.own.index;
         let words = leaving.seat.slot_words(&closed);
-        let found = words.empty_other(&mut parts.wakes, &mut parts.own.right, word, WRITER_SLOT);
+        let found = words.empty_other(
+            &mut parts.wakes,
+            &mut parts.own.right,
+            &mut log,
+            word,
+            WRITER_SLOT,
+        );
         let taken = parts.own.take_out(cells.get(&leaving.lease), found);
-        log.slot_loaded(taken.is_some());
+        log.note(Found::Waker(taken.is_some()));
         let left = leaving.leave(Some(&cells));
         let mark = LastReadMark { consumed, closed };
         let side = FinishedReader { mark, slots, log };
@@ -156,7 +172,8 @@ impl<T> Side<ReadEnd, T> {
     }
 
     /// `meet` of both ends, held by one thread. And for each side that waits, and since whose
-    /// registration the other stored something and looked, the last ticket was taken.
+    /// registration the other stored something and looked, the last ticket was taken. What both did
+    /// is one list, in which each access found what the last one before it left.
     pub fn meet(&mut self, writer: &mut WriteSide<T>)
         requires { writer.old.end.ring ≡ self.old.end.ring }
         ensures ends { EndsMeet self.old.end self.new.end writer.old.end writer.new.end }
@@ -166,6 +183,7 @@ impl<T> Side<ReadEnd, T> {
         ensures writer { IsWriterPending writer.old.end writer.old.slots →
             WriterHasNews writer.old.end self.old.slots →
             self.old.slots.taken ≡ writer.old.slots.tickets }
+        ensures list { AreOneList self.old.log.did writer.old.log.did }
         ensures capacity { (writer.old.end.capacity ≡ self.old.end.capacity)
             × (0 < self.old.end.capacity) }
         ensures rest { Becomes self.old self.new self.new.end self.old.slots self.old.log
@@ -175,6 +193,7 @@ impl<T> Side<ReadEnd, T> {
         let _ = self.end.capacity();
         self.meet_slot(&mut writer.slots);
         writer.meet_slot(&mut self.slots);
+        self.meet_log(&mut writer.log);
         self.end.meet(&mut writer.end);
     }
 }

@@ -1,7 +1,9 @@
 //! A side of a ring: how it waits in its slot, and wakes whoever waits in the other's.
-ghost use Rattle.std.specs.Prelude.{◌≡◌, ◌+◌, ◌≢◌, true, false, is_some, not, IsTrue, IsFalse};
+ghost use Rattle.std.specs.Prelude.{◌≡◌, ◌+◌, ◌≢◌, true, false, None, Some, is_some, not, IsTrue, IsFalse};
 ghost use Rattle.piper_ring.specs.Cells.{AreCellsOf};
-ghost use Rattle.piper_ring.specs.Log.{IsOutside, began, drew, found_of, made, next, other, own};
+ghost use Rattle.piper_protocol.specs.OneList.{loaded_slot, swapped};
+ghost use Rattle.piper_ring.specs.Slot.{ticket_if};
+ghost use Rattle.piper_ring.specs.Log.{AreSides, IsLogOf, IsOutside, began, did, did_if, drew, found_of, made, next, other, own};
 
 use crate::ends::cells::WakerCells;
 use crate::ends::slots::{Registrations, SlotEnd};
@@ -23,6 +25,7 @@ pub struct Side<E: SlotEnd, T> {
     pub(crate) log: Log,
     ghost of_one_ring: { slots.names ≡ E.names_of end },
     ghost places: { AreCellsOf slots.names cells },
+    ghost own_log: { IsLogOf slots.names E.READS log },
 }
 
 impl<E: SlotEnd, T> Side<E, T> {
@@ -107,7 +110,9 @@ impl<E: SlotEnd, T> Side<E, T> {
         requires turn { next self.old.log ≡ Action.Take (own E.READS) }
         ensures side { Becomes self.old self.new self.old.end
             (record self.old.slots { waits = false })
-            (made (Found.Waker (is_some result)) self.old.log) }
+            (made (Found.Waker (is_some result)) (did_if self.old.slots.waits
+            (swapped (own E.READS) (ticket_if (is_some result) self.old.slots.tickets) None)
+            self.old.log)) }
         ensures out { TookBack self.old.slots.names
             self.old.slots.waits self.old.slots.tickets result }
     {
@@ -119,7 +124,9 @@ impl<E: SlotEnd, T> Side<E, T> {
     /// Takes its waker back, if it is still registered in this side's slot.
     pub fn cancel(&mut self) -> Option<T>
         ensures side { Becomes self.old self.new self.old.end
-            (record self.old.slots { waits = false }) self.old.log }
+            (record self.old.slots { waits = false }) (did_if self.old.slots.waits
+            (swapped (own E.READS) (ticket_if (is_some result) self.old.slots.tickets) None)
+            self.old.log) }
         ensures out { TookBack self.old.slots.names
             self.old.slots.waits self.old.slots.tickets result }
     {
@@ -130,7 +137,13 @@ impl<E: SlotEnd, T> Side<E, T> {
         let word = 2 * parts.own.index;
         let words = self.end.slot_words();
         let slot = slot_of(E::READS);
-        let found = words.exchange_own(&mut parts.waits, &mut parts.own.right, word, slot);
+        let found = words.exchange_own(
+            &mut parts.waits,
+            &mut parts.own.right,
+            &mut self.log,
+            word,
+            slot,
+        );
         parts.is_waiting = false;
         parts.own.take_out(self.cells.get(self.end.lease()), found)
     }
@@ -141,7 +154,8 @@ impl<E: SlotEnd, T> Side<E, T> {
             (self.old.slots.waits ≡ true) × FoundOwn self.old.slots.names true }
         ensures none { IsFalse result → IsUnregistered self.old.slots.names self.old.slots.waits }
         ensures side { Becomes self.old self.new self.old.end
-            (record self.old.slots { waits = result }) self.old.log }
+            (record self.old.slots { waits = result }) (did_if self.old.slots.waits
+            (loaded_slot (own E.READS) result) self.old.log) }
     {
         let parts = &mut self.slots.parts;
         if !parts.is_waiting {
@@ -150,7 +164,7 @@ impl<E: SlotEnd, T> Side<E, T> {
         let word = self
             .end
             .slot_words()
-            .load_own(&mut parts.waits, slot_of(E::READS));
+            .load_own(&mut parts.waits, &mut self.log, slot_of(E::READS));
         parts.is_waiting = word % 2 == 1;
         parts.is_waiting
     }
@@ -164,7 +178,8 @@ impl<E: SlotEnd, T> Side<E, T> {
           waits = true;
           tickets = self.old.slots.tickets + 1;
           heard = self.new.slots.heard;
-        }) self.old.log }
+        }) (did (swapped (own E.READS) (ticket_if (is_some result) self.old.slots.tickets)
+            (Some (self.old.slots.tickets + 1))) self.old.log) }
         ensures out { TookBack self.old.slots.names
             self.old.slots.waits self.old.slots.tickets result }
     {
@@ -174,7 +189,13 @@ impl<E: SlotEnd, T> Side<E, T> {
         let word = 2 * parts.own.index + 1;
         let words = self.end.slot_words();
         let slot = slot_of(E::READS);
-        let found = words.exchange_own(&mut parts.waits, &mut parts.own.right, word, slot);
+        let found = words.exchange_own(
+            &mut parts.waits,
+            &mut parts.own.right,
+            &mut self.log,
+            word,
+            slot,
+        );
         parts.is_waiting = true;
         parts.heard = E::hear(&mut parts.waits);
         parts.own.take_out(cells, found)
@@ -187,15 +208,18 @@ impl<E: SlotEnd, T> Side<E, T> {
         requires turn { next self.old.log ≡ Action.Take (other E.READS) }
         ensures none { IsTrue result → Becomes self.old self.new self.old.end
             (record self.old.slots { stored = E.stored_of self.old.end })
-            (made (Found.Waker false) self.old.log) }
+            (made (Found.Waker false)
+            (did (loaded_slot (other E.READS) false) self.old.log)) }
         ensures some { IsFalse result → FoundWaiter self.old.slots.names true
-            × Becomes self.old self.new self.old.end self.old.slots self.old.log }
+            × Becomes self.old self.new self.old.end self.old.slots
+            (did (loaded_slot (other E.READS) true) self.old.log) }
     {
         let wakes = &mut self.slots.parts.wakes;
-        if self.end.slot_words().load_other(wakes, slot_of(!E::READS)) % 2 == 1 {
+        let words = self.end.slot_words();
+        if words.load_other(wakes, &mut self.log, slot_of(!E::READS)) % 2 == 1 {
             return false;
         }
-        self.log.slot_loaded(false);
+        self.log.note(Found::Waker(false));
         true
     }
 
@@ -206,15 +230,22 @@ impl<E: SlotEnd, T> Side<E, T> {
         ensures ticket { TakesTicket self.old.slots self.new.slots result }
         ensures side { Becomes self.old self.new self.old.end (record self.old.slots
             { taken = self.new.slots.taken; stored = E.stored_of self.old.end })
-            (made (Found.Waker (is_some result)) self.old.log) }
+            (made (Found.Waker (is_some result)) (did (swapped (other E.READS)
+            (ticket_if (is_some result) self.new.slots.taken) None) self.old.log)) }
     {
         let parts = &mut self.slots.parts;
         let word = 2 * parts.own.index;
         let words = self.end.slot_words();
         let slot = slot_of(!E::READS);
-        let found = words.empty_other(&mut parts.wakes, &mut parts.own.right, word, slot);
+        let found = words.empty_other(
+            &mut parts.wakes,
+            &mut parts.own.right,
+            &mut self.log,
+            word,
+            slot,
+        );
         let waker = parts.own.take_out(self.cells.get(self.end.lease()), found);
-        self.log.slot_loaded(waker.is_some());
+        self.log.note(Found::Waker(waker.is_some()));
         waker
     }
 
@@ -232,5 +263,16 @@ impl<E: SlotEnd, T> Side<E, T> {
     {
         let words = self.end.slot_words();
         words.meet_slot(&mut self.slots.parts.waits, &mut left.parts.wakes);
+    }
+
+    /// With the log of the other side: what both did is one list, in which each access found what
+    /// the last one before it left.
+    pub fn meet_log(&mut self, other: &mut Log)
+        requires { IsLogOf (E.names_of self.old.end) (not E.READS) other.old }
+        ensures list { AreSides E.READS self.old.log.did other.old.did }
+        ensures rest { (other.new ≡ other.old)
+            × Becomes self.old self.new self.old.end self.old.slots self.old.log }
+    {
+        self.end.slot_words().meet_logs(&mut self.log, other);
     }
 }

@@ -1,12 +1,14 @@
 //! The writer's side: how it waits in its slot, and wakes whoever waits in the reader's.
 ghost use Rattle.std.specs.Prelude.{◌≡◌, ◌+◌, ◌-◌, ◌<◌, ◌≤◌, ◌++◌, ◌==◌, [], length, take, drop, max, None, true, false, is_some, IsTrue, IsFalse};
 ghost use Rattle.std.specs.Borrow.{sem};
-ghost use Rattle.piper_ring.specs.Log.{Comes, HasLeft, closed_loaded, made, next, now, then};
+ghost use Rattle.piper_protocol.specs.OneList.{loaded_closed, loaded_head, stored_closed, stored_tail};
+ghost use Rattle.piper_ring.specs.Log.{Comes, HasLeft, closed_loaded, did, made, next, now, then};
 
 use crate::ends::finished::{Finished, FinishedWriter};
 use crate::ends::slots::side::Side;
 use crate::ends::slots::{Registrations, SlotEnd};
 use crate::ends::writer::WriteEnd;
+use crate::log::Log;
 use crate::ring::marks::{ClosedMark, LastReadMark, ReadMark};
 use crate::ring::memory::READER_SLOT;
 use crate::ring::slots::{SlotWords, WaiterState};
@@ -54,6 +56,10 @@ impl SlotEnd for WriteEnd {
         &self.parts.lease
     }
 
+    fn close(self, log: &mut Log) {
+        self.finish(log);
+    }
+
     #[inline(always)]
     fn hear(slot: &mut WaiterState) -> ReadStored {
         let (count, closed) = slot.heard_by_writer();
@@ -80,11 +86,13 @@ impl<T> Side<WriteEnd, T> {
             × (IsFalse result → HasRoom self.new.end) }
         ensures end { LoadsHead self.old.slots.heard.count self.old.end self.new.end }
         ensures side { Becomes self.old self.new self.new.end self.old.slots
-            (made (Found.IndexLoaded result) self.old.log) }
+            (made (Found.IndexLoaded result) (did (loaded_head (length self.new.end.sent
+            + self.new.end.room - self.new.end.capacity)) self.old.log)) }
     {
-        self.end.load_head_knowing(&self.slots.parts.heard.count);
+        self.end
+            .load_head_knowing(&self.slots.parts.heard.count, &mut self.log);
         let none = self.end.knows_none();
-        self.log.index_loaded(none);
+        self.log.note(Found::IndexLoaded { none });
         none
     }
 
@@ -94,10 +102,11 @@ impl<T> Side<WriteEnd, T> {
         requires turn { next self.old.log ≡ Action.LoadClosed }
         ensures found { WriterLoadsClosed self.old.end result }
         ensures side { Becomes self.old self.new (record self.old.end { saw = result })
-            self.old.slots (closed_loaded (self.old.end.room == 0) result self.old.log) }
+            self.old.slots (closed_loaded (self.old.end.room == 0) result
+            (did (loaded_closed result) self.old.log)) }
     {
         let none = self.end.knows_none();
-        let is_closed = self.end.load_closed();
+        let is_closed = self.end.load_closed(&mut self.log);
         self.log.closed_loaded_first(none, is_closed);
         is_closed
     }
@@ -112,10 +121,13 @@ impl<T> Side<WriteEnd, T> {
         ensures after { self.old.slots.heard.closed ≡ true → result ≡ true }
         ensures shut { self.old.end.shut ≡ false }
         ensures side { Becomes self.old self.new (record self.old.end { saw = result })
-            self.old.slots (made (Found.Flag result) self.old.log) }
+            self.old.slots (made (Found.Flag result)
+            (did (loaded_closed result) self.old.log)) }
     {
-        let is_closed = self.end.load_closed_knowing(&self.slots.parts.heard.closed);
-        self.log.closed_loaded(is_closed);
+        let is_closed = self
+            .end
+            .load_closed_knowing(&self.slots.parts.heard.closed, &mut self.log);
+        self.log.note(Found::Flag(is_closed));
         is_closed
     }
 
@@ -124,10 +136,11 @@ impl<T> Side<WriteEnd, T> {
         requires turn { next self.old.log ≡ Action.LoadClosed }
         ensures found { WriterLoadsClosed self.old.end result }
         ensures side { Becomes self.old self.new (record self.old.end { saw = result })
-            self.old.slots (made (Found.Flag result) self.old.log) }
+            self.old.slots (made (Found.Flag result)
+            (did (loaded_closed result) self.old.log)) }
     {
-        let is_closed = self.end.load_closed();
-        self.log.closed_loaded(is_closed);
+        let is_closed = self.end.load_closed(&mut self.log);
+        self.log.note(Found::Flag(is_closed));
         is_closed
     }
 
@@ -162,9 +175,10 @@ impl<T> Side<WriteEnd, T> {
           sent = self.old.end.sent ++ take n self.old.end.lent;
           lent = drop n self.old.end.lent;
           room = self.old.end.room - n;
-        }) self.old.slots (made Found.Nothing self.old.log) }
+        }) self.old.slots (made Found.Nothing
+            (did (stored_tail (take n self.old.end.lent)) self.old.log)) }
     {
-        self.end.store_tail(n);
+        self.end.store_tail(n, &mut self.log);
         self.log.note(Found::Nothing);
     }
 
@@ -173,9 +187,9 @@ impl<T> Side<WriteEnd, T> {
         requires turn { next self.old.log ≡ Action.StoreClosed true }
         ensures side { Becomes self.old self.new
             (record self.old.end { shut = true; saw = true; lent = [] })
-            self.old.slots (made Found.Nothing self.old.log) }
+            self.old.slots (made Found.Nothing (did stored_closed self.old.log)) }
     {
-        self.end.store_closed();
+        self.end.store_closed(&mut self.log);
         self.log.note(Found::Nothing);
     }
 
@@ -190,7 +204,7 @@ impl<T> Side<WriteEnd, T> {
         ensures looked { (result.side.slots.stored.bytes ≡ self.end.sent)
             × (result.side.slots.stored.closed ≡ true) × WaitsAsBefore self.slots result.side.slots }
         ensures ticket { TakesTicket self.slots result.side.slots result.taken }
-        ensures leaves { HasLeft self.end.ring.names result.taken result.side.log }
+        ensures leaves { HasLeft (is_some result.taken) self.log result.side.log }
         ensures left { GetsLeft self.end.ring.names result.left }
     {
         let Side {
@@ -199,15 +213,21 @@ impl<T> Side<WriteEnd, T> {
             cells,
             mut log,
         } = self;
-        let leaving = end.close();
+        let leaving = end.close(&mut log);
         log.note(Found::Nothing);
         let mark = leaving.seat.mark();
         let parts = &mut slots.parts;
         let word = 2 * parts.own.index;
         let words = leaving.seat.slot_words();
-        let found = words.empty_other(&mut parts.wakes, &mut parts.own.right, word, READER_SLOT);
+        let found = words.empty_other(
+            &mut parts.wakes,
+            &mut parts.own.right,
+            &mut log,
+            word,
+            READER_SLOT,
+        );
         let taken = parts.own.take_out(cells.get(&leaving.lease), found);
-        log.slot_loaded(taken.is_some());
+        log.note(Found::Waker(taken.is_some()));
         let left = leaving.leave(Some(&cells));
         let side = FinishedWriter { mark, slots, log };
         Finished { side, taken, left }

@@ -1,7 +1,7 @@
 //! What both handles do at the slots: in their own a task waits, in the other's they wake one.
 /* ghost use Rattle.std.specs.Prelude.{◌≡◌, ◌⊎◌, IsTrue, IsFalse, IfNone, IfSome, true, false}; */
 /* ghost use Rattle.futures.specs.Task.{Covers, Keeps, Wakes}; */
-/* ghost use Rattle.piper_ring.specs.Log.{Comes, WakesNext, WasMade, made, next, now, other, own, then}; */
+/* ghost use Rattle.piper_ring.specs.Log.{AreAlike, Comes, WakesNext, WasMade, made, next, now, other, own, then}; */
 /* ghost use Rattle.piper_ring.specs.SlotsView.{OnlyWaits, Registers, WaitsAsBefore}; */
 /* ghost use Rattle.piper.specs.Called.{CallsOwn, CallsTaken, LetsOwnGo, RegistersTask, WasCalled, WasLetGo}; */
 /* ghost use Rattle.piper.specs.Contexts.{LacksWaker, WasAsked}; */
@@ -18,7 +18,7 @@ pub(crate) fn register<E: SlotEnd>(
     cx: &mut Context<'_>,
 ) -> bool
     /* requires turn { next side.old.log ≡ Action.Register }
-    ensures log { side.new.log ≡ made (Found.Granted result) side.old.log }
+    ensures log { AreAlike side.new.log (made (Found.Granted result) side.old.log) }
     ensures covered { Covers cx.new (λ s. s ≡ source.now.id) }
     ensures registered { IsTrue result → Registers side.old.slots side.new.slots
         × RegistersTask side.old.slots side.new.slots cx.old cx.new }
@@ -61,7 +61,7 @@ pub(crate) fn register<E: SlotEnd>(
 #[inline(always)]
 pub(crate) fn take_own<E: SlotEnd>(side: &mut Side<E, Waker>)
     /* requires turn { next side.old.log ≡ Action.Take (own E.READS) }
-    ensures log { side.new.log ≡ made Found.Nothing side.old.log }
+    ensures log { AreAlike side.new.log (made Found.Nothing side.old.log) }
     ensures leaves { side.new.slots.waits ≡ false }
     ensures waits { OnlyWaits side.old.slots side.new.slots }
     ensures rest { (side.new.end ≡ side.old.end) × (side.new.cells ≡ side.old.cells) } */
@@ -81,7 +81,7 @@ fn let_own_go<E: SlotEnd>(side: &mut Side<E, Waker>)
     ensures dropped { LetsOwnGo side.old.slots }
     ensures waits { OnlyWaits side.old.slots side.new.slots }
     ensures rest { (side.new.end ≡ side.old.end) × (side.new.cells ≡ side.old.cells)
-        × (side.new.log ≡ side.old.log) } */
+        × AreAlike side.new.log side.old.log } */
 {
     if side.is_registered() {
         let_go(side.cancel());

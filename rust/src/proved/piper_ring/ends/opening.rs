@@ -4,9 +4,11 @@
 /* ghost use Rattle.piper_cells.specs.Space.{Fits}; */
 /* ghost use Rattle.piper_ring.specs.Block.{size_of_block, space_of, space_words}; */
 /* ghost use Rattle.piper_ring.specs.contracts.ends.cells.WakerCells.{the_row as cells_row}; */
+/* ghost use Rattle.piper_ring.specs.Log.{IsNew}; */
 /* ghost use Rattle.piper_ring.specs.Opened.{FreshReadEnd, FreshSlots, FreshWriteEnd}; */
 
 use crate::proved::piper_ring::ends::cells::{CellRights, OwnCell, WakerCells};
+use crate::proved::piper_ring::ends::logged::Logged;
 use crate::proved::piper_ring::ends::reader::{ReadEnd, ReadParts};
 use crate::proved::piper_ring::ends::room::Room;
 use crate::proved::piper_ring::ends::slots::reader::{ReadRegistrations, ReadSide};
@@ -22,19 +24,32 @@ use crate::proved::piper_protocol::indices::{ReadIndices, WriteIndices};
 use crate::proved::piper_protocol::memory::OutOfMemory;
 use crate::shim::std::alloc::{AllocError, Global};
 
-/// The two ends of a new ring for `capacity` bytes. If memory is refused, all that was got is
+/// The two ends of a new ring for `capacity` bytes, each with its log. If memory is refused, all that was got is
 /// given back.
-#[inline] pub fn open_ring(alloc: Global, capacity: usize) -> Result<(ReadEnd, WriteEnd), OutOfMemory>
+#[inline] pub fn open_ring(
+    alloc: Global,
+    capacity: usize,
+) -> Result<(Logged<ReadEnd>, Logged<WriteEnd>), OutOfMemory>
     /* requires { (0 < capacity) × (2 * capacity < 2 ^ 64) }
-    ensures pair { IfOk result (λ r. r.1.ring ≡ r.0.ring) }
-    ensures reader { IfOk result (λ r. FreshReadEnd capacity r.0) }
-    ensures writer { IfOk result (λ r. FreshWriteEnd capacity r.1) }
+    ensures pair { IfOk result (λ r. r.1.end.ring ≡ r.0.end.ring) }
+    ensures reader { IfOk result (λ r. FreshReadEnd capacity r.0.end) }
+    ensures writer { IfOk result (λ r. FreshWriteEnd capacity r.1.end) }
     ensures refused { IfErr result HasFailed } */
 {
     let (parts, space) = claim(&alloc, capacity)?.part(capacity);
     let (_, lender, first, second) = space.lend();
     let (_, rights) = WakerCells::<()>::empty();
-    let (reader, writer, _, _) = open_ends(alloc, capacity, parts, lender, first, second, rights);
+    let (reader, writer, _, _, read_log, write_log) = open_ends(
+        alloc, capacity, parts, lender, first, second, rights,
+    );
+    let reader = Logged {
+        end: reader,
+        log: read_log,
+    };
+    let writer = Logged {
+        end: writer,
+        log: write_log,
+    };
     Ok((reader, writer))
 }
 
@@ -60,20 +75,20 @@ use crate::shim::std::alloc::{AllocError, Global};
     let (cells, rights) = WakerCells::empty();
     let (read_cells, first) = space.place(first, cells);
     let write_cells = read_cells.duplicate();
-    let (reader, writer, read_slots, write_slots) = open_ends(
+    let (reader, writer, read_slots, write_slots, read_log, write_log) = open_ends(
         alloc, capacity, parts, lender, first, second, rights,
     );
     let reader = Side {
         end: reader,
         slots: read_slots,
         cells: read_cells,
-        log: Log::new(),
+        log: read_log,
     };
     let writer = Side {
         end: writer,
         slots: write_slots,
         cells: write_cells,
-        log: Log::new(),
+        log: write_log,
     };
     Ok((reader, writer))
 }
@@ -87,7 +102,14 @@ use crate::shim::std::alloc::{AllocError, Global};
     first: Lease,
     second: Lease,
     rights: CellRights,
-) -> (ReadEnd, WriteEnd, ReadRegistrations, WriteRegistrations)
+) -> (
+    ReadEnd,
+    WriteEnd,
+    ReadRegistrations,
+    WriteRegistrations,
+    Log,
+    Log,
+)
     /* requires capacity { (0 < capacity) × (2 * capacity < 2 ^ 64) × (parts.capacity ≡ capacity) }
     requires lender { (lender.start ≡ space_of parts.start) × (lender.words ≡ space_words) }
     requires leases { (first.life ≡ lender.life) × (first.first ≡ true)
@@ -97,6 +119,8 @@ use crate::shim::std::alloc::{AllocError, Global};
     ensures writer { FreshWriteEnd capacity result.1 }
     ensures read_slots { FreshSlots result.0.ring.names result.2 }
     ensures write_slots { FreshSlots result.0.ring.names result.3 }
+    ensures logs { IsNew result.0.ring.names true result.4
+        × IsNew result.0.ring.names false result.5 }
     ensures life { result.0.ring.names.life ≡ lender.life }
     ensures cells { result.0.ring.names.cells ≡ rights.first.name ∷ rights.second.name
         ∷ rights.third.name ∷ rights.fourth.name ∷ [] } */
@@ -107,8 +131,17 @@ use crate::shim::std::alloc::{AllocError, Global};
         third,
         fourth,
     } = rights;
-    let (read_seat, write_seat, mut blank, reader_waits, writer_wakes, writer_waits, reader_wakes) =
-        open(parts, lender, in_readers, in_writers, &third, &fourth);
+    let (
+        read_seat,
+        write_seat,
+        mut blank,
+        reader_waits,
+        writer_wakes,
+        writer_waits,
+        reader_wakes,
+        read_log,
+        write_log,
+    ) = open(parts, lender, in_readers, in_writers, &third, &fourth);
     let observed_by_reader = write_seat.mark();
     let observed_by_writer = read_seat.mark();
     let read_saw = observed_by_reader.duplicate();
@@ -161,6 +194,8 @@ use crate::shim::std::alloc::{AllocError, Global};
         WriteEnd { parts: writer },
         Registrations { parts: read_slots },
         Registrations { parts: write_slots },
+        read_log,
+        write_log,
     )
 }
 

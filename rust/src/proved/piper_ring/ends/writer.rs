@@ -3,6 +3,7 @@
 
 use crate::proved::piper_ring::ends::leaving::LeavingWriter;
 use crate::proved::piper_ring::ends::room::Room;
+use crate::proved::piper_ring::log::Log;
 use crate::proved::piper_ring::ring::marks::{ClosedMark, LastReadMark, ReadMark, WriteMark};
 use crate::proved::piper_ring::ring::seats::WriteSeat;
 use crate::proved::piper_cells::lent_space::Lease;
@@ -43,7 +44,9 @@ pub struct WriteEnd {
 } */
 
 impl WriteEnd {
+    /* ghost use Rattle.piper_protocol.specs.OneList.{loaded_closed, loaded_head, stored_closed, stored_tail}; */
     /* ghost use Rattle.piper_ring.specs.Loads.{FoundClosed}; */
+    /* ghost use Rattle.piper_ring.specs.Log.{IsLogOf, MayNote, did}; */
     /* ghost use Rattle.piper_ring.specs.WriteView.{Lendable, LoadsHead, WriteEndMayHave, WriterLoadsClosed}; */
     /* ghost use Rattle.piper_ring.specs.LendsBuffer.{lends_buffer}; */
     /* ghost use Rattle.std.specs.Borrow.{sem}; */
@@ -84,7 +87,10 @@ impl WriteEnd {
     #[inline] pub fn len(&self) -> usize
         /* ensures { WriteEndMayHave self.now result } */
     {
-        let (head, _) = self.parts.seat.load_head(&self.parts.observed);
+        let (head, _) = self
+            .parts
+            .seat
+            .load_head(&self.parts.observed, &mut Log::unkept());
         self.parts.indices.unread_from(head as usize)
     }
 
@@ -95,7 +101,7 @@ impl WriteEnd {
         ensures found { FoundClosed self.now.ring.names result } */
     {
         let mut saw = self.parts.saw.duplicate();
-        self.parts.seat.load_closed(&mut saw) != 0
+        self.parts.seat.load_closed(&mut saw, &mut Log::unkept()) != 0
     }
 
     /// Evidence of what was published, for the other end.
@@ -128,43 +134,53 @@ impl WriteEnd {
 
     /// Loads the head, and so knows of room that was given back. It is for an end that knows of
     /// none, as the reader's `load_tail`.
-    #[inline] pub fn load_head(&mut self)
-        /* requires { self.old.room ≡ 0 }
-        ensures { LoadsHead self.old.observed self.old self.new } */
+    #[inline] pub fn load_head(&mut self, log: &mut Log)
+        /* requires none { self.old.room ≡ 0 }
+        requires log { MayNote self.old.ring.names false log.old }
+        ensures end { LoadsHead self.old.observed self.old self.new }
+        ensures noted { log.new ≡ did (loaded_head
+            (length self.new.sent + self.new.room - self.new.capacity)) log.old } */
     {
         let observed = self.parts.observed.duplicate();
-        self.load_head_knowing(&observed);
+        self.load_head_knowing(&observed, log);
     }
 
     /// `load_head`, with evidence of what was consumed besides: it finds that room, too.
-    #[inline] pub(crate) fn load_head_knowing(&mut self, more: &ReadMark)
+    #[inline] pub(crate) fn load_head_knowing(&mut self, more: &ReadMark, log: &mut Log)
         /* requires none { self.old.room ≡ 0 }
         requires ring { more.now.names ≡ self.old.ring.names }
-        ensures { LoadsHead more.now.count self.old self.new } */
+        requires log { MayNote self.old.ring.names false log.old }
+        ensures end { LoadsHead more.now.count self.old self.new }
+        ensures noted { log.new ≡ did (loaded_head
+            (length self.new.sent + self.new.room - self.new.capacity)) log.old } */
     {
         let parts = &mut self.parts;
         let mut observed = parts.observed.duplicate();
         observed.observe(more);
-        let (head, consumed) = parts.seat.load_head(&observed);
+        let (head, consumed) = parts.seat.load_head(&observed, log);
         parts.seat.accept(&mut parts.room.later, &consumed);
         parts.indices.set_head(head as usize);
     }
 
     /// Loads closed, and keeps what it saw. What this end closed it finds
     /// closed.
-    #[inline] pub fn load_closed(&mut self) -> bool
-        /* ensures found { WriterLoadsClosed self.old result }
+    #[inline] pub fn load_closed(&mut self, log: &mut Log) -> bool
+        /* requires { MayNote self.old.ring.names false log.old }
+        ensures noted { log.new ≡ did (loaded_closed result) log.old }
+        ensures found { WriterLoadsClosed self.old result }
         ensures end { self.new ≡ record self.old { saw = result } } */
     {
         let parts = &mut self.parts;
-        parts.seat.load_closed(&mut parts.saw) != 0
+        parts.seat.load_closed(&mut parts.saw, log) != 0
     }
 
     /// `load_closed`, by an end that has not seen the pipe closed, with evidence of what the reader
     /// did: it finds that.
-    #[inline] pub(crate) fn load_closed_knowing(&mut self, more: &ClosedMark) -> bool
+    #[inline] pub(crate) fn load_closed_knowing(&mut self, more: &ClosedMark, log: &mut Log) -> bool
         /* requires ring { more.now.names ≡ self.old.ring.names }
         requires open { self.old.saw ≡ false }
+        requires log { MayNote self.old.ring.names false log.old }
+        ensures noted { log.new ≡ did (loaded_closed result) log.old }
         ensures end { self.new ≡ record self.old { saw = result } }
         ensures more { more.now.seen ≡ true → result ≡ true }
         ensures shut { self.new.shut ≡ false }
@@ -172,15 +188,17 @@ impl WriteEnd {
     {
         let parts = &mut self.parts;
         let mut saw = more.duplicate();
-        let is_closed = parts.seat.load_closed(&mut saw) != 0;
+        let is_closed = parts.seat.load_closed(&mut saw, log) != 0;
         parts.saw = saw;
         is_closed
     }
 
     /// Publishes the first `n` bytes of what is left of the slice last lent, as they are: stores the
     /// tail past them. It wakes nobody.
-    #[inline] pub fn store_tail(&mut self, n: usize)
-        /* requires { n ≤ length self.old.lent }
+    #[inline] pub fn store_tail(&mut self, n: usize, log: &mut Log)
+        /* requires lent { n ≤ length self.old.lent }
+        requires log { IsLogOf self.old.ring.names false log.old }
+        ensures noted { log.new ≡ did (stored_tail (take n self.old.lent)) log.old }
         ensures room { n ≤ self.old.room }
         ensures end { self.new ≡ record self.old {
           sent = self.old.sent ++ take n self.old.lent;
@@ -191,16 +209,18 @@ impl WriteEnd {
         let parts = &mut self.parts;
         let gift = parts.room.lent.split(n);
         let tail = parts.indices.publish(n);
-        parts.seat.store_tail(gift, tail as u64);
+        parts.seat.store_tail(log, gift, tail as u64);
     }
 
     /// `load_head`, if it knows of no room.
-    #[inline] pub fn load_head_if_full(&mut self)
-        /* ensures none { self.old.room ≡ 0 → LoadsHead self.old.observed self.old self.new }
-        ensures known { 0 < self.old.room → self.new ≡ self.old } */
+    #[inline] pub fn load_head_if_full(&mut self, log: &mut Log)
+        /* requires { IsLogOf self.old.ring.names false log.old }
+        ensures none { self.old.room ≡ 0 → LoadsHead self.old.observed self.old self.new }
+        ensures known { 0 < self.old.room → (self.new ≡ self.old) × (log.new ≡ log.old) }
+        ensures log { IsLogOf self.new.ring.names false log.new } */
     {
         if self.knows_none() {
-            self.load_head();
+            self.load_head(log);
         }
     }
 
@@ -255,13 +275,15 @@ impl WriteEnd {
     }
 
     /// Closes the pipe for good: stores closed. Nothing is lent then. It wakes nobody.
-    #[inline] pub fn store_closed(&mut self)
-        /* ensures { self.new ≡ record self.old { shut = true; saw = true; lent = [] } } */
+    #[inline] pub fn store_closed(&mut self, log: &mut Log)
+        /* requires { IsLogOf self.old.ring.names false log.old }
+        ensures noted { log.new ≡ did stored_closed log.old }
+        ensures end { self.new ≡ record self.old { shut = true; saw = true; lent = [] } } */
     {
         let parts = &mut self.parts;
         parts.room.unlend();
         parts.indices.shut();
-        parts.seat.store_shut();
+        parts.seat.store_shut(log);
     }
 
     /// Closes the pipe for good and drops this end. The memory is freed if the reader's end is
@@ -270,19 +292,23 @@ impl WriteEnd {
     ///
     /// The answer is evidence, for the reader's end, of all that was ever published, and that the
     /// pipe is closed after it.
-    #[inline] pub fn finish(self) -> WriteMark
-        /* ensures { (result.names ≡ self.ring.names) × (result.bytes ≡ self.sent)
+    #[inline] pub fn finish(self, log: &mut Log) -> WriteMark
+        /* requires { IsLogOf self.ring.names false log.old }
+        ensures noted { log.new ≡ did stored_closed log.old }
+        ensures published { (result.names ≡ self.ring.names) × (result.bytes ≡ self.sent)
             × (result.shut ≡ true) } */
     {
-        let leaving = self.close();
+        let leaving = self.close(log);
         let mark = leaving.seat.mark();
         let _none = leaving.leave::<()>(None);
         mark
     }
 
     /// Closes the pipe, since this end is about to leave.
-    #[inline] pub(crate) fn close(self) -> LeavingWriter
-        /* ensures ring { ring_of result.seat.words result.seat.at result.seat.names ≡ self.ring }
+    #[inline] pub(crate) fn close(self, log: &mut Log) -> LeavingWriter
+        /* requires { IsLogOf self.ring.names false log.old }
+        ensures noted { log.new ≡ did stored_closed log.old }
+        ensures ring { ring_of result.seat.words result.seat.at result.seat.names ≡ self.ring }
         ensures sent { result.seat.sent ≡ self.sent } */
     {
         let WriteEnd { parts } = self;
@@ -296,7 +322,7 @@ impl WriteEnd {
             indices,
         } = parts;
         let capacity = indices.capacity();
-        seat.store_shut();
+        seat.store_shut(log);
         LeavingWriter {
             seat,
             room: room.forget(capacity, indices.zeroed()),
@@ -306,9 +332,3 @@ impl WriteEnd {
         }
     }
 }
-
-/* impl Drop for WriteEnd {
-    fn drop(self) {
-        self.finish();
-    }
-} */

@@ -5,9 +5,12 @@
 /* ghost use Rattle.rtrb.specs.Fifo.{position_of}; */
 /* ghost use Rattle.piper_ring.specs.Shared.{Names, names_code, reader_owns, reader_lends, writer_owns, writer_lends, flag}; */
 /* ghost use Rattle.piper_ring.specs.Block.{space_of, space_words}; */
+/* ghost use Rattle.piper_protocol.specs.OneList.{loaded_closed, loaded_head, loaded_tail, stored_closed, stored_head, stored_tail}; */
+/* ghost use Rattle.piper_ring.specs.Log.{IsLogOf, IsNew, MayNote, did}; */
 /* ghost use Rattle.piper_ring.specs.Loads.{FoundClosed, FoundConsumed, FoundGone, FoundPublished}; */
 /* ghost use Rattle.piper_ring.specs.SlotValues.{IsUnused, LooksFirst}; */
 
+use crate::proved::piper_ring::log::Log;
 use crate::proved::piper_ring::ring::marks::{ClosedMark, ReadMark, WriteMark};
 use crate::proved::piper_ring::ring::memory::{
     CLOSED_WORD, HEAD_WORD, LEFT_WORD, Parts, READER_SLOT, TAIL_WORD, WORDS_SIZE, WRITER_SLOT,
@@ -68,7 +71,7 @@ unsafe impl Send for WriteSeat {}
 unsafe impl Sync for WriteSeat {}
 
 /// The two seats of an empty open ring and its places, all of them the writer's room and none of
-/// them set, with what each side knows of the slots. Of the cells, which are in the space of that
+/// them set, with what each side knows of the slots, and its log. Of the cells, which are in the space of that
 /// lender, the first lies in the reader's slot, the second in the writer's; the third is to be the
 /// reader's own, the fourth the writer's.
 #[inline] pub(crate) fn open(
@@ -86,6 +89,8 @@ unsafe impl Sync for WriteSeat {}
     WakerState,
     WaiterState,
     WakerState,
+    Log,
+    Log,
 )
     /* requires space { (lender.start ≡ space_of parts.start) × (lender.words ≡ space_words) }
     requires first { (first.there ≡ true) × (first.filled ≡ false) }
@@ -105,7 +110,8 @@ unsafe impl Sync for WriteSeat {}
     ensures reader_waits { IsUnused result.0.names true result.3 }
     ensures writer_wakes { LooksFirst result.0.names true result.4 }
     ensures writer_waits { IsUnused result.0.names false result.5 }
-    ensures reader_wakes { LooksFirst result.0.names false result.6 } */
+    ensures reader_wakes { LooksFirst result.0.names false result.6 }
+    ensures logs { IsNew result.0.names true result.7 × IsNew result.0.names false result.8 } */
 {
     let Parts { start } = parts;
     let Lender { start: _ } = lender;
@@ -128,6 +134,8 @@ unsafe impl Sync for WriteSeat {}
     let writer_wakes = WakerState { mark: PhantomData };
     let writer_waits = WaiterState { mark: PhantomData };
     let reader_wakes = WakerState { mark: PhantomData };
+    let read_log = Log { mark: PhantomData };
+    let write_log = Log { mark: PhantomData };
     (
         reader,
         writer,
@@ -136,6 +144,8 @@ unsafe impl Sync for WriteSeat {}
         writer_wakes,
         writer_waits,
         reader_wakes,
+        read_log,
+        write_log,
     )
 }
 
@@ -170,15 +180,17 @@ impl ReadSeat {
 
     /// Where the tail is: no less than the reader has seen or was told of, and right at the end
     /// if it was told of that. With it comes evidence of the bytes that were published.
-    #[inline] pub(crate) fn load_tail(&self, observed: &WriteMark) -> (u64, WriteMark)
-        /* requires { observed.now.names ≡ self.now.names }
+    #[inline] pub(crate) fn load_tail(&self, observed: &WriteMark, log: &mut Log) -> (u64, WriteMark)
+        /* requires ring { observed.now.names ≡ self.now.names }
+        requires log { MayNote self.now.names true log.old }
         ensures ring { result.1.names ≡ self.now.names }
         ensures tail { result.0 ≡ position_of self.now.names.capacity (length result.1.bytes) }
         ensures seen { self.now.seen ≤ length result.1.bytes }
         ensures within { length result.1.bytes ≤ self.now.head + self.now.names.capacity }
         ensures observed { length observed.now.bytes ≤ length result.1.bytes }
         ensures end { observed.now.shut ≡ true → result.1.bytes ≡ observed.now.bytes }
-        ensures found { FoundPublished self.now.names (length result.1.bytes) } */
+        ensures found { FoundPublished self.now.names (length result.1.bytes) }
+        ensures noted { log.new ≡ did (loaded_tail (length result.1.bytes)) log.old } */
     {
         // SAFETY: the seat owns or shares the ring's words (`also_owns`, `also_shares`), which live
         // until the last end is gone.
@@ -199,14 +211,21 @@ impl ReadSeat {
     /// 1 if the ring is closed, else 0. Once it was seen closed, or the reader learned from a mark
     /// that the writer closed it, the result is 1. While the reader is there only the writer closes
     /// the ring: so with a 1 comes evidence of all that was published.
-    #[inline] pub(crate) fn load_closed(&self, saw: &mut WriteMark, observed: &WriteMark) -> u64
-        /* requires { (saw.old.names ≡ self.now.names) × (observed.now.names ≡ self.now.names)
+    #[inline] pub(crate) fn load_closed(
+        &self,
+        saw: &mut WriteMark,
+        observed: &WriteMark,
+        log: &mut Log,
+    ) -> u64
+        /* requires ring { (saw.old.names ≡ self.now.names) × (observed.now.names ≡ self.now.names)
             × (self.now.leaving ≡ false) }
+        requires log { MayNote self.now.names true log.old }
         ensures ring { saw.new.names ≡ saw.old.names }
         ensures answer { result ≡ flag saw.new.shut }
         ensures stays { Reaches (saw.old.bytes, saw.old.shut) (saw.new.bytes, saw.new.shut) }
         ensures observed { flag observed.now.shut ≤ result }
-        ensures found { FoundClosed self.now.names saw.new.shut } */
+        ensures found { FoundClosed self.now.names saw.new.shut }
+        ensures noted { log.new ≡ did (loaded_closed saw.new.shut) log.old } */
     {
         // SAFETY: the seat owns or shares the ring's words (`also_owns`, `also_shares`), which live
         // until the last end is gone.
@@ -214,11 +233,13 @@ impl ReadSeat {
     }
 
     /// Gives the places of the oldest bytes back.
-    #[inline] pub(crate) fn store_head(&mut self, back: Places, head: u64)
-        /* requires { BeginsAt self.old.at self.old.names.capacity self.old.head back
+    #[inline] pub(crate) fn store_head(&mut self, log: &mut Log, back: Places, head: u64)
+        /* requires back { BeginsAt self.old.at self.old.names.capacity self.old.head back
             × (self.old.head + length back.bytes ≤ self.old.seen)
             × (head ≡ position_of self.old.names.capacity (self.old.head + length back.bytes)) }
-        ensures { self.new ≡ record self.old { head = self.old.head + length back.bytes } } */
+        requires log { IsLogOf self.old.names true log.old }
+        ensures seat { self.new ≡ record self.old { head = self.old.head + length back.bytes } }
+        ensures noted { log.new ≡ did (stored_head back.bytes) log.old } */
     {
         let Places { mark: _ } = back;
         // SAFETY: the seat owns or shares the ring's words (`also_owns`, `also_shares`), which live
@@ -228,9 +249,11 @@ impl ReadSeat {
 
     /// Closes the ring, as `store_shut` of the writer, since the reader is about to leave. With it
     /// comes evidence that the ring is closed.
-    #[inline] pub(crate) fn store_closed(&mut self) -> ClosedMark
-        /* ensures leaving { self.new ≡ record self.old { leaving = true } }
-        ensures closed { (result.names ≡ self.old.names) × (result.seen ≡ true) } */
+    #[inline] pub(crate) fn store_closed(&mut self, log: &mut Log) -> ClosedMark
+        /* requires { IsLogOf self.old.names true log.old }
+        ensures leaving { self.new ≡ record self.old { leaving = true } }
+        ensures closed { (result.names ≡ self.old.names) × (result.seen ≡ true) }
+        ensures noted { log.new ≡ did stored_closed log.old } */
     {
         // SAFETY: the seat owns or shares the ring's words (`also_owns`, `also_shares`), which live
         // until the last end is gone.
@@ -311,14 +334,16 @@ impl WriteSeat {
 
     /// Where the head is: no less than the writer was told of, and no room that it knows of is
     /// taken away. With it comes evidence of how many bytes were consumed.
-    #[inline] pub(crate) fn load_head(&self, observed: &ReadMark) -> (u64, ReadMark)
-        /* requires { observed.now.names ≡ self.now.names }
+    #[inline] pub(crate) fn load_head(&self, observed: &ReadMark, log: &mut Log) -> (u64, ReadMark)
+        /* requires ring { observed.now.names ≡ self.now.names }
+        requires log { MayNote self.now.names false log.old }
         ensures ring { result.1.names ≡ self.now.names }
         ensures head { result.0 ≡ position_of self.now.names.capacity result.1.count }
         ensures sent { result.1.count ≤ length self.now.sent }
         ensures room { self.now.limit ≤ result.1.count + self.now.names.capacity }
         ensures observed { observed.now.count ≤ result.1.count }
-        ensures found { FoundConsumed self.now.names result.1.count } */
+        ensures found { FoundConsumed self.now.names result.1.count }
+        ensures noted { log.new ≡ did (loaded_head result.1.count) log.old } */
     {
         // SAFETY: the seat owns or shares the ring's words (`also_owns`, `also_shares`), which live
         // until the last end is gone.
@@ -338,13 +363,15 @@ impl WriteSeat {
 
     /// 1 if the ring is closed, else 0. Once it was seen closed, or the writer closed it, the
     /// answer is 1.
-    #[inline] pub(crate) fn load_closed(&self, saw: &mut ClosedMark) -> u64
-        /* requires { saw.old.names ≡ self.now.names }
+    #[inline] pub(crate) fn load_closed(&self, saw: &mut ClosedMark, log: &mut Log) -> u64
+        /* requires ring { saw.old.names ≡ self.now.names }
+        requires log { MayNote self.now.names false log.old }
         ensures ring { saw.new.names ≡ saw.old.names }
         ensures answer { result ≡ flag saw.new.seen }
         ensures stays { flag saw.old.seen ≤ result }
         ensures shut { flag self.now.shut ≤ result }
-        ensures found { FoundClosed self.now.names saw.new.seen } */
+        ensures found { FoundClosed self.now.names saw.new.seen }
+        ensures noted { log.new ≡ did (loaded_closed saw.new.seen) log.old } */
     {
         // SAFETY: the seat owns or shares the ring's words (`also_owns`, `also_shares`), which live
         // until the last end is gone.
@@ -353,13 +380,15 @@ impl WriteSeat {
 
     /// Publishes the bytes that are in the places handed over. Once the writer closed the ring
     /// there are none.
-    #[inline] pub(crate) fn store_tail(&mut self, bytes: Places, tail: u64)
-        /* requires { BeginsAt self.old.at self.old.names.capacity (length self.old.sent) bytes
+    #[inline] pub(crate) fn store_tail(&mut self, log: &mut Log, bytes: Places, tail: u64)
+        /* requires bytes { BeginsAt self.old.at self.old.names.capacity (length self.old.sent) bytes
             × (length self.old.sent + length bytes.bytes ≤ self.old.limit)
             × (self.old.shut ≡ true → bytes.bytes ≡ [])
             × (tail ≡ position_of self.old.names.capacity
             (length self.old.sent + length bytes.bytes)) }
-        ensures { self.new ≡ record self.old { sent = self.old.sent ++ bytes.bytes } } */
+        requires log { IsLogOf self.old.names false log.old }
+        ensures seat { self.new ≡ record self.old { sent = self.old.sent ++ bytes.bytes } }
+        ensures noted { log.new ≡ did (stored_tail bytes.bytes) log.old } */
     {
         let Places { mark: _ } = bytes;
         // SAFETY: the seat owns or shares the ring's words (`also_owns`, `also_shares`), which live
@@ -368,8 +397,10 @@ impl WriteSeat {
     }
 
     /// Closes the ring for good, or to leave, as `store_closed` of the reader.
-    #[inline] pub(crate) fn store_shut(&mut self)
-        /* ensures { self.new ≡ record self.old { shut = true } } */
+    #[inline] pub(crate) fn store_shut(&mut self, log: &mut Log)
+        /* requires { IsLogOf self.old.names false log.old }
+        ensures seat { self.new ≡ record self.old { shut = true } }
+        ensures noted { log.new ≡ did stored_closed log.old } */
     {
         // SAFETY: the seat owns or shares the ring's words (`also_owns`, `also_shares`), which live
         // until the last end is gone.

@@ -6,6 +6,7 @@
 /* ghost use Rattle.piper_ring.specs.Shared.{Names, names_code, waits_in, wakes_in, words_lent}; */
 /* ghost use Rattle.piper_ring.specs.Slot.{Stored, as_stored, stored_code}; */
 
+use crate::proved::piper_ring::log::Log;
 use crate::proved::piper_ring::ring::marks::{ClosedMark, ReadMark, WriteMark};
 use crate::proved::piper_ring::ring::seats::{ReadSeat, WriteSeat};
 use crate::proved::piper_cells::token_cell::Token;
@@ -115,18 +116,25 @@ pub struct SlotWords<'a> {
 
 // A step gets the index of the word that it is at: the one of the slot that `slot` is about.
 impl<'a> SlotWords<'a> {
+    /* ghost use Rattle.std.specs.Prelude.{None, not}; */
+    /* ghost use Rattle.piper_protocol.specs.OneList.{loaded_slot, swapped}; */
     /* ghost use Rattle.piper_ring.specs.Loads.{FoundOwn, FoundWaiter}; */
+    /* ghost use Rattle.piper_ring.specs.Log.{AreSides, IsLogOf, MayNote, did}; */
+    /* ghost use Rattle.piper_ring.specs.Trace.{side_of}; */
     /* ghost use Rattle.piper_ring.specs.Shared.{slot_word}; */
-    /* ghost use Rattle.piper_ring.specs.Slot.{Exchanges, IsRemembered, IsTicket, is_odd}; */
+    /* ghost use Rattle.piper_ring.specs.Slot.{Exchanges, IsRemembered, IsTicket, is_odd, ticket_if}; */
     /* ghost use Rattle.piper_ring.specs.SlotValues.{IsTokenAt, of_waits, of_wakes}; */
 
     /// What this side's own slot says: an odd number if its waker is there.
-    #[inline] pub(crate) fn load_own(self, slot: &mut WaiterState, word: usize) -> u64
-        /* requires { (slot.old.names ≡ self.names) × (word ≡ slot_word slot.old.for_reader) }
+    #[inline] pub(crate) fn load_own(self, slot: &mut WaiterState, log: &mut Log, word: usize) -> u64
+        /* requires at { (slot.old.names ≡ self.names) × (word ≡ slot_word slot.old.for_reader) }
+        requires log { MayNote self.names slot.old.for_reader log.old }
         ensures odd { is_odd result ≡ true → slot.new ≡ slot.old }
         ensures even { is_odd result ≡ false → slot.new ≡ record slot.old { waits = false } }
         ensures waits { is_odd result ≡ true → slot.old.waits ≡ true }
-        ensures found { FoundOwn slot.old.names (is_odd result) } */
+        ensures found { FoundOwn slot.old.names (is_odd result) }
+        ensures noted { log.new
+            ≡ did (loaded_slot (side_of slot.old.for_reader) (is_odd result)) log.old } */
     {
         let SlotWords { words, mark: _ } = self;
         // SAFETY: an end lends the words (`also_owns`), which live until the last end is gone.
@@ -140,17 +148,22 @@ impl<'a> SlotWords<'a> {
         self,
         slot: &mut WaiterState,
         right: &mut Token,
+        log: &mut Log,
         new: u64,
         word: usize,
     ) -> u64
         /* requires at { (slot.old.names ≡ self.names) × (word ≡ slot_word slot.old.for_reader) }
         requires right { IsTokenAt self.names.cells new right.old }
+        requires log { IsLogOf self.names slot.old.for_reader log.old }
         ensures side { slot.new ≡ record slot.old
             { waits = slot.new.waits; tickets = slot.new.tickets; heard = slot.new.heard } }
         ensures waits { Exchanges Stored right.old.filled (of_waits slot.old) (of_waits slot.new) }
         ensures right { IsTokenAt self.entry.names.cells result right.new }
         ensures waited { right.new.filled ≡ true → slot.old.waits ≡ true }
-        ensures found { FoundOwn slot.old.names right.new.filled } */
+        ensures found { FoundOwn slot.old.names right.new.filled }
+        ensures noted { log.new ≡ did (swapped (side_of slot.old.for_reader)
+            (ticket_if right.new.filled slot.old.tickets)
+            (ticket_if right.old.filled slot.new.tickets)) log.old } */
     {
         let SlotWords { words, mark: _ } = self;
         // SAFETY: an end lends the words (`also_owns`), which live until the last end is gone.
@@ -159,13 +172,16 @@ impl<'a> SlotWords<'a> {
 
     /// What the other side's slot says: an odd number if its waker is there. If none is, this check
     /// came after all that this side had stored.
-    #[inline] pub(crate) fn load_other(self, slot: &mut WakerState, word: usize) -> u64
-        /* requires { (slot.old.names ≡ self.names) × (slot.old.for_reader ≡ self.for_reader)
+    #[inline] pub(crate) fn load_other(self, slot: &mut WakerState, log: &mut Log, word: usize) -> u64
+        /* requires at { (slot.old.names ≡ self.names) × (slot.old.for_reader ≡ self.for_reader)
             × (word ≡ slot_word slot.old.for_reader) }
+        requires log { MayNote self.names (not slot.old.for_reader) log.old }
         ensures odd { is_odd result ≡ true → slot.new ≡ slot.old }
         ensures even { is_odd result ≡ false →
             slot.new ≡ record slot.old { stored = self.entry.stored } }
-        ensures found { FoundWaiter slot.old.names (is_odd result) } */
+        ensures found { FoundWaiter slot.old.names (is_odd result) }
+        ensures noted { log.new
+            ≡ did (loaded_slot (side_of slot.old.for_reader) (is_odd result)) log.old } */
     {
         let SlotWords { words, mark: _ } = self;
         // SAFETY: an end lends the words (`also_owns`), which live until the last end is gone.
@@ -179,17 +195,21 @@ impl<'a> SlotWords<'a> {
         self,
         slot: &mut WakerState,
         right: &mut Token,
+        log: &mut Log,
         new: u64,
         word: usize,
     ) -> u64
         /* requires at { (slot.old.names ≡ self.names) × (slot.old.for_reader ≡ self.for_reader)
             × (word ≡ slot_word slot.old.for_reader) }
         requires right { IsTokenAt self.names.cells new right.old × (right.old.filled ≡ false) }
+        requires log { IsLogOf self.names (not slot.old.for_reader) log.old }
         ensures side { slot.new ≡ record slot.old
             { taken = slot.new.taken; stored = self.entry.stored } }
         ensures ticket { IsTicket right.new.filled slot.old.taken slot.new.taken }
         ensures right { IsTokenAt self.entry.names.cells result right.new }
-        ensures found { FoundWaiter slot.old.names right.new.filled } */
+        ensures found { FoundWaiter slot.old.names right.new.filled }
+        ensures noted { log.new ≡ did (swapped (side_of slot.old.for_reader)
+            (ticket_if right.new.filled slot.new.taken) None) log.old } */
     {
         let SlotWords { words, mark: _ } = self;
         // SAFETY: an end lends the words (`also_owns`), which live until the last end is gone.
@@ -203,6 +223,17 @@ impl<'a> SlotWords<'a> {
             × (wakes.old.for_reader ≡ waits.old.for_reader) }
         ensures remembered { IsRemembered Stored (of_waits waits.old) (of_wakes wakes.old) }
         ensures kept { (waits.new ≡ waits.old) × (wakes.new ≡ wakes.old) } */
+    {
+        let SlotWords { words: _, mark: _ } = self;
+    }
+
+    /// The logs of both sides held by one thread: what they say is one list. It is no step of the
+    /// program.
+    #[inline] pub(crate) fn meet_logs(self, log: &mut Log, other: &mut Log)
+        /* requires { IsLogOf self.names log.old.reads log.old
+            × IsLogOf self.names (not log.old.reads) other.old }
+        ensures list { AreSides log.old.reads log.old.did other.old.did }
+        ensures kept { (log.new ≡ log.old) × (other.new ≡ other.old) } */
     {
         let SlotWords { words: _, mark: _ } = self;
     }

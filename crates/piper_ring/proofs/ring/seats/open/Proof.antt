@@ -1,8 +1,11 @@
 -- `open` writes the six words, and puts them under the ring's invariant, with the rights to two cells. Assumes `Logic`.
-use Rattle.piper_ring.proofs.Kit.{Bool, nothing_stored, block_of, count_of, at_block, arith, ◌<◌, ◌^◌, ◌≡◌, ℕ, true, false, [], ◌∷◌, refl, ap, sym, lit<, named, Val, vptr, SProp, emp, ftrue, ‵, raw, ◌⊛◌, some, given, later, await, pick, at_ret, ◌$◌, ◌∵◌, !, qed, by, move, keep, drop, split, split3, join, fsplit, fsplit3, fjoin, fjoin3, fpick, fpack, learn, use0, use1, use2, use3, rewrite, stop, fld, init, lit, of_opd, bin, no_more, and_then, first, blocks, exec, assigns_last, returns, enter, alloc_all, pass_all, free_all, look_at, get, get_in, through, sets, is, env, agg, sub, whole, fact, fact_i, tables, yes, RattleType, owns, types_at, plain, Ptr, block_ptr, ptr_val, RefOf, nothing, alive, Stays, stay_dropped, walk_of, Goes-dropped, after as from_on, word-Good, span, proved, leaves, unset, Names, reader_owns, writer_owns, shr_vals, shr_Tells, pointer_val, ghost_val, ghost_told, GhostData, ghost_made, right, List, seven_val, seven_of, pointer_told, PointerData, pointer_made}
+use Rattle.piper_ring.proofs.Kit.{Bool, nothing_stored, block_of, count_of, at_block, arith, ◌<◌, ◌^◌, ◌≡◌, ℕ, true, false, [], ◌∷◌, refl, ap, sym, lit<, named, Val, vptr, SProp, emp, ftrue, ‵, raw, ◌⊛◌, some, given, later, await, pick, at_ret, ◌$◌, ◌∵◌, !, qed, by, move, keep, drop, split, split3, join, fsplit, fsplit3, fjoin, fjoin3, fpick, fpack, learn, use0, use1, use2, use3, rewrite, stop, fld, init, lit, of_opd, bin, no_more, and_then, first, blocks, exec, assigns_last, returns, enter, alloc_all, pass_all, free_all, look_at, get, get_in, through, sets, is, env, agg, sub, whole, fact, fact_i, tables, yes, RattleType, owns, types_at, plain, Ptr, block_ptr, ptr_val, RefOf, nothing, alive, Stays, stay_dropped, walk_of, Goes-dropped, after as from_on, word-Good, span, proved, leaves, unset, Names, reader_owns, writer_owns, shr_vals, shr_Tells, pointer_val, ghost_val, ghost_told, GhostData, ghost_made, right, List, nine_val, nine_of, pointer_told, PointerData, pointer_made}
 use types.Run.{assigns}
 use Rattle.piper_ring.specs.Places as P
 use Rattle.piper_ring.specs.SlotValues.{IsUnused, LooksFirst}
+use Rattle.piper_ring.specs.Log.{IsNew}
+use Rattle.piper_ring.specs.Trace.{did_owns}
+use Rattle.piper_ring.specs.contracts.log.Log as Log
 use Rattle.piper_ring.specs.contracts.ring.slots.WaiterState as Waits
 use Rattle.piper_ring.specs.contracts.ring.slots.WakerState as Wakes
 use Rattle.piper_ring.proofs.Opening.{as_places, begins, Slotted, IsNamed}
@@ -45,28 +48,32 @@ open_spec 𝓤 𝓛 𝓜 𝓡 wired =
     sets ! (bin ! (get ! refl) (lit ! tt) tt) refl (tt, tt) $ assigns_last ! (of_opd ! (lit ! tt)) (through ! refl (stop !)) (init ! 6 refl (tt, record { fits = lit< tt })) $
     exec ! 𝓣.C 𝓣.Λ Ev (from_on 2 fn.body) (at_ret Ev Post) $
     fjoin ! $ move ! (2 ∷ 3 ∷ 0 ∷ []) $ fjoin3 ! $ move ! (2 ∷ 6 ∷ []) $ fjoin ! $ move ! (3 ∷ 6 ∷ []) $ fjoin ! $ move ! (1 ∷ 0 ∷ []) $ fjoin ! $ move ! (2 ∷ 4 ∷ []) $ fjoin ! $ move ! (2 ∷ 0 ∷ 1 ∷ []) $
-    use3 𝓛 (later (some (λ (z : Names). given (IsNamed 𝓛 w p cap cells life z) (‵ (reader_owns w p z 0 0 [] false) ⊛ ‵ (writer_owns w p z [] cap false) ⊛ ‵ (Slotted 𝓛 w p cap z))))) (begins 𝓛 w p cap cells life (tt, refl, small)) $ await ! tt $ pick ! (λ z. learn ! (λ ez. split3 ! $
+    use3 𝓛 (later (some (λ (z : Names). given (IsNamed 𝓛 w p cap cells life z) (‵ (reader_owns w p z 0 0 [] false) ⊛ ‵ (writer_owns w p z [] cap false) ⊛ ‵ (Slotted 𝓛 w p cap z) ⊛ ‵ (did_owns z.traced true true []) ⊛ ‵ (did_owns z.traced true false []))))) (begins 𝓛 w p cap cells life (tt, refl, small)) $ await ! tt $ pick ! (λ z. learn ! (λ ez. split3 ! $ move ! (2 ∷ []) $ split3 ! $
+    move ! (1 ∷ []) $ use0 𝓛 (‵ (GhostData.own_val (record {}, tt) (ghost_val ∷ []))) (ghost_made 𝓛) $ fjoin ! $ move ! (2 ∷ []) $ use0 𝓛 (‵ (GhostData.own_val (record {}, tt) (ghost_val ∷ []))) (ghost_made 𝓛) $ fjoin ! $ move ! (1 ∷ 0 ∷ []) $ join ! $ move ! (2 ∷ 3 ∷ 1 ∷ []) $
     let one : ReadSeat.the_row.Denot = record { words = w; at = p; names = z; head = 0; seen = 0; have = []; leaving = false } in let two : WriteSeat.the_row.Denot = record { words = w; at = p; names = z; sent = []; limit = cap; shut = false } in
     let three : Blank.the_row.Denot = record { mark = record {}; at = p; capacity = cap; first = 0; count = cap } in let v : Val = pointer_val w in let small_cap : cap < 2 ^ 63 = omega arith in
-    let waits : Bool → Waits.the_row.Denot = λ r. record { mark = record {}; names = z; for_reader = r; waits = false; tickets = 0; heard = nothing_stored } in let wakes : Bool → Wakes.the_row.Denot = λ r. record { mark = record {}; names = z; for_reader = r; taken = 0; stored = nothing_stored } in let g : Val = ghost_val in
-    use0 𝓛 (‵ (PointerData.own_val (w, tt) (v ∷ []))) (pointer_made 𝓛 w) $ fjoin ! $ move ! (1 ∷ []) $ use0 𝓛 (‵ (PointerData.own_val (w, tt) (v ∷ []))) (pointer_made 𝓛 w) $ fjoin ! $ move ! (3 ∷ []) $
+    let waits : Bool → Waits.the_row.Denot = λ r. record { mark = record {}; names = z; for_reader = r; waits = false; tickets = 0; heard = nothing_stored } in let wakes : Bool → Wakes.the_row.Denot = λ r. record { mark = record {}; names = z; for_reader = r; taken = 0; stored = nothing_stored } in let log : Bool → Log.the_row.Denot = λ r. record { mark = record {}; names = z; reads = r; keeps = true; did = []; lines = [] } in let g : Val = ghost_val in
+    use0 𝓛 (‵ (PointerData.own_val (w, tt) (v ∷ []))) (pointer_made 𝓛 w) $ fjoin ! $ move ! (1 ∷ []) $ use0 𝓛 (‵ (PointerData.own_val (w, tt) (v ∷ []))) (pointer_made 𝓛 w) $ fjoin ! $ move ! (4 ∷ []) $
     use1 𝓛 (‵ (span (unset p cap) 0 cap)) (as_places 𝓛 w p cap) $ nothing ! $ fpack ! (P.Placed p cap) (λ _. ftrue) (tt, small_cap) $ fjoin ! $ use0 𝓛 (‵ (GhostData.own_val (record {}, tt) (ghost_val ∷ []))) (ghost_made 𝓛) $ fjoin ! $
     move ! (3 ∷ []) $ fsplit ! $ fsplit ! $ move ! (2 ∷ []) $ fsplit ! $
-    use0 𝓛 (‵ (GhostData.own_val (record {}, tt) (g ∷ []))) (ghost_made 𝓛) $ fjoin ! $ move ! (1 ∷ []) $ use0 𝓛 (‵ (GhostData.own_val (record {}, tt) (g ∷ []))) (ghost_made 𝓛) $ fjoin ! $ move ! (1 ∷ 0 ∷ []) $ join ! $ move ! (2 ∷ []) $
+    use0 𝓛 (‵ (GhostData.own_val (record {}, tt) (g ∷ []))) (ghost_made 𝓛) $ fjoin ! $ move ! (1 ∷ []) $ use0 𝓛 (‵ (GhostData.own_val (record {}, tt) (g ∷ []))) (ghost_made 𝓛) $ fjoin ! $ move ! (0 ∷ 7 ∷ []) $ join ! $ move ! (1 ∷ 0 ∷ []) $ join ! $ move ! (2 ∷ []) $
     use0 𝓛 (‵ (GhostData.own_val (record {}, tt) (g ∷ []))) (ghost_made 𝓛) $ fjoin ! $ join ! $ move ! (1 ∷ []) $ use0 𝓛 (‵ (GhostData.own_val (record {}, tt) (g ∷ []))) (ghost_made 𝓛) $ fjoin ! $ join ! $
     move ! (1 ∷ 0 ∷ []) $ join ! $ move ! (1 ∷ 0 ∷ []) $ join ! $ move ! (1 ∷ 0 ∷ []) $
-    use2 𝓛 (‵ ((denote.Struct.Tuple.Tuple (ReadSeat.the_row ∷ WriteSeat.the_row ∷ Blank.the_row ∷ Waits.the_row ∷ Wakes.the_row ∷ Waits.the_row ∷ Wakes.the_row ∷ [])).own_val (one, two, three, waits true, wakes true, waits false, wakes false) (seven_val v v g g g g g ∷ [])))
-    (seven_of 𝓛 ReadSeat.the_row WriteSeat.the_row Blank.the_row Waits.the_row Wakes.the_row Waits.the_row Wakes.the_row one two three (waits true) (wakes true) (waits false) (wakes false) v v g g g g g) $
+    use2 𝓛 (‵ ((denote.Struct.Tuple.Tuple (ReadSeat.the_row ∷ WriteSeat.the_row ∷ Blank.the_row ∷ Waits.the_row ∷ Wakes.the_row ∷ Waits.the_row ∷ Wakes.the_row ∷ Log.the_row ∷ Log.the_row ∷ [])).own_val (one, two, three, waits true, wakes true, waits false, wakes false, log true, log false) (nine_val v v g g g g g g g ∷ [])))
+    (nine_of 𝓛 ReadSeat.the_row WriteSeat.the_row Blank.the_row Waits.the_row Wakes.the_row Waits.the_row Wakes.the_row Log.the_row Log.the_row one two three (waits true) (wakes true) (waits false) (wakes false) (log true) (log false) v v g g g g g g g) $
     sets ! (agg ! (and_then ! (get ! refl) (no_more !))) refl (tt, (tt, tt)) $ sets ! (agg ! (and_then ! (get ! refl) (no_more !))) refl (tt, (tt, tt)) $
     sets ! (agg ! (no_more !)) refl (tt, tt) $ sets ! (agg ! (and_then ! (get ! refl) (no_more !))) refl (tt, (tt, tt)) $
     sets ! (agg ! (no_more !)) refl (tt, tt) $ sets ! (agg ! (and_then ! (get ! refl) (no_more !))) refl (tt, (tt, tt)) $
     sets ! (agg ! (no_more !)) refl (tt, tt) $ sets ! (agg ! (and_then ! (get ! refl) (no_more !))) refl (tt, (tt, tt)) $
     sets ! (agg ! (no_more !)) refl (tt, tt) $ sets ! (agg ! (and_then ! (get ! refl) (no_more !))) refl (tt, (tt, tt)) $
     sets ! (agg ! (no_more !)) refl (tt, tt) $ sets ! (agg ! (and_then ! (get ! refl) (no_more !))) refl (tt, (tt, tt)) $
-    sets ! (of_opd ! (get ! refl)) refl (tt, (tt, tt)) $ sets ! (of_opd ! (get ! refl)) refl (tt, (tt, tt)) $ sets ! (of_opd ! (get ! refl)) refl (tt, (tt, tt)) $ sets ! (of_opd ! (get ! refl)) refl (tt, (tt, tt)) $
+    sets ! (agg ! (no_more !)) refl (tt, tt) $ sets ! (agg ! (and_then ! (get ! refl) (no_more !))) refl (tt, (tt, tt)) $
+    sets ! (agg ! (no_more !)) refl (tt, tt) $ sets ! (agg ! (and_then ! (get ! refl) (no_more !))) refl (tt, (tt, tt)) $
+    sets ! (of_opd ! (get ! refl)) refl (tt, (tt, tt)) $ sets ! (of_opd ! (get ! refl)) refl (tt, (tt, tt)) $ sets ! (of_opd ! (get ! refl)) refl (tt, (tt, tt)) $ sets ! (of_opd ! (get ! refl)) refl (tt, (tt, tt)) $ sets ! (of_opd ! (get ! refl)) refl (tt, (tt, tt)) $ sets ! (of_opd ! (get ! refl)) refl (tt, (tt, tt)) $
     sets ! (of_opd ! (get ! refl)) refl (tt, (tt, tt)) $ sets ! (of_opd ! (get ! refl)) refl (tt, (tt, tt)) $ sets ! (of_opd ! (get ! refl)) refl (tt, (tt, tt)) $
-    sets ! (agg ! (and_then ! (get ! refl) (and_then ! (get ! refl) (and_then ! (get ! refl) (and_then ! (get ! refl) (and_then ! (get ! refl) (and_then ! (get ! refl) (and_then ! (get ! refl) (no_more !))))))))) refl (tt, ((tt, tt), ((tt, tt), ((tt, tt), ((tt, tt), ((tt, tt), ((tt, tt), ((tt, tt), tt)))))))) $
-    use0 𝓛 (raw (fact 𝓤 (LooksFirst z false (wakes false)))) (fact_i 𝓤 (LooksFirst z false (wakes false)) (emp 𝓤) (refl, refl, refl, refl)) $
+    sets ! (agg ! (and_then ! (get ! refl) (and_then ! (get ! refl) (and_then ! (get ! refl) (and_then ! (get ! refl) (and_then ! (get ! refl) (and_then ! (get ! refl) (and_then ! (get ! refl) (and_then ! (get ! refl) (and_then ! (get ! refl) (no_more !))))))))))) refl (tt, ((tt, tt), ((tt, tt), ((tt, tt), ((tt, tt), ((tt, tt), ((tt, tt), ((tt, tt), ((tt, tt), ((tt, tt), tt)))))))))) $
+    let Logs : Type 0 = IsNew z true (log true) × IsNew z false (log false) in use0 𝓛 (raw (fact 𝓤 Logs)) (fact_i 𝓤 Logs (emp 𝓤) (((refl, refl, refl), refl, refl), ((refl, refl, refl), refl, refl))) $
+    use0 𝓛 (raw (fact 𝓤 (LooksFirst z false (wakes false)))) (fact_i 𝓤 (LooksFirst z false (wakes false)) (emp 𝓤) (refl, refl, refl, refl)) $ join ! $
     use0 𝓛 (raw (fact 𝓤 (IsUnused z false (waits false)))) (fact_i 𝓤 (IsUnused z false (waits false)) (emp 𝓤) (refl, refl, refl, refl, refl)) $ join ! $
     use0 𝓛 (raw (fact 𝓤 (LooksFirst z true (wakes true)))) (fact_i 𝓤 (LooksFirst z true (wakes true)) (emp 𝓤) (refl, refl, refl, refl)) $ join ! $
     use0 𝓛 (raw (fact 𝓤 (IsUnused z true (waits true)))) (fact_i 𝓤 (IsUnused z true (waits true)) (emp 𝓤) (refl, refl, refl, refl, refl)) $ join ! $
@@ -77,4 +84,4 @@ open_spec 𝓤 𝓛 𝓜 𝓡 wired =
     use0 𝓛 (raw (fact 𝓤 (z.cells ≡ cells))) (fact_i 𝓤 (z.cells ≡ cells) (emp 𝓤) ez.1) $ join ! $
     use0 𝓛 (raw (fact 𝓤 ((w ≡ w₀) × (z.capacity ≡ cap) × (z.life ≡ life)))) (fact_i 𝓤 ((w ≡ w₀) × (z.capacity ≡ cap) × (z.life ≡ life)) (emp 𝓤) (sym at_w, ez.0, ez.2)) $ join ! $
     nothing ! $ nothing ! $ fjoin ! $ nothing ! $ fjoin ! $ nothing ! $ fjoin ! $ nothing ! $ fjoin ! $ nothing ! $ fjoin ! $ nothing ! $ fjoin ! $
-    returns ! (look_at ! 0 refl) $ free_all ! refl $ keep ! (3 ∷ 0 ∷ 2 ∷ 1 ∷ []) $ by ! (leaves 𝓛 En hs c y (seven_val v v g g g g g) (one, two, three, waits true, wakes true, waits false, wakes false) (tt, (tt, (tt, (tt, (tt, (tt, tt)))))) (tt, (tt, (tt, (tt, (tt, (tt, tt)))))))))))))))
+    returns ! (look_at ! 0 refl) $ free_all ! refl $ keep ! (3 ∷ 0 ∷ 2 ∷ 1 ∷ []) $ by ! (leaves 𝓛 En hs c y (nine_val v v g g g g g g g) (one, two, three, waits true, wakes true, waits false, wakes false, log true, log false) (tt, (tt, (tt, (tt, (tt, (tt, tt)))))) (tt, (tt, (tt, (tt, (tt, (tt, tt)))))))))))))))

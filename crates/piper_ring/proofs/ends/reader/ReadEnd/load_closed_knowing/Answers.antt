@@ -3,8 +3,8 @@ use Rattle.std.proofs.Common.{rules, arith}
 use Rattle.std.proofs.lemmas.Grind.{common_steps}
 use Rattle.piper_ring.proofs.ends.reader.ReadEnd.load_closed_knowing.Goals as goal
 
-pub returns : goal.returns
-returns c = record {
+pub returns-clause-end : goal.returns-clause-end
+returns-clause-end c = record {
   after = search rules;
   saw = search rules;
   observed = search rules;

@@ -1,20 +1,26 @@
 -- The end keeps its view as the front of what is lent goes over to what was sent.
 use Rattle.piper_ring.proofs.Kit.{◌≡◌, ℕ, ◌+◌, ◌-◌, ◌^◌, ◌<◌, ◌≤◌, List, length, take, arith, ap, ◌∙◌, sym, subst, length-append, length-take-le, length-drop, position_of, WriterIndices, Names, WriteView, drop_list}
 use Rattle.std.proofs.Math.Seq.{take-nil, drop-nil}
+use Rattle.std.proofs.Common.{false}
+use Rattle.piper_protocol.specs.OneList.{stored_tail}
+use Rattle.piper_ring.specs.Log.{IsLogOf, did}
 use Rattle.piper_ring.proofs.Indices.{further}
 use Rattle.piper_ring.proofs.ends.writer.WriteEnd.store_tail.Goals as goal
 
-pub store_tail-requires : goal.store_tail-requires
-store_tail-requires c = let e = c.self.inside.parts in let i = c.self.invariant in let d = c.split-gift.ensures in let n : ℕ = c.args.n in let L : List ℕ = e.room.lent.bytes in let s : ℕ = length e.seat.sent in
-    let le : n ≤ length L = subst (λ (w : WriteView). n ≤ length w.lent) (sym c.self.view_is) c.requires in let gift : length c.split-gift.result.bytes ≡ n = ap length (λ j. (d.front j).bytes) ∙ length-take-le n L le in
+pub store_tail-requires-clause-bytes : goal.store_tail-requires-clause-bytes
+store_tail-requires-clause-bytes c = let e = c.self.inside.parts in let i = c.self.invariant in let d = c.split-gift.ensures in let n : ℕ = c.args.n in let L : List ℕ = e.room.lent.bytes in let s : ℕ = length e.seat.sent in
+    let le : n ≤ length L = subst (λ (w : WriteView). n ≤ length w.lent) (sym c.self.view_is) c.requires.lent in let gift : length c.split-gift.result.bytes ≡ n = ap length (λ j. (d.front j).bytes) ∙ length-take-le n L le in
     let first : e.room.lent.first ≡ s = i.placed.2 in let ready : e.room.ready.first ≡ e.room.lent.first + length L = i.room.0.chain.0 in let rest : e.room.ready.first + length e.room.ready.bytes + e.room.blank.count ≡ e.room.later.first = i.room.0.chain.1 in let last : e.room.later.first + length e.room.later.bytes ≡ e.seat.limit = i.placed.3 in
     let more : s + length c.split-gift.result.bytes ≤ e.seat.limit = omega arith in
     let cap = i.fits.0 in let there = c.publish-tail.ensures.index ∙ further e.indices.capacity _ s n _ c.publish-tail.ensures.remainder i.cached.0 in
     (((λ j. (d.front j).at) ∙ i.placed.0, (λ j. (d.front j).capacity) ∙ i.placed.1, (λ j. (d.front j).first) ∙ i.placed.2), more, (λ shut. (λ j. (d.front j).bytes) ∙ ap (take n) (i.lends_none shut) ∙ take-nil n), there ∙ sym (λ j. position_of (sym cap j) (s + gift j)))
 
+pub store_tail-requires-clause-log : goal.store_tail-requires-clause-log
+store_tail-requires-clause-log c = subst (λ (w : WriteView). IsLogOf w.ring.names false c.args.log.now) (sym c.self.view_is) c.requires.log
+
 pub invariant_of-self : goal.invariant_of-self
-invariant_of-self c = let e = c.self.inside.parts in let i = c.self.invariant in let d = c.split-gift.ensures in let t = c.store_tail.ensures in let n : ℕ = c.args.n in let L : List ℕ = e.room.lent.bytes in let s : ℕ = length e.seat.sent in let r = e.room in
-    let le : n ≤ length L = subst (λ (w : WriteView). n ≤ length w.lent) (sym c.self.view_is) c.requires in let gift : length c.split-gift.result.bytes ≡ n = ap length (λ j. (d.front j).bytes) ∙ length-take-le n L le in let rest : length c.split-gift.new.self.bytes ≡ length L - n = ap length (λ j. (d.rest j).bytes) ∙ length-drop n L in
+invariant_of-self c = let e = c.self.inside.parts in let i = c.self.invariant in let d = c.split-gift.ensures in let t = c.store_tail.ensures.seat in let n : ℕ = c.args.n in let L : List ℕ = e.room.lent.bytes in let s : ℕ = length e.seat.sent in let r = e.room in
+    let le : n ≤ length L = subst (λ (w : WriteView). n ≤ length w.lent) (sym c.self.view_is) c.requires.lent in let gift : length c.split-gift.result.bytes ≡ n = ap length (λ j. (d.front j).bytes) ∙ length-take-le n L le in let rest : length c.split-gift.new.self.bytes ≡ length L - n = ap length (λ j. (d.rest j).bytes) ∙ length-drop n L in
     let sent : length c.store_tail.new.self.sent ≡ s + n = ap length (λ j. (t j).sent) ∙ length-append e.seat.sent c.split-gift.result.bytes ∙ ap (λ (m : ℕ). s + m) gift in let limit : c.store_tail.new.self.limit ≡ e.seat.limit = (λ j. (t j).limit) in
     let g = c.publish-tail.new.self in let after = c.publish-tail.ensures.after in let cap : g.capacity ≡ e.indices.capacity = ap (λ (w : WriterIndices). w.capacity) after in let head : g.head ≡ e.indices.head = ap (λ (w : WriterIndices). w.head) after in
     let lent : g.lent ≡ e.indices.lent - n = ap (λ (w : WriterIndices). w.lent) after in let was : e.indices.lent ≡ length L = i.lending in
@@ -42,3 +48,7 @@ invariant_of-self c = let e = c.self.inside.parts in let i = c.self.invariant in
       closed = ap (λ (w : WriterIndices). w.is_shut) after ∙ i.closed ∙ sym (λ j. (t j).shut);
       lends_none = λ shut. (λ j. (d.rest j).bytes) ∙ ap (drop_list n) (i.lends_none (sym (λ j. (t j).shut) ∙ shut)) ∙ drop-nil n;
     }
+
+pub returns-clause-noted : goal.returns-clause-noted
+returns-clause-noted c = let d = c.split-gift.ensures in let n : ℕ = c.args.n in
+    c.store_tail.ensures.noted ∙ (λ j. did (stored_tail ((d.front j).bytes)) c.args.log.now) ∙ ap (λ (w : WriteView). did (stored_tail (take n w.lent)) c.args.log.now) c.self.view_is

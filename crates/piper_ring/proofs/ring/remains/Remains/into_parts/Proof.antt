@@ -1,5 +1,5 @@
 -- `into_parts` takes apart what both ends left. Assumes `Logic`.
-use Rattle.piper_ring.proofs.Kit.{◌+◌, arith, load, through, look, u64, vint, w64, flt_i, feq_i, List, fwand, Lying, number, use2, fsplit3, word_room, GhostData, ghost_made, ghost_val, false, join, first, blocks, bin, lit, sets_last, exec, at_ret, use1, after as from_on, ◌≡◌, ℕ, ◌<◌, ◌^◌, Bool, true, [], ◌∷◌, refl, ap, Val, SProp, emp, ftrue, ‵, raw, ◌⊛◌, given, ◌$◌, ◌∵◌, !, qed, by, move, keep, drop, split, fsplit, fjoin, fpick, fpack, learn, use0, rewrite, stop, fld, of_opd, no_more, and_then, returns, enter, alloc_all, pass_all, free_all, look_at, get, get_in, sets, is, env, agg, sub, whole, fact, fact_i, tables, yes, owns, types_at, plain, Ptr, block_ptr, ptr_val, block_of, count_of, at_block, nothing, alive, Stays, stay_dropped, walk_of, Goes-dropped, word-Good, proved, leaves, Names, heap_token, where_gone, pointer_val, pointer_told, PointerData, pointer_made, eight_val, eight_of, Ty, ty_int}
+use Rattle.piper_ring.proofs.Kit.{◌+◌, arith, load, through, look, u64, vint, w64, flt_i, feq_i, List, fwand, Filled, number, use2, fsplit3, word_room, GhostData, ghost_made, ghost_val, false, join, first, blocks, bin, lit, sets_last, exec, at_ret, use1, after as from_on, ◌≡◌, ℕ, ◌<◌, ◌^◌, Bool, true, [], ◌∷◌, refl, ap, Val, SProp, emp, ftrue, ‵, raw, ◌⊛◌, given, ◌$◌, ◌∵◌, !, qed, by, move, keep, drop, split, fsplit, fjoin, fpick, fpack, learn, use0, rewrite, stop, fld, of_opd, no_more, and_then, returns, enter, alloc_all, pass_all, free_all, look_at, get, get_in, sets, is, env, agg, sub, whole, fact, fact_i, tables, yes, owns, types_at, plain, Ptr, block_ptr, ptr_val, block_of, count_of, at_block, nothing, alive, Stays, stay_dropped, walk_of, Goes-dropped, word-Good, proved, leaves, Names, heap_token, where_gone, pointer_val, pointer_told, PointerData, pointer_made, eight_val, eight_of, Ty, ty_int}
 use types.Kit.{group}
 use Rattle.piper_cells.specs.contracts.lent_space.Lease as Lease
 use Rattle.piper_cells.specs.contracts.lent_space.Lender as Lender
@@ -53,7 +53,7 @@ into_parts_spec 𝓤 𝓛 𝓜 𝓡 wired =
     -- [the right to free the block; the lender; the leases; the block but for the space; the rights to the places]
     rewrite ! 0 (λ (q : Ptr). ‵ (heap_token (purpose (size_of_block cap)) q)) is_w refl $ move ! (3 ∷ 0 ∷ []) $ fjoin ! $ nothing ! $ fpack ! (IsPlaced cap w') (λ _. ftrue) (tt, at.2) $ fjoin ! $
     let five : u64.Denot = number r in let six : Token.the_row.Denot = record { mark = record {}; name = slice_index z.cells r.0; there = true; filled = r.1 } in let seven : u64.Denot = number t' in let eight : Token.the_row.Denot = record { mark = record {}; name = slice_index z.cells t'.0; there = true; filled = t'.1 } in
-    let all : Val = eight_val u v g g (vint w64 five) t (vint w64 seven) t in let lies : (s : Lying) → s.0 < 4 → IsTokenAt z.cells (number s) (record { mark = record {}; name = slice_index z.cells s.0; there = true; filled = s.1 }) = λ s small. (s.0, record { small = small; name = refl; there = refl; filled = refl }, refl) in
+    let all : Val = eight_val u v g g (vint w64 five) t (vint w64 seven) t in let lies : (s : Filled) → s.0 < 4 → IsTokenAt z.cells (number s) (record { mark = record {}; name = slice_index z.cells s.0; there = true; filled = s.1 }) = λ s small. (s.0, record { small = small; name = refl; there = refl; filled = refl }, refl) in
     use0 𝓛 (‵ (PointerData.own_val (w', tt) (u ∷ []))) (pointer_made 𝓛 w') $ fjoin ! $ move ! (1 ∷ []) $ use0 𝓛 (‵ (PointerData.own_val (at', tt) (v ∷ []))) (pointer_made 𝓛 at') $ fjoin ! $
     move ! (2 ∷ []) $ fsplit ! $ use0 𝓛 (‵ (GhostData.own_val (record {}, tt) (g ∷ []))) (ghost_made 𝓛) $ fjoin ! $ move ! (1 ∷ []) $ use0 𝓛 (‵ (GhostData.own_val (record {}, tt) (g ∷ []))) (ghost_made 𝓛) $ fjoin ! $
     move ! (4 ∷ []) $ use0 𝓛 (‵ (GhostData.own_val (record {}, tt) (t ∷ []))) (ghost_made 𝓛) $ fjoin ! $ move ! (5 ∷ []) $ use0 𝓛 (‵ (GhostData.own_val (record {}, tt) (t ∷ []))) (ghost_made 𝓛) $ fjoin ! $

@@ -1,7 +1,11 @@
--- `store_head` is one store, which gives places back. Assumes `Logic`.
-use Rattle.piper_ring.proofs.Kit.{lit<, ◌≡◌, ℕ, ◌+◌, ◌≤◌, List, [], ◌∷◌, length, refl, ap, w64, named, Val, vint, vptr, vunit, SProp, emp, full_share, Fml, ftrue, flft, ‵, raw, ◌⊛◌, given, mean, at_ret, ◌$◌, ◌∵◌, !, qed, by, move, keep, drop, split, join, fsplit, fsplit3, fjoin, fjoin3, fpick, fpack, learn, use0, use1, use3, rewrite, feq_i, stop, fld, load, lit, unit_lit, of_opd, bin, no_more, and_then, first, blocks, exec, Calls-last, returns, enter, alloc_all, pass_all, free_all, look_at, get, through, sets, lands_last, is, env, agg, sub, whole, look_in, fact, fact_i, tables, yes, RattleType, owns, types_at, plain, Ptr, block_ptr, ptr_val, block_of, count_of, at_block, u64, Is, shows, cell_at, mut_vals, mut_Tells, uint_vals, uint_Tells, nothing, peeks, opens, closes, Stays, stay_ref, stay_dropped, walk_of, Goes-ref, Goes-dropped, tail, asks, always, position_of, run, proved, leaves, seq_cst, fm, stored, has_stored, stores, byte, Names, flag, RingIsPlaced, common, half, reader_knows, pointer_val, ghost_val, PointerData, pointer_told, pointer_made, ghost_told}
+-- `store_head` is one store, which gives places back and is noted. Assumes `Logic`.
+use Rattle.piper_ring.proofs.Kit.{flag, true, lit<, ◌≡◌, ℕ, ◌+◌, ◌≤◌, List, [], ◌∷◌, length, refl, ap, w64, named, Val, vint, vptr, vunit, SProp, emp, full_share, Fml, ftrue, flft, ‵, raw, ◌⊛◌, given, mean, at_ret, ◌$◌, ◌∵◌, !, qed, by, move, keep, drop, split, join, fsplit, fsplit3, fjoin, fjoin3, fpick, fpack, learn, use0, use1, use3, rewrite, feq_i, stop, fld, load, lit, unit_lit, of_opd, bin, no_more, and_then, first, blocks, exec, Calls-last, returns, enter, alloc_all, pass_all, free_all, look_at, get, through, sets, lands_last, is, env, agg, sub, whole, look_in, fact, fact_i, tables, yes, RattleType, owns, types_at, plain, Ptr, block_ptr, ptr_val, block_of, count_of, at_block, u64, Is, shows, cell_at, mut_vals, mut_Tells, uint_vals, uint_Tells, nothing, peeks, opens, closes, Stays, stay_ref, stay_dropped, walk_of, Goes-ref, Goes-dropped, tail, asks, always, position_of, run, proved, leaves, seq_cst, fm, stored, has_stored, stores, byte, Names, RingIsPlaced, common, pointer_val, ghost_val, PointerData, pointer_told, pointer_made, ghost_told}
 use Rattle.piper_ring.proofs.Rights.{common_twice}
-use Rattle.piper_ring.proofs.Steps.{flag_small, frees}
+use types.Kit.{split3}
+use Rattle.piper_protocol.specs.OneList.{stored_head}
+use Rattle.piper_ring.specs.Log.{did}
+use Rattle.piper_ring.proofs.Steps.{flag_small, Freed, frees}
+use Rattle.piper_ring.specs.contracts.log.Log as Log
 use Rattle.piper_ring.specs.contracts.ring.places.Places as Places
 use Rattle.piper_ring.specs.contracts.ring.seats.ReadSeat.{the_row}
 use Rattle.piper_ring.specs.contracts.ring.seats.ReadSeat.store_head as called
@@ -10,32 +14,37 @@ use Rattle.piper_ring.proofs.ring.seats.ReadSeat.store_head as own
 pub store_head_spec : {M : Type 1} → own.Statement.statement M
 store_head_spec 𝓤 𝓛 𝓜 𝓡 wired =
     let H = 𝓛.H in let 𝓣 = tables 𝓤 H 𝓜 𝓡 𝓡.env in let En = called.ended in let fn = own.Code.function in let c = called.clauses 𝓛 𝓜.mem 𝓡.returns in
-    let Row : RattleType = the_row in let self = plain (λ _. Row) in
-    let hs : Stays En.signature.params En.kept = (stay_ref (0 ∷ []) tt self, (stay_dropped (plain (λ _. Places.the_row)) yes, (stay_dropped (plain (λ _. u64)) yes, tt))) in
-    proved 𝓛 En hs c 𝓜 𝓡 (Goes-ref 𝓛 1 0 tt self, (Goes-dropped 𝓛 1 (plain (λ _. Places.the_row)) yes (λ κs x f. refl), (Goes-dropped 𝓛 1 (plain (λ _. u64)) yes (λ κs x f. refl), tt))) called.Key.name fn (own.Code.unfolded 𝓤 H 𝓜 𝓡 wired)
-    (λ κs. (mut_vals, ((λ x. ghost_val ∷ []), (uint_vals w64, tt)))) (λ κs. (mut_Tells (named 0) κs.0 Row, ((λ x vs is. ghost_told vs is.0), (uint_Tells w64, tt)))) (λ κs qs bounds a gh are.
-    let b : ℕ = a.0.ref_ptr.0 in let o : ℕ = a.0.ref_ptr.1 in let h = a.0.now in let g = a.1.0 in let new : ℕ = a.1.1.0 in let w : Ptr = h.words in let p : Ptr = h.at in let z : Names = h.names in let κ = κs.0 in let xs : List ℕ = g.bytes in
-    let bw : ℕ = block_of w in let e : ℕ = 8 + count_of w in let us : List Val = pointer_val w ∷ [] in let C : Fml = common w p z in let Now : Fml = reader_knows w p z half h.head h.seen (flag h.leaving) in
-    let Then : Fml = reader_knows w p z half (h.head + length xs) h.seen (flag h.leaving) in let Step : SProp 𝓤 = asks 𝓛 (block_ptr bw e) (λ _. new) always (λ _. Then) in let h' : Row.Denot = record h { head = h.head + length xs } in
+    let Row : RattleType = the_row in let self = plain (λ _. Row) in let TRow : RattleType = Log.the_row in let noting = plain (λ _. TRow) in
+    let hs : Stays En.signature.params En.kept = (stay_ref (0 ∷ []) tt self, (stay_ref (1 ∷ []) tt noting, (stay_dropped (plain (λ _. Places.the_row)) yes, (stay_dropped (plain (λ _. u64)) yes, tt)))) in
+    proved 𝓛 En hs c 𝓜 𝓡 (Goes-ref 𝓛 2 0 tt self, (Goes-ref 𝓛 2 1 tt noting, (Goes-dropped 𝓛 2 (plain (λ _. Places.the_row)) yes (λ κs x f. refl), (Goes-dropped 𝓛 2 (plain (λ _. u64)) yes (λ κs x f. refl), tt)))) called.Key.name fn (own.Code.unfolded 𝓤 H 𝓜 𝓡 wired)
+    (λ κs. (mut_vals, (mut_vals, ((λ x. ghost_val ∷ []), (uint_vals w64, tt))))) (λ κs. (mut_Tells (named 0) κs.0 Row, (mut_Tells (named 1) κs.1.0 TRow, ((λ x vs is. ghost_told vs is.0), (uint_Tells w64, tt))))) (λ κs qs bounds a gh are.
+    let b : ℕ = a.0.ref_ptr.0 in let o : ℕ = a.0.ref_ptr.1 in let h = a.0.now in let b' : ℕ = a.1.0.ref_ptr.0 in let o' : ℕ = a.1.0.ref_ptr.1 in let t = a.1.0.now in let g = a.1.1.0 in let new : ℕ = a.1.1.1.0 in let w : Ptr = h.words in let p : Ptr = h.at in let z : Names = h.names in let xs : List ℕ = g.bytes in
+    let bw : ℕ = block_of w in let e : ℕ = 8 + count_of w in let us : List Val = pointer_val w ∷ [] in let C : Fml = common w p z in
+    let h' : Row.Denot = record h { head = h.head + length xs } in let t' : TRow.Denot = did (stored_head xs) t in
     let Data : Fml = PointerData.own_val (w, tt) us in
-    let y : (walk_of 𝓛 En hs c).Ghost = ((κs, qs, bounds, a, (vptr b o ∷ [], (ghost_val ∷ [], (vint w64 new ∷ [], tt)))), gh) in let Post : Val → SProp 𝓤 = (walk_of 𝓛 En hs c).post y in
+    let y : (walk_of 𝓛 En hs c).Ghost = ((κs, qs, bounds, a, (vptr b o ∷ [], (vptr b' o' ∷ [], (ghost_val ∷ [], (vint w64 new ∷ [], tt))))), gh) in let Post : Val → SProp 𝓤 = (walk_of 𝓛 En hs c).post y in
     let Asked : Type 0 = ((g.at ≡ p) × (g.capacity ≡ z.capacity) × (g.first ≡ h.head)) × (h.head + length xs ≤ h.seen) × (new ≡ position_of z.capacity (h.head + length xs)) in
-    qed 𝓛 (((‵ (flft κ qs.0) ⊛ ‵ ftrue) ⊛ ‵ (owns (types_at En.signature.params κs) a y.0.4)) ∷ given Asked (‵ ftrue) ∷ []) ∵
-    keep ! (1 ∷ 0 ∷ []) $ learn ! (λ asked. drop ! $ split ! $ split ! $ move ! (2 ∷ []) $ fsplit ! $ fsplit3 ! $ keep ! (3 ∷ 1 ∷ 2 ∷ 4 ∷ []) $ fsplit ! $ fsplit ! $ drop ! $ fsplit ! $ drop ! $
-    rewrite ! 0 (λ (r : Ptr × ℕ × ℕ). ‵ (run (byte r.0 r.1) r.2 xs)) {x = (p, z.capacity, h.head)} {y = (g.at, g.capacity, g.first)} (λ i. (asked.0.0 i, asked.0.1 i, asked.0.2 i)) refl $ keep ! (2 ∷ 3 ∷ 4 ∷ 0 ∷ []) $
-    enter ! 𝓣.C 𝓣.Λ fn (vptr b o ∷ ghost_val ∷ vint w64 new ∷ []) Post $ alloc_all ! (λ l. pass_all ! refl ((tt, tt), ((tt, (tt, tt)), ((tt, record { fits = are.1.1.0.1 }), tt))) $ let Ev = env fn.locals l in
+    let Logged : Type 0 = (t.keeps ≡ true) × (t.names ≡ z) × (t.reads ≡ true) in
+    qed 𝓛 (((‵ (flft κs.0 qs.0) ⊛ ‵ (flft κs.1.0 qs.1.0) ⊛ ‵ ftrue) ⊛ ‵ (owns (types_at En.signature.params κs) a y.0.4)) ∷ given Asked (‵ ftrue) ∷ given Logged (‵ ftrue) ∷ []) ∵
+    move ! (1 ∷ []) $ learn ! (λ asked. drop ! $ move ! (1 ∷ []) $ learn ! (λ logged. drop ! $
+    let Then : Fml = Freed 𝓛 w p z h.head h.seen (flag h.leaving) xs new t 0 in let Step : SProp 𝓤 = asks 𝓛 (block_ptr bw e) (λ _. new) always (λ _. Then) in split ! $ split3 ! $ move ! (3 ∷ []) $ fsplit3 ! $ fsplit3 ! $ move ! (3 ∷ []) $ fsplit3 ! $ move ! (6 ∷ []) $ fsplit ! $ fsplit ! $ drop ! $ fsplit ! $ drop ! $
+    rewrite ! 0 (λ (r : Ptr × ℕ × ℕ). ‵ (run (byte r.0 r.1) r.2 xs)) {x = (p, z.capacity, h.head)} {y = (g.at, g.capacity, g.first)} (λ i. (asked.0.0 i, asked.0.1 i, asked.0.2 i)) refl $ keep ! (6 ∷ 7 ∷ 8 ∷ 0 ∷ 3 ∷ 4 ∷ 9 ∷ []) $
+    enter ! 𝓣.C 𝓣.Λ fn (vptr b o ∷ vptr b' o' ∷ ghost_val ∷ vint w64 new ∷ []) Post $ alloc_all ! (λ l. pass_all ! refl ((tt, tt), ((tt, tt), ((tt, (tt, tt)), ((tt, record { fits = are.1.1.1.0.1 }), tt)))) $ let Ev = env fn.locals l in
+    move ! (4 ∷ 5 ∷ 6 ∷ []) $ opens ! tt TRow b' o' (λ vs'. move ! (1 ∷ []) $ fsplit ! $ move ! (6 ∷ 7 ∷ 8 ∷ []) $
     opens ! tt Row b o (λ vs. move ! (1 ∷ []) $ fsplit ! $ peeks ! PointerData (Is PointerData) (shows 𝓛 PointerData) (w, tt) vs (λ is-so. let ev : vs ≡ us = pointer_told w vs is-so in
     drop ! $ rewrite ! 1 (λ (ws : List Val). ‵ (cell_at full_share Row.mir ws b o)) ev refl $ fsplit ! $ fsplit ! $ fpick ! (λ at. drop ! $ nothing ! $ fpack ! (RingIsPlaced w p z) (λ _. ftrue) at $ fjoin ! $ move ! (1 ∷ []) $ fsplit ! $ move ! (2 ∷ []) $
     use1 𝓛 (‵ C ⊛ ‵ C) (common_twice 𝓛 w p z) $ split ! $ let isw : w ≡ block_ptr bw (count_of w) = at_block w at.0 in
-    move ! (0 ∷ 2 ∷ 8 ∷ []) $ use3 𝓛 (raw Step) (frees 𝓛 w p z h.head h.seen (flag h.leaving) (flag_small h.leaving) xs new asked.2 asked.1) $ first ! $ blocks ! $
+    move ! (2 ∷ 14 ∷ []) $ join ! $ move ! (1 ∷ 0 ∷ 9 ∷ []) $ use3 𝓛 (raw Step) (frees 𝓛 w p z h.head h.seen (flag h.leaving) (flag_small h.leaving) xs new asked.2 asked.1 t logged.0 logged.1) $ first ! $ blocks ! $
     sets ! (is ! (of_opd ! (load ! (through ! refl (fld ! refl (stop !))) (look_in ! 3 (sub ! 0 refl (whole !))))) (ap ptr_val isw)) refl (tt, tt) $
     sets ! (bin ! (get ! refl) (lit ! tt) tt) refl (tt, tt) $
     use1 𝓛 (raw (𝓣.C _ (vptr bw e ∷ vint w64 new ∷ seq_cst ∷ []) (λ u. mean 𝓛 (stored Then u))))
-    (stores 𝓛 𝓜 𝓡 (own.Code.calls-core::raw_atomic::store 𝓡.env wired) (block_ptr bw e) new are.1.1.0.1 Then) $
+    (stores 𝓛 𝓜 𝓡 (own.Code.calls-core::raw_atomic::store 𝓡.env wired) (block_ptr bw e) new are.1.1.1.0.1 Then) $
     sets ! (agg ! (and_then ! (lit ! tt) (no_more !))) refl (tt, (record { fits = lit< tt }, tt)) $
     Calls-last ! (fm 𝓛 𝓜 𝓡) (stored Then) (and_then ! (get ! refl) (and_then ! (get ! refl) (and_then ! (get ! refl) (no_more !)))) (λ u. has_stored ! Then (
     lands_last ! refl (tt, tt) $ exec ! 𝓣.C 𝓣.Λ Ev (tail fn.body) (at_ret Ev Post) $ sets ! (of_opd ! (unit_lit !)) refl (tt, tt) $
-    move ! (0 ∷ 2 ∷ []) $ fjoin ! $ move ! (1 ∷ 0 ∷ []) $ fjoin ! $ use0 𝓛 (‵ Data) (pointer_made 𝓛 w) $ fjoin ! $ move ! (1 ∷ 0 ∷ []) $ closes ! tt Row h' us b o $ feq_i ! (List Val) (vptr b o ∷ []) (vptr b o ∷ []) refl $ fjoin3 ! $
-    nothing ! $ nothing ! $ fjoin ! $ nothing ! $ fjoin ! $ move ! (1 ∷ 0 ∷ []) $ fjoin ! $ nothing ! $ move ! (2 ∷ 0 ∷ []) $ join ! $
-    use0 𝓛 (raw (fact 𝓤 (h' ≡ h'))) (fact_i 𝓤 (h' ≡ h') (emp 𝓤) refl) $ feq_i ! (List Val) (vunit ∷ []) (vunit ∷ []) refl $
-    returns ! (look_at ! 0 refl) $ free_all ! refl $ keep ! (2 ∷ 3 ∷ 0 ∷ 1 ∷ []) $ by ! (leaves 𝓛 En hs c y vunit tt (h', (tt, (tt, tt))) (tt, (tt, (tt, tt))))))))))))
+    fpick ! (λ before. fsplit ! $
+    move ! (8 ∷ 1 ∷ []) $ fjoin ! $ move ! (8 ∷ 0 ∷ 9 ∷ 10 ∷ 11 ∷ []) $ closes ! tt TRow t' vs' b' o' $ feq_i ! (List Val) (vptr b' o' ∷ []) (vptr b' o' ∷ []) refl $ fjoin3 ! $
+    move ! (2 ∷ 4 ∷ []) $ fjoin ! $ move ! (3 ∷ 0 ∷ []) $ fjoin ! $ use0 𝓛 (‵ Data) (pointer_made 𝓛 w) $ fjoin ! $ move ! (3 ∷ 0 ∷ 4 ∷ 5 ∷ 6 ∷ []) $ closes ! tt Row h' us b o $ feq_i ! (List Val) (vptr b o ∷ []) (vptr b o ∷ []) refl $ fjoin3 ! $
+    nothing ! $ nothing ! $ fjoin ! $ nothing ! $ fjoin ! $ move ! (3 ∷ 0 ∷ []) $ fjoin ! $ move ! (1 ∷ 0 ∷ []) $ fjoin ! $ nothing ! $ move ! (3 ∷ 0 ∷ []) $ join ! $ move ! (2 ∷ 0 ∷ []) $ join ! $
+    use0 𝓛 (raw (fact 𝓤 (t' ≡ t'))) (fact_i 𝓤 (t' ≡ t') (emp 𝓤) refl) $ use0 𝓛 (raw (fact 𝓤 (h' ≡ h'))) (fact_i 𝓤 (h' ≡ h') (emp 𝓤) refl) $ join ! $ feq_i ! (List Val) (vunit ∷ []) (vunit ∷ []) refl $
+    returns ! (look_at ! 0 refl) $ free_all ! refl $ keep ! (2 ∷ 3 ∷ 0 ∷ 1 ∷ []) $ by ! (leaves 𝓛 En hs c y vunit tt (h', (t', (tt, (tt, tt)))) (tt, (tt, (tt, (tt, tt))))))))))))))))

@@ -1,5 +1,5 @@
 -- A side whose writer was lent from is that side, whichever the evidence that its parts belong together.
-use Rattle.std.proofs.Common.{◌≡◌, refl}
+use Rattle.std.proofs.Common.{◌≡◌, false, refl}
 use Rattle.std.proofs.Props.{props}
 use Rattle.piper_cells.specs.declared.lent_space.Placed.{Placed}
 use Rattle.piper_ring.specs.Cells.{AreCellsOf}
@@ -8,7 +8,7 @@ use Rattle.piper_ring.specs.SlotsView.{SlotsView}
 use Rattle.piper_ring.specs.WriteView.{WriteView}
 use Rattle.piper_ring.specs.declared.ends.cells.WakerCells.{WakerCells}
 use Rattle.piper_ring.specs.declared.ends.slots.side.Side.{Side}
-use Rattle.piper_ring.specs.Log.{Log}
+use Rattle.piper_ring.specs.Log.{IsLogOf, Log}
 use Rattle.piper_ring.specs.contracts.ends.slots.writer.ReadStored.{the_row as stored_row}
 use Rattle.piper_ring.specs.contracts.ends.slots.writer.WriteEndSlotEnd.TheImpl.{ghosts}
 use Rattle.piper_ring.proofs.ends.slots.writer.Side+WriteEnd+T.write_buf.Goals as goal
@@ -19,12 +19,15 @@ same_names a b = Prim.hlevel props
 same_places : {T : Type 0} (z : Names) (p : Placed (WakerCells T)) → IsProp (AreCellsOf z p)
 same_places z p = Prim.hlevel props
 
-module _ {T : Type 0} (e : WriteView) (s : SlotsView) (p : Placed (WakerCells T)) (l : Log) where
-  abbrev side : s.names ≡ e.ring.names → AreCellsOf s.names p → Side WriteView T stored_row.Denot ghosts
-  side h k = record { end = e; slots = s; cells = p; log = l; of_one_ring = h; places = k }
+same_logs : (z : Names) (l : Log) → IsProp (IsLogOf z false l)
+same_logs z l = Prim.hlevel props
 
-  same_side : (h h' : s.names ≡ e.ring.names) (k k' : AreCellsOf s.names p) → side h k ≡ side h' k'
-  same_side h h' k k' j = side (same_names _ _ h h' j) (same_places s.names p k k' j)
+module _ {T : Type 0} (e : WriteView) (s : SlotsView) (p : Placed (WakerCells T)) (l : Log) where
+  abbrev side : s.names ≡ e.ring.names → AreCellsOf s.names p → IsLogOf s.names false l → Side WriteView T stored_row.Denot ghosts
+  side h k g = record { end = e; slots = s; cells = p; log = l; of_one_ring = h; places = k; own_log = g }
+
+  same_side : (h h' : s.names ≡ e.ring.names) (k k' : AreCellsOf s.names p) (g g' : IsLogOf s.names false l) → side h k g ≡ side h' k' g'
+  same_side h h' k k' g g' j = side (same_names _ _ h h' j) (same_places s.names p k k' j) (same_logs s.names l g g' j)
 
 pub returns : goal.returns
-returns g c = ((refl, λ w. same_side _ _ _ _ _ _ _ _), c.write_buf.ensures)
+returns g c = ((refl, λ w. same_side _ _ _ _ _ _ _ _ _ _), c.write_buf.ensures)
