@@ -19,3 +19,4 @@ mod Filling
 mod Counting
 mod Following
 mod Worked
+mod Listed

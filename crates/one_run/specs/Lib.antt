@@ -9,3 +9,4 @@ pub mod OneRun
 pub mod Wide
 pub mod Follows
 pub mod Worked
+pub mod Listed

@@ -1,36 +1,9 @@
 -- One list of what both sides did, the last first, in which each access finds what the last one
 -- before it left.
-use Rattle.std.specs.Prelude.{◌≡◌, ℕ, ◌+◌, List, [], ◌∷◌, ◌++◌, length, take, drop, Bool, true, false, Option, None, is_some, ⊤}
-use Rattle.piper_protocol.specs.declared.table.Side.{Side}
+use Rattle.std.specs.Prelude.{◌≡◌, ◌+◌, List, [], ◌∷◌, ◌++◌, length, take, drop, Bool, true, false, is_some, ⊤}
 use Rattle.piper_protocol.specs.declared.table.Side.TheVariants.{Reader, Writer}
+pub use Rattle.piper_protocol.specs.OneList.{By, by, Words, did_by as did, fresh_words, is_same, kept_if, slot_in, with_slot}
 use Rattle.one_run.specs.Line.{Line, loaded_head, loaded_tail, loaded_closed, stored_head, stored_tail, stored_closed, loaded_slot, swapped, met_head, met_tail}
-
--- what both sides share
-pub record Words : Type 0 where
-  -- the bytes published, oldest first: the tail is their number
-  pub sent : List ℕ
-  pub head : ℕ
-  pub is_closed : Bool
-  -- the wakers in the slots, by their names
-  pub reader_slot : Option ℕ
-  pub writer_slot : Option ℕ
-
-abbrev pub fresh_words : Words
-fresh_words = record {
-  sent = [];
-  head = 0;
-  is_closed = false;
-  reader_slot = None;
-  writer_slot = None;
-}
-
-abbrev pub slot_in : Side → Words → Option ℕ
-slot_in Reader s = s.reader_slot
-slot_in Writer s = s.writer_slot
-
-abbrev pub with_slot : Side → Option ℕ → Words → Words
-with_slot Reader waker s = record s { reader_slot = waker }
-with_slot Writer waker s = record s { writer_slot = waker }
 
 -- what a line leaves
 abbrev pub words_after : Line → Words → Words
@@ -56,24 +29,6 @@ Finds line s = ⊤
 abbrev pub FindsCount : Line → Words → Type 0
 FindsCount (stored_head bytes) s = ⊤
 FindsCount line s = Finds line s
-
--- what a side did
-pub data By (A : Type 0) : Type 0 where
-  by : Side → A → By A
-
-abbrev pub is_same : Side → Side → Bool
-is_same Reader Reader = true
-is_same Writer Writer = true
-is_same side other = false
-
-abbrev pub kept_if : {A : Type 0} → Bool → A → List A → List A
-kept_if true a rest = a ∷ rest
-kept_if false a rest = rest
-
--- of all that both did, what this side did
-abbrev pub did : {A : Type 0} → Side → List (By A) → List A
-did side [] = []
-did side (by other a ∷ rest) = kept_if (is_same side other) a (did side rest)
 
 abbrev pub words_of : List (By Line) → Words
 words_of [] = fresh_words

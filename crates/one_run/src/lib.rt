@@ -5,7 +5,9 @@ ghost use Rattle.std.specs.Prelude.{◌≡◌, ℕ, List, false};
 ghost use Rattle.one_run.specs.Follows.{AreInTurn, IsHonestEnd, IsNobodyForgotten, IsOneAwake};
 ghost use Rattle.one_run.specs.Line.{Line};
 ghost use Rattle.one_run.specs.Wide.{IsOneWideRun, goes_beyond};
-ghost use Rattle.one_run.specs.OneList.{did};
+ghost use Rattle.one_run.specs.Listed.{lines_of};
+ghost use Rattle.one_run.specs.OneList.{AreListed, FindsCount, accesses, did};
+ghost use Rattle.piper_protocol.specs.OneList.{Access, AreOneList};
 ghost use Rattle.one_run.specs.OneRun.{AreCountedLogs, AreLogs, IsOneRun};
 ghost use Rattle.one_run.specs.Worked.{fill_and_drain, wait_and_wake};
 ghost use Rattle.piper_protocol.specs.declared.table.Side.TheVariants.{Reader, Writer};
@@ -27,6 +29,14 @@ pub fn is_one_run_by_counts()
         goes_beyond reader ≡ false → goes_beyond writer ≡ false → IsOneRun capacity reader writer }
     ensures wide { (capacity : ℕ) (reader writer : List Line) →
         AreCountedLogs capacity reader writer → IsOneWideRun capacity reader writer }
+{}
+
+/// If the accesses of two logs are those that the logs of two handles have at a meet, they are what is
+/// left of one list.
+pub fn are_listed()
+    ensures { (reader writer : List Line) (a b : List Access) → AreOneList a b →
+        accesses reader ≡ lines_of a → accesses writer ≡ lines_of b →
+        AreListed FindsCount reader writer }
 {}
 
 /// Bytes come out in the order in which they went in.
