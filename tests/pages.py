@@ -1,6 +1,6 @@
 #!/usr/bin/env python3
 """Tries what README.md, docs/USING.md, CONTRIBUTING.md and the examples of docs/api have their
-readers type, and the links of every page.
+readers type, and the links of every page; and that the sources have each name which a page says.
 
     tests/pages.py [WORD]
 
@@ -42,6 +42,10 @@ SETUP = "A repository of your own"
 FILES = ("rust", "c", "toml")
 WORDS = FILES + ("console", "text")
 SECONDS = 900
+# Names that pages say of others: of 0.2.5, of rustc, of Rust's libraries and of the toolchain.
+THEIRS = set("AtomicWaker drain_inner fill_inner maybe_yield poll_inner zeroed_until".split()) | set(
+    "LibcRuntime Net OwnedFd __reserved rust_eh_personality".split()
+)
 SOURCES = Path(os.environ.get("CARGO_SOURCES", "/usr/share/cargo/registry"))
 CARGO = f"""[source.crates-io]
 replace-with = "here"
@@ -274,6 +278,27 @@ def wrong_links(page):
             yield f"{page.relative_to(TOP)}: {link}: there is no such heading"
 
 
+@cache
+def names_of_sources():
+    """All words of the files that are kept, but for pages, and the names of these files."""
+    listed = subprocess.run(["git", "ls-files"], cwd=TOP, capture_output=True, text=True).stdout.split()
+    files = [Path(name) for name in listed] or [path.relative_to(TOP) for path in TOP.rglob("*") if path.is_file()]
+    found = {path.name for path in files} | {path.stem for path in files}
+    for path in files:
+        if path.suffix not in (".md", ".svg", ".png"):
+            found.update(re.findall(r"\w+", (TOP / path).read_text(errors="replace")))
+    return found
+
+
+def wrong_names(page):
+    """The names in backticks, with a capital or an underscore, that the sources don't have. Capitals alone stand for something, and
+    what begins or ends with an underscore is a part of a name."""
+    text = re.sub(r"^```.*?^```", "", page.read_text(), flags=re.M | re.S)
+    for name in sorted(set(re.findall(r"`([A-Za-z]\w*[A-Za-z0-9]|_\w+_\w+)`", text)) - THEIRS):
+        if re.search(r"[A-Z_]", name) and not re.fullmatch("[A-Z]+", name) and name not in names_of_sources():
+            yield f"{page.relative_to(TOP)}: {name}: the sources don't have this name"
+
+
 def main():
     word = sys.argv[1].lower() if len(sys.argv) > 1 else ""
     sections, wrong, blocks = [], [], []
@@ -286,6 +311,7 @@ def main():
     others = [TOP / "README.md", TOP / "CONTRIBUTING.md", TOP / "rust/README.md"]
     pages = others + sorted((TOP / "docs").glob("*.md")) + sorted((TOP / "docs/api").glob("*.md"))
     wrong += [link for page in pages for link in wrong_links(page)]
+    wrong += [name for page in pages for name in wrong_names(page)]
     with tempfile.TemporaryDirectory() as scratch:
         went = try_sections(sections, Path(scratch))
     for said in wrong:
