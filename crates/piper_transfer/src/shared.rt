@@ -29,9 +29,9 @@ pub(crate) trait Hears {
 pub(crate) struct Shared {
     /// Whether the output takes no more, since its side has failed.
     is_over: AtomicBool,
-    /// For this one the output's side waits, if the pipe holds too little.
+    /// The output's side waits for it as long as the pipe holds too little.
     rises: Bell,
-    /// For this one the input's side waits, if the pipe is full.
+    /// The input's side waits for it as long as the pipe is full.
     falls: Bell,
 }
 
