@@ -92,6 +92,11 @@ abbrev pub StopsSource : (Error → Type 0) → Type 0 → Stop → Type 0
 StopsSource fails told (Failed e) = IsOfSource fails e
 StopsSource fails told Told = told
 
+-- if that side was told to end, who says so may do so, or it saw the pipe closed
+abbrev pub IsToldBy : Type 0 → WriteView → Stop → Type 0
+IsToldBy may_end w (Failed e) = ⊤
+IsToldBy may_end w Told = may_end ⊎ (w.saw ≡ true)
+
 -- the input's side has ended with this answer: it closed the pipe, so that the output's waits for no
 -- byte any more, or was told to end
 abbrev pub StopsClosed : Result Unit Stop → WriteView → Type 0

@@ -3,7 +3,7 @@ ghost use Rattle.std.specs.Prelude.{◌≡◌, ◌<◌, Ok, OnOk, IfErr, IfSome,
 ghost use Rattle.std.specs.Io.KnownBytes.{IsAtEnd};
 ghost use Rattle.futures.specs.Task.{IsArmed};
 ghost use Rattle.futures.specs.Poll.{IfReady, OnPending};
-ghost use Rattle.piper_transfer.specs.Transfer.{Fed, IsLeft, IsOfSource, IsOpen, StopsClosed, StopsSource};
+ghost use Rattle.piper_transfer.specs.Transfer.{Fed, IsLeft, IsOfSource, IsOpen, IsToldBy, StopsClosed, StopsSource};
 
 use crate::ends::Source;
 use crate::error::{Stop, TransferError};
@@ -118,6 +118,7 @@ where
     ensures ended { IfReady result (λ r. OnOk r (IsAtEnd (S.remaining source.new))) }
     ensures stopped { IfReady result (λ r. IfErr r
         (StopsSource (S.fails source.new) (IsLeft writer.new.side.end))) }
+    ensures told { IfReady result (λ r. IfErr r (IsToldBy H.may_end writer.new.side.end)) }
     ensures closed { IfReady result (λ r. StopsClosed r writer.new.side.end) }
     ensures is_open { OnPending result (IsOpen writer.new.side.end) }
     ensures armed { OnPending result (IsArmed cx.new) }
