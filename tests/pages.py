@@ -1,6 +1,6 @@
 #!/usr/bin/env python3
-"""Tries what README.md, docs/USING.md, CONTRIBUTING.md and the examples of docs/api have their
-readers type, and the links of every page; and that the sources have each name which a page says.
+"""Tries what README.md, docs/USING.md, docs/PROVING.md, CONTRIBUTING.md and the examples of docs/api
+have their readers type or read, and the links of every page; and that the sources have each name which a page says.
 
     tests/pages.py [WORD]
 
@@ -9,7 +9,7 @@ Each block of code on these pages is fenced, and its first word says what become
 - `console`: bash runs each line after `$ `, and it has to print what is below it; a line `...`
   stands for any lines. The commands of a block share one shell, which begins at the top of the
   repository.
-- `rust`, `c`, `toml`: a file, whose path is the comment in the first line. Below `~` it is a whole
+- `rust`, `c`, `toml`, `antt`: a file, whose path is the comment in the first line. Below `~` it is a whole
   file, and is written before the commands after it run, with the path in place of
   `THIS REPOSITORY`; else it is a part of that file of the repository, word for word.
 - `text`: not run, since it takes an hour, or root.
@@ -37,9 +37,9 @@ from pathlib import Path
 TOP = Path(__file__).resolve().parent.parent
 GUIDE = "docs/USING.md"
 EXAMPLES = [f"docs/api/piper_{name}.md" for name in ("futures", "streams", "duplex")]
-PAGES = ["README.md", GUIDE, "CONTRIBUTING.md", *EXAMPLES]
+PAGES = ["README.md", GUIDE, "docs/PROVING.md", "CONTRIBUTING.md", *EXAMPLES]
 SETUP = "A repository of your own"
-FILES = ("rust", "c", "toml")
+FILES = ("rust", "c", "toml", "antt")
 WORDS = FILES + ("console", "text")
 SECONDS = 900
 # Names that pages say of others: of 0.2.5, of rustc, of Rust's libraries and of the toolchain.
@@ -103,7 +103,7 @@ def read_page(page):
 
 def place_file(block, home):
     """Writes a file below `~`, or compares a part of a file of the repository."""
-    name = re.sub(r"^(//|#|/\*) | \*/$", "", block.lines[0])
+    name = re.sub(r"^(//|#|--|/\*) | \*/$", "", block.lines[0])
     text = "\n".join(block.lines[1:]).strip("\n").replace("THIS REPOSITORY", str(TOP)) + "\n"
     if name.startswith("~/"):
         path = home / name[2:]
