@@ -165,6 +165,7 @@ impl Reader {
     /// assert_eq!(reader.try_drain(&mut place), 3);
     /// assert_eq!(&place[..3], b"abc");
     /// ```
+    #[inline]
     pub fn try_drain(&mut self, dest: &mut [u8]) -> usize {
         self.side.try_drain(dest)
     }

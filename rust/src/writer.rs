@@ -181,6 +181,7 @@ impl Writer {
     /// drop(reader);
     /// assert_eq!(writer.try_fill(b"ef"), 0);
     /// ```
+    #[inline]
     pub fn try_fill(&mut self, src: &[u8]) -> usize {
         self.unlent(|side| side.try_fill(src))
     }
