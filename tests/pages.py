@@ -46,6 +46,8 @@ SECONDS = 900
 THEIRS = set("AtomicWaker drain_inner fill_inner maybe_yield poll_inner zeroed_until".split()) | set(
     "LibcRuntime Net OwnedFd __reserved rust_eh_personality".split()
 )
+# Folders of what was built.
+BUILT = {"out", "build", "target", "__pycache__"}
 # It has names that are gone.
 PAST = "CHANGELOG.md"
 SOURCES = Path(os.environ.get("CARGO_SOURCES", "/usr/share/cargo/registry"))
@@ -284,7 +286,10 @@ def wrong_links(page):
 def names_of_sources():
     """All words of the files that are kept, but for pages, and the names of these files."""
     listed = subprocess.run(["git", "ls-files"], cwd=TOP, capture_output=True, text=True).stdout.split()
-    files = [Path(name) for name in listed] or [path.relative_to(TOP) for path in TOP.rglob("*") if path.is_file()]
+    if not listed:  # a copy without its history, in which nothing is kept that was built
+        inside = [path.relative_to(TOP) for path in TOP.rglob("*") if path.is_file()]
+        listed = [path for path in inside if not BUILT & set(path.parts)]
+    files = [Path(name) for name in listed]
     found = {path.name for path in files} | {path.stem for path in files}
     for path in files:
         if path.suffix not in (".md", ".svg", ".png"):
