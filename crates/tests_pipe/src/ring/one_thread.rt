@@ -2,7 +2,7 @@
 ghost use Rattle.std.specs.Prelude.{◌<◌, ◌≤◌};
 
 use crate::compare::same_of as same;
-use crate::ring::acts::{receive_due, ring_of, send, send_due};
+use crate::ring::acts::{look, publish_lent, receive_due, ring_of, send, send_due};
 use std::alloc::AllocGlobal;
 use std::process::Abort;
 
@@ -37,10 +37,7 @@ fn bytes_go_round_the_ring(rt: HostRuntime) {
 fn lends_grow_with_the_places_that_are_set(rt: HostRuntime) {
     let (_reader, mut writer) = ring_of(&rt, 200_000);
     for lent in [4_096, 12_288, 36_864, 110_592, 36_160, 0] {
-        let buf = writer.end.write_buf(200_000);
-        same(&rt, &"lent", buf.len(), lent);
-        let n = buf.len();
-        writer.end.store_tail(n, &mut writer.log);
+        same(&rt, &"lent", publish_lent(&mut writer, 200_000), lent);
     }
 }
 
@@ -50,7 +47,7 @@ fn leave_in_turn(rt: &(impl Abort + AllocGlobal), left: usize, is_reader_first: 
     let (mut reader, mut writer) = ring_of(rt, 3);
     for _ in 0..2 {
         send(&mut writer, &[7; 3][..left.min(3)]);
-        reader.end.load_tail_if_empty(&mut reader.log);
+        look(&mut reader);
     }
     if is_reader_first {
         drop(reader);

@@ -2,7 +2,7 @@
 ghost use Rattle.std.specs.Prelude.{◌<◌, ◌^◌};
 
 use crate::compare::same_of as same;
-use crate::ring::acts::{receive_due, ring_of, send, send_due};
+use crate::ring::acts::{look, receive_due, ring_of, sees_closed, send, send_due};
 use piper_ring::{Logged, ReadEnd, WriteEnd};
 use std::sync::Wait;
 use std::thread;
@@ -36,7 +36,7 @@ fn consume_all(rt: &impl Wait, mut reader: Logged<ReadEnd>, most: usize) -> usiz
     let mut round = 0usize;
     for _ in rt.forever() {
         round = round.wrapping_add(1);
-        let is_closed = reader.end.load_closed(&mut reader.log);
+        let is_closed = sees_closed(&mut reader);
         match receive_due(&mut reader, received, 1 + round % most) {
             None => return received,
             Some(0) if is_closed => return received,
@@ -74,7 +74,7 @@ fn both_ends_leave_at_once(rt: HostRuntime) {
 fn threads_share_both_ends(rt: HostRuntime) {
     let (mut reader, mut writer) = ring_of(&rt, 8);
     send(&mut writer, &[1, 2, 3]);
-    reader.end.load_tail_if_empty(&mut reader.log);
+    look(&mut reader);
     let told = thread::join(
         &rt,
         || (reader.end.peek_buf().len(), writer.end.is_closed()),
