@@ -107,7 +107,7 @@ module _ (capacity : ℕ) where
         writer_did = lines.writer_did;
       }
 
-  pub counted-run : (reader writer : List Line) → AreCountedLogs capacity reader writer → goes_beyond reader ≡ false → goes_beyond writer ≡ false → IsOneRun capacity reader writer
+  pub counted-run : (reader writer : List Line) → AreCountedLogs capacity reader writer → goes_beyond Reader capacity reader ≡ false → goes_beyond Writer capacity writer ≡ false → IsOneRun capacity reader writer
   counted-run reader writer logs =
       let lines = counted-logs reader writer logs in
       run-of capacity reader writer lines.turns lines.reader_did lines.writer_did logs.some lines.order logs.reads logs.writes

@@ -1,12 +1,14 @@
 -- The table goes on in the same way, whatever a copy that has still to draw will draw.
-use Rattle.std.proofs.Common.{◌≡◌, ℕ, ◌≤◌, Bool, Option, None, Some, refl, arith}
+use Rattle.std.proofs.Common.{◌≡◌, ℕ, ◌≤◌, [], Bool, Option, None, Some, refl, arith}
 use Rattle.piper_protocol.specs.declared.answer.Answer.{Answer}
 use Rattle.piper_protocol.specs.declared.table.Action.TheVariants as does
 use Rattle.piper_protocol.specs.declared.table.Found.{Found}
+use Rattle.piper_protocol.specs.declared.table.Found.TheVariants as found
 use Rattle.piper_protocol.specs.declared.table.ReadPoint.{ReadPoint}
 use Rattle.piper_protocol.specs.declared.table.ReadPoint.TheVariants as at
 use Rattle.piper_protocol.specs.Table.{Next, read_action, read_after, head_store, moved_in}
 use Rattle.piper_protocol.specs.declared.table.Side.TheVariants.{Reader}
+use Rattle.piper_machine.specs.Log.{answer_event}
 use Rattle.piper_machine.specs.Refusal.{cannot_go, reader_state}
 use Rattle.one_run.specs.Reading.{HasDrawn}
 use Rattle.one_run.proofs.Joint.{reader_drawn, reader_point}
@@ -43,3 +45,8 @@ rests-drawn b point e = grind arith
 
 pub own-same : (capacity : ℕ) (point : ReadPoint) (f g : Found) → read_action point ≡ does.Take Reader → read_after capacity point f ≡ read_after capacity point g
 own-same capacity point f g e = grind arith
+
+-- no call returns before it registers
+pub stays : (capacity : ℕ) (point : ReadPoint) (b : Bool) → read_action point ≡ does.Register → answer_event Reader (read_after capacity point (found.Waker b)).answer ≡ []
+stays capacity (at.LookRegister l) b e = refl
+stays capacity point b e = absurd (cc)

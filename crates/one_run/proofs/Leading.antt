@@ -1,5 +1,6 @@
 -- How the run goes on from one pipe to another.
-use Rattle.std.proofs.Common.{◌≡◌, ℕ, List, [], ◌∷◌, ◌++◌, Bool, true, false, refl, ◌∙◌, append_assoc, append-nil}
+use Rattle.std.proofs.Common.{◌≡◌, ℕ, List, [], ◌∷◌, ◌++◌, Bool, true, false, None, refl, ◌∙◌, append_assoc, append-nil}
+use Rattle.piper_protocol.specs.declared.table.Action.TheVariants as does
 use Rattle.piper_protocol.specs.declared.table.Side.{Side}
 use Rattle.piper_machine.specs.declared.calls.Call.TheVariants as call
 use Rattle.piper_machine.specs.declared.calls.Step.{Step}
@@ -8,18 +9,20 @@ use Rattle.piper_machine.specs.declared.scripted.DestAct.{DestAct}
 use Rattle.piper_machine.specs.declared.scripted.SourceAct.{SourceAct}
 use Rattle.piper_machine.specs.declared.destination.Destination.TheVariants.{Acts}
 use Rattle.piper_machine.specs.declared.events.Event.{Event}
-use Rattle.piper_machine.specs.Action.{index_loaded_by}
+use Rattle.piper_machine.specs.Action.{index_loaded_by, with_waker_in}
 use Rattle.piper_machine.specs.Pipe.{Pipe}
 use Rattle.piper_machine.specs.Refusal.{IsIdle}
 use Rattle.piper_machine.specs.Run.{Made}
 use Rattle.piper_machine.specs.Sound.{IsSound}
-use Rattle.one_run.specs.Wide.{Act, makes, learns, drains, fills, or}
-use Rattle.one_run.proofs.Learning.{Kept, is_wide, kept-drains, kept-fills, kept-learned, kept-step, wide-now, wide-same}
+use Rattle.piper_machine.specs.Step.{action_of}
+use Rattle.one_run.specs.Wide.{Act, makes, learns, withdraws, drains, fills, or}
+use Rattle.one_run.proofs.Learning.{Kept, is_wide, kept-drains, kept-fills, kept-learned, kept-step, kept-withdrawn, wide-now, wide-same}
 
--- a run that came to p goes on to q, reports these events on the way, and meets if it says so
+-- a run that came to p goes on to q, reports these events on the way, and makes an act of its own if
+-- it says so
 abbrev pub LeadsBy : Bool → ℕ → Pipe → Pipe → List Event → Type 0
-LeadsBy meets capacity p q events = (acts : List Act) (before : List Event) → Kept capacity acts p before
-    → (more : List Act) × Kept capacity more q (before ++ events) × (is_wide more ≡ or meets (is_wide acts))
+LeadsBy acts_so capacity p q events = (acts : List Act) (before : List Event) → Kept capacity acts p before
+    → (more : List Act) × Kept capacity more q (before ++ events) × (is_wide more ≡ or acts_so (is_wide acts))
 
 abbrev pub Leads : ℕ → Pipe → Pipe → List Event → Type 0
 Leads capacity p q events = LeadsBy false capacity p q events
@@ -39,6 +42,10 @@ leads-both capacity p q r first then one two acts before kept =
 pub leads-learned : (capacity : ℕ) (side : Side) (p : Pipe) → IsSound (index_loaded_by side p) → IsIdle side p → LeadsBy true capacity p (index_loaded_by side p) []
 leads-learned capacity side p sound idle acts before kept =
     (acts ++ learns side ∷ [], rw append-nil (kept-learned capacity acts side p before sound idle kept), wide-now acts (learns side) refl)
+
+pub leads-withdrawn : (capacity : ℕ) (side : Side) (p : Pipe) → IsSound (with_waker_in side None p) → action_of side p ≡ does.Register → LeadsBy true capacity p (with_waker_in side None p) []
+leads-withdrawn capacity side p sound to acts before kept =
+    (acts ++ withdraws side ∷ [], rw append-nil (kept-withdrawn capacity acts side p before sound to kept), wide-now acts (withdraws side) refl)
 
 pub leads-drains : (capacity : ℕ) (script : List DestAct) (p mid : Pipe) (events : List Event) → IsSound (record mid { destination = Acts script }) → ((before : List Event) → Made p (Begin (call.TryDrain 0)) mid before (before ++ events))
     → LeadsBy true capacity p (record mid { destination = Acts script }) events

@@ -13,7 +13,7 @@ use Rattle.one_run.specs.OneList.{AreInOrder, By, by, Finds, FindsCount, Words, 
 use Rattle.one_run.specs.Reading.{AreReaderRuns, IsReaderNext, ReaderAt, fresh_reader, reader_after, reader_at}
 use Rattle.one_run.specs.Writing.{AreWriterRuns, IsWriterNext, WriterAt, fresh_writer, writer_after, writer_at}
 use Rattle.one_run.specs.OneRun.{AreLogs, IsLeft, IsOneRun}
-use Rattle.one_run.specs.Wide.{Act, IsOneWideRun, goes_beyond, is_beyond, or}
+use Rattle.one_run.specs.Wide.{Act, IsOneWideRun, goes_beyond, is_beyond, next_of, or}
 use Rattle.one_run.proofs.Learning.{Kept, is_wide, kept-none, safe-of, steps_in}
 use Rattle.one_run.proofs.Filling.{all-lines}
 use Rattle.one_run.proofs.Joint.{Chance, Fits, pipe_at}
@@ -66,10 +66,10 @@ module _ (capacity : ℕ) where
   writer-leads r k acts w s fits (met_head count) next finds after = W.learns-head capacity r k acts w s fits count next finds after
   writer-leads r k acts w s fits line next finds after = absurd next
 
-  -- whether anything was taught by a meet
+  -- whether anything was done that the machine does not have
   abbrev beyond_among : List (By Line) → Bool
   beyond_among [] = false
-  beyond_among (by side line ∷ before) = or (is_beyond line) (beyond_among before)
+  beyond_among (by side line ∷ before) = or (is_beyond line (next_of side capacity (did side before))) (beyond_among before)
 
   -- a run that reports what was done, and comes to this pipe
   abbrev Run : List (By Line) → Pipe → Type 0
@@ -120,7 +120,7 @@ module _ (capacity : ℕ) where
             let step = reader-leads w l sources r s reached.fits line next finds after k acts in
             let run = reached.runs step.0 step.1 l sources in
             let more = step.2 run.0 (events_of capacity before) run.1 in
-            (more.0, more.1, more.2 ∙ ap (or (is_beyond line)) run.2);
+            (more.0, more.1, more.2 ∙ ap (or (is_beyond line (next_of Reader capacity (did Reader before)))) run.2);
       }
 
   writer-more : (line : Line) (before : List (By Line)) → IsWriterNext capacity line (writer_at capacity (did Writer before)) → Finds line (words_of before) → Reached before → Reached (by Writer line ∷ before)
@@ -135,7 +135,7 @@ module _ (capacity : ℕ) where
             let step = writer-leads r k acts w s reached.fits line next finds after l sources in
             let run = reached.runs k acts step.0 step.1 in
             let more = step.2 run.0 (events_of capacity before) run.1 in
-            (more.0, more.1, more.2 ∙ ap (or (is_beyond line)) run.2);
+            (more.0, more.1, more.2 ∙ ap (or (is_beyond line (next_of Writer capacity (did Writer before)))) run.2);
       }
 
   reaches : 1 ≤ capacity → (turns : List (By Line)) → AreInOrder turns → AreReaderRuns capacity (did Reader turns) → AreWriterRuns capacity (did Writer turns) → Reached turns
@@ -204,14 +204,14 @@ module _ (capacity : ℕ) where
   both-false true b e = absurd cc
   both-false false b e = (refl, e)
 
-  -- if neither side was taught anything, nothing was taught
-  pub none-beyond : (turns : List (By Line)) → goes_beyond (did Reader turns) ≡ false → goes_beyond (did Writer turns) ≡ false → beyond_among turns ≡ false
+  -- if neither side did such a thing, nothing such was done
+  pub none-beyond : (turns : List (By Line)) → goes_beyond Reader capacity (did Reader turns) ≡ false → goes_beyond Writer capacity (did Writer turns) ≡ false → beyond_among turns ≡ false
   none-beyond [] reader writer = refl
   none-beyond (by Reader line ∷ before) reader writer =
-      let parts = both-false (is_beyond line) (goes_beyond (did Reader before)) reader in
+      let parts = both-false (is_beyond line (next_of Reader capacity (did Reader before))) (goes_beyond Reader capacity (did Reader before)) reader in
       ap (λ (b : Bool). or b (beyond_among before)) parts.0 ∙ none-beyond before parts.1 writer
   none-beyond (by Writer line ∷ before) reader writer =
-      let parts = both-false (is_beyond line) (goes_beyond (did Writer before)) writer in
+      let parts = both-false (is_beyond line (next_of Writer capacity (did Writer before))) (goes_beyond Writer capacity (did Writer before)) writer in
       ap (λ (b : Bool). or b (beyond_among before)) parts.0 ∙ none-beyond before reader parts.1
 
   -- from the lines of turns to those of logs
@@ -225,12 +225,12 @@ module _ (capacity : ℕ) where
     pub wide-of : IsOneWideRun capacity reader writer
     wide-of = subst (λ (x : List Line). IsOneWideRun capacity reader x) writer_did (subst (λ (x : List Line). IsOneWideRun capacity x (did Writer turns)) reader_did (of-wide some turns order reads_there writes_there))
 
-    pub run-of : goes_beyond reader ≡ false → goes_beyond writer ≡ false → IsOneRun capacity reader writer
+    pub run-of : goes_beyond Reader capacity reader ≡ false → goes_beyond Writer capacity writer ≡ false → IsOneRun capacity reader writer
     run-of not_reader not_writer =
-        let none = none-beyond turns (ap goes_beyond reader_did ∙ not_reader) (ap goes_beyond writer_did ∙ not_writer) in
+        let none = none-beyond turns (ap (goes_beyond Reader capacity) reader_did ∙ not_reader) (ap (goes_beyond Writer capacity) writer_did ∙ not_writer) in
         subst (λ (x : List Line). IsOneRun capacity reader x) writer_did (subst (λ (x : List Line). IsOneRun capacity x (did Writer turns)) reader_did (of-turns some turns order reads_there writes_there none))
 
-  pub one-run : (reader writer : List Line) → AreLogs capacity reader writer → goes_beyond reader ≡ false → goes_beyond writer ≡ false → IsOneRun capacity reader writer
+  pub one-run : (reader writer : List Line) → AreLogs capacity reader writer → goes_beyond Reader capacity reader ≡ false → goes_beyond Writer capacity writer ≡ false → IsOneRun capacity reader writer
   one-run reader writer logs =
       let lines = all-lines reader writer logs.list in
       run-of reader writer lines.turns lines.reader_did lines.writer_did logs.some lines.order logs.reads logs.writes

@@ -1,5 +1,5 @@
 -- Both sides and the words fit after each line of the reader.
-use Rattle.std.proofs.Common.{◌≡◌, ℕ, ◌+◌, ◌-◌, ◌≤◌, ◌<◌, min, List, length, Bool, true, false, Option, None, Some, ◌==◌, refl, sym, ap, ◌∙◌, arith}
+use Rattle.std.proofs.Common.{◌≡◌, inl, inr, ℕ, ◌+◌, ◌-◌, ◌≤◌, ◌<◌, min, List, length, Bool, true, false, Option, None, Some, ◌==◌, refl, sym, ap, subst, ◌∙◌, arith}
 use Rattle.std.proofs.lemmas.Bool.Decides.{nat_tests}
 use Rattle.piper_protocol.specs.declared.answer.Answer.{Answer}
 use Rattle.piper_protocol.specs.declared.table.Action.{Action}
@@ -14,10 +14,10 @@ use Rattle.piper_protocol.specs.declared.table.Side.TheVariants.{Reader, Writer}
 use Rattle.piper_protocol.specs.declared.table.TheConstants.{MOST_A_ROUND}
 use Rattle.piper_protocol.specs.Index.{offset_of}
 use Rattle.piper_protocol.specs.Table.{Next, head_store, moved_in, read_action, read_after, reader_looks_for}
-use Rattle.one_run.specs.Calling.{Calling, calling_after, may_wait_after, no_calling}
+use Rattle.one_run.specs.Calling.{Calling, calling_after, may_wait_after, no_calling, withdrawn}
 use Rattle.one_run.specs.Line.{met_head, met_tail, Opening, polls, try_drains, try_drains_with, poll_drains_bytes, poll_drains, consumes, drops, Line, began, loaded_head, loaded_tail, loaded_closed, stored_head, stored_tail, stored_closed, loaded_slot, swapped, knew_empty, took, gave, failed, drew, refused, yielded, woke}
 use Rattle.one_run.specs.OneList.{FindsCount, Words, words_after}
-use Rattle.one_run.specs.Reading.{HasDrawn, IsReaderNext, MayTake, ReaderAt, reader_after, reader_answered, reader_begun, reader_changed, reader_stepped, reader_told, shown, size_after}
+use Rattle.one_run.specs.Reading.{HasDrawn, IsReaderNext, MayTake, ReaderAt, reader_after, reader_answered, reader_begun, reader_changed, reader_empties, reader_stepped, reader_told, shown, size_after}
 use Rattle.one_run.specs.Writing.{WriterAt}
 use Rattle.one_run.proofs.Joint.{Fits, Shares, reader_drawn, reader_point}
 use Rattle.one_run.proofs.Draws.{ends-at, next-same, rests-drawn, stores-moved}
@@ -138,6 +138,19 @@ module _ (capacity : ℕ) (w : WriterAt) where
       shares = shares;
     }
 
+    -- a line by which a slot was found empty, or emptied
+    empties-fit : (line : Line) (action : Action) → read_action r.point ≡ action → Fits capacity (reader_empties capacity action line r) w (words_after line s) → Fits capacity (reader_empties capacity (read_action r.point) line r) w (words_after line s)
+    empties-fit line action e fit = subst (λ (a : Action). Fits capacity (reader_empties capacity a line r) w (words_after line s)) (sym e) fit
+
+    -- before it registers
+    withdraws-fit : (slot : Option ℕ) → slot ≡ None → Fits capacity (record r { calling = withdrawn r.calling; may_wait = false }) w (record s { reader_slot = slot })
+    withdraws-fit slot none = record {
+      counts = fits.counts;
+      reads = record { shown = fits.reads.shown; draws = fits.reads.draws };
+      writes = fits.writes;
+      shares = record { closed = fits.shares.closed; reader_rests = λ x. none; writer_rests = fits.shares.writer_rests };
+    }
+
     pub reader-fits : (line : Line) → IsReaderNext capacity line r → FindsCount line s → Fits capacity (reader_after capacity line r) w (words_after line s)
     reader-fits (began opening) next finds = begin-fits opening next
     reader-fits (loaded_tail count) next finds = steps-fit (loaded_tail count) does.LoadIndex next (λ x. absurd cc) refl (omega arith) (tail-fits count finds)
@@ -145,11 +158,23 @@ module _ (capacity : ℕ) (w : WriterAt) where
     reader-fits (stored_head bytes) next finds = steps-fit (stored_head bytes) (does.StoreHead (length bytes)) next.0 (λ x. absurd cc) refl (omega arith) (head-fits (length bytes) (omega (arith, fits.reads.shown, store-is r.point (length bytes) next.0)))
     reader-fits stored_closed next finds = steps-fit stored_closed (does.StoreClosed false) next (λ x. absurd cc) refl (omega arith) (share-fits r.may_wait (record s { is_closed = true }) refl refl (record { closed = λ x. refl; reader_rests = fits.shares.reader_rests; writer_rests = fits.shares.writer_rests }))
     reader-fits (loaded_slot side true) next finds = goes-on r s r.point (calling_after (loaded_slot side true) r.calling) r.size r.given fits.reads.shown fits.reads.draws fits
-    reader-fits (loaded_slot Reader false) next finds = steps-fit (loaded_slot Reader false) (does.Take Reader) next.0 (λ x. next.1) refl (omega arith) (share-fits false (record s { reader_slot = s.reader_slot; writer_slot = s.writer_slot }) refl refl (record { closed = fits.shares.closed; reader_rests = λ x. none-of s.reader_slot finds; writer_rests = fits.shares.writer_rests }))
-    reader-fits (loaded_slot Writer false) next finds = steps-fit (loaded_slot Writer false) (does.Take Writer) next.0 (λ x. next.1) refl (omega arith) rest-fits
+    reader-fits (loaded_slot Reader false) next finds = elim next.0 [
+      | inl to ↦ empties-fit (loaded_slot Reader false) (does.Take Reader) to.0 (steps-fit (loaded_slot Reader false) (does.Take Reader) to.0 (λ x. to.1) refl (omega arith) (share-fits false (record s { reader_slot = s.reader_slot; writer_slot = s.writer_slot }) refl refl (record { closed = fits.shares.closed; reader_rests = λ x. none-of s.reader_slot finds; writer_rests = fits.shares.writer_rests })))
+      | inr may ↦ empties-fit (loaded_slot Reader false) does.Register may.1 (withdraws-fit s.reader_slot (none-of s.reader_slot finds))
+    ]
+    reader-fits (loaded_slot Writer false) next finds = elim next.0 [
+      | inl to ↦ empties-fit (loaded_slot Writer false) (does.Take Writer) to.0 (steps-fit (loaded_slot Writer false) (does.Take Writer) to.0 (λ x. to.1) refl (omega arith) rest-fits)
+      | inr may ↦ absurd (let no : Writer ≡ Reader = may.0 in cc)
+    ]
     reader-fits knew_empty next finds = steps-fit knew_empty (does.Take Reader) next.0 (λ x. next.1) refl (omega arith) rest-fits
-    reader-fits (swapped Reader old None) next finds = steps-fit (swapped Reader old None) (does.Take Reader) next.0 (λ x. next.1) refl (omega arith) (share-fits false (record s { reader_slot = None; writer_slot = s.writer_slot }) refl refl (record { closed = fits.shares.closed; reader_rests = λ x. refl; writer_rests = fits.shares.writer_rests }))
-    reader-fits (swapped Writer old None) next finds = steps-fit (swapped Writer old None) (does.Take Writer) next.0 (λ x. next.1) refl (omega arith) (share-fits r.may_wait (record s { reader_slot = s.reader_slot; writer_slot = None }) refl refl (record { closed = fits.shares.closed; reader_rests = fits.shares.reader_rests; writer_rests = λ x. refl }))
+    reader-fits (swapped Reader old None) next finds = elim next [
+      | inl to ↦ empties-fit (swapped Reader old None) (does.Take Reader) to.0 (steps-fit (swapped Reader old None) (does.Take Reader) to.0 (λ x. to.1) refl (omega arith) (share-fits false (record s { reader_slot = None; writer_slot = s.writer_slot }) refl refl (record { closed = fits.shares.closed; reader_rests = λ x. refl; writer_rests = fits.shares.writer_rests })))
+      | inr may ↦ empties-fit (swapped Reader old None) does.Register may.1 (withdraws-fit None refl)
+    ]
+    reader-fits (swapped Writer old None) next finds = elim next [
+      | inl to ↦ empties-fit (swapped Writer old None) (does.Take Writer) to.0 (steps-fit (swapped Writer old None) (does.Take Writer) to.0 (λ x. to.1) refl (omega arith) (share-fits r.may_wait (record s { reader_slot = s.reader_slot; writer_slot = None }) refl refl (record { closed = fits.shares.closed; reader_rests = fits.shares.reader_rests; writer_rests = λ x. refl })))
+      | inr may ↦ absurd (let no : Writer ≡ Reader = may.0 in cc)
+    ]
     reader-fits (swapped Reader old (Some waker)) next finds = steps-fit (swapped Reader old (Some waker)) does.Register next.1 (λ x. absurd cc) refl (omega arith) (share-fits true (record s { reader_slot = (Some waker); writer_slot = s.writer_slot }) refl refl (record { closed = fits.shares.closed; reader_rests = λ x. absurd cc; writer_rests = fits.shares.writer_rests }))
     reader-fits (swapped Writer old (Some waker)) next finds = absurd (let no : Writer ≡ Reader = next.0 in cc)
     reader-fits (took bytes) next finds =

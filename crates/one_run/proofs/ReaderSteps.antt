@@ -1,5 +1,5 @@
 -- Each line of the reader is a step of the machine, or none.
-use Rattle.std.proofs.Common.{◌≡◌, ℕ, ◌+◌, ◌-◌, min, List, [], ◌∷◌, ◌++◌, length, drop, Bool, true, false, Option, None, Some, ◌==◌, is_some, refl, sym, ap, subst, ◌∙◌, arith, length-drop}
+use Rattle.std.proofs.Common.{◌≡◌, inl, inr, ℕ, ◌+◌, ◌-◌, min, List, [], ◌∷◌, ◌++◌, length, drop, Bool, true, false, Option, None, Some, ◌==◌, is_some, refl, sym, ap, subst, ◌∙◌, arith, length-drop}
 use Rattle.std.proofs.lemmas.List.{drop-drop}
 use Rattle.piper_protocol.specs.declared.answer.Answer.{Answer}
 use Rattle.piper_protocol.specs.declared.table.Action.{Action}
@@ -32,15 +32,15 @@ use Rattle.one_run.specs.Calling.{calling_after, may_wait_after}
 use Rattle.one_run.specs.Wide.{is_beyond}
 use Rattle.one_run.specs.Line.{met_tail, Line, loaded_tail, loaded_closed, stored_head, stored_closed, loaded_slot, swapped, knew_empty, took, failed, drew, refused, yielded, woke}
 use Rattle.one_run.specs.OneList.{Finds, Words, words_after}
-use Rattle.one_run.specs.Reading.{HasDrawn, IsReaderNext, ReaderAt, reader_after, reader_answered, reader_changed, shown, reader_stepped, reader_told}
+use Rattle.one_run.specs.Reading.{HasDrawn, IsReaderNext, IsToEmpty, MayWithdraw, ReaderAt, reader_after, reader_answered, reader_changed, reader_empties, shown, reader_stepped, reader_told}
 use Rattle.one_run.specs.Writing.{WriterAt}
 use Rattle.one_run.proofs.Joint.{Chance, Fits, context_with, luck_of, number_of, settled, pipe_at, reader_drawn, reader_point}
-use Rattle.one_run.proofs.Draws.{action-same, ends-at, may-go, next-same, own-same, reader_next}
+use Rattle.one_run.proofs.Draws.{action-same, ends-at, may-go, next-same, own-same, reader_next, stays}
 use Rattle.one_run.proofs.Contexts.{none-of, registers, grants, reports, yields, reports-yield, reports-wake, registers-none, refuses, reports-none}
 use Rattle.one_run.proofs.Fitting.{sound}
 use Rattle.one_run.proofs.ReaderOpens.{idle-same}
 use Rattle.one_run.proofs.ReaderOpens.{left-taken, found-taken, left-failed, found-failed}
-use Rattle.one_run.proofs.Leading.{Leads, LeadsBy, leads-learned, leads-none, leads-step}
+use Rattle.one_run.proofs.Leading.{Leads, LeadsBy, leads-learned, leads-none, leads-step, leads-withdrawn}
 
 rest-same : (draw : Option Bool) (b : Bool) (point : ReadPoint) → read_action point ≡ does.Rest → reader_point draw b point ≡ point
 rest-same draw b point e = grind arith
@@ -105,7 +105,15 @@ module _ (capacity : ℕ) (w : WriterAt) (l : Chance) (sources : List SourceAct)
     -- each line is a step of the machine, or none
     abbrev pub ReaderLeads : Line → Type 0
     ReaderLeads line = (k : Chance) (acts : List DestAct) → (k' : Chance) × (acts' : List DestAct)
-        × LeadsBy (is_beyond line) capacity (at_first k' acts') (pipe_at capacity (reader_after capacity line r) w (words_after line s) k acts l sources) (reader_reports capacity line r)
+        × LeadsBy (is_beyond line (read_action r.point)) capacity (at_first k' acts') (pipe_at capacity (reader_after capacity line r) w (words_after line s) k acts l sources) (reader_reports capacity line r)
+
+    -- the same of a line by which a slot was found empty, or emptied, where the table has this next
+    abbrev Empties : Action → Line → Type 0
+    Empties action line = Fits capacity (reader_empties capacity action line r) w (words_after line s) → (k : Chance) (acts : List DestAct) → (k' : Chance) × (acts' : List DestAct)
+        × LeadsBy (is_beyond line action) capacity (at_first k' acts') (pipe_at capacity (reader_empties capacity action line r) w (words_after line s) k acts l sources) (reader_reports capacity line r)
+
+    at-action : (line : Line) (action : Action) → read_action r.point ≡ action → Empties action line → Empties (read_action r.point) line
+    at-action line action e empties = subst (λ (a : Action). Empties a line) (sym e) empties
 
     module _ (fits : Fits capacity r w s) where
       unread : length (drop s.head s.sent) ≡ length s.sent - s.head
@@ -173,8 +181,8 @@ module _ (capacity : ℕ) (w : WriterAt) (l : Chance) (sources : List SourceAct)
             (sound capacity _ w _ k acts l sources after),
       )
 
-      pub finds-empty : (side : Side) → IsReaderNext capacity (loaded_slot side false) r → Finds (loaded_slot side false) s → Fits capacity (reader_after capacity (loaded_slot side false) r) w s → ReaderLeads (loaded_slot side false)
-      finds-empty Reader next finds after k acts =
+      finds-none : (side : Side) → IsToEmpty side r → Finds (loaded_slot side false) s → Empties (does.Take side) (loaded_slot side false)
+      finds-none Reader next finds after k acts =
           let p : Pipe = at_first k acts in
           let none : s.reader_slot ≡ None = none-of s.reader_slot finds in (
             k,
@@ -186,7 +194,7 @@ module _ (capacity : ℕ) (w : WriterAt) (l : Chance) (sources : List SourceAct)
                 refl
                 (sound capacity _ w _ k acts l sources after),
           )
-      finds-empty Writer next finds after k acts =
+      finds-none Writer next finds after k acts =
           let p : Pipe = at_first k acts in
           let none : s.writer_slot ≡ None = none-of s.writer_slot finds in (
             k,
@@ -198,6 +206,18 @@ module _ (capacity : ℕ) (w : WriterAt) (l : Chance) (sources : List SourceAct)
                 refl
                 (sound capacity _ w _ k acts l sources after),
           )
+
+      -- before it registers, the reader finds its slot empty
+      finds-own-empty : (side : Side) → MayWithdraw side r → Empties does.Register (loaded_slot side false)
+      finds-own-empty side may after k acts =
+          let p : Pipe = at_first k acts in
+          (k, acts, subst (λ (es : List Event). Leads capacity p p es) (sym (stays capacity r.point false may.1)) (leads-none capacity p))
+
+      pub finds-empty : (side : Side) → IsReaderNext capacity (loaded_slot side false) r → Finds (loaded_slot side false) s → Fits capacity (reader_after capacity (loaded_slot side false) r) w s → ReaderLeads (loaded_slot side false)
+      finds-empty side next finds = elim next.0 [
+        | inl to ↦ at-action (loaded_slot side false) (does.Take side) to.0 (finds-none side to finds)
+        | inr may ↦ at-action (loaded_slot side false) does.Register may.1 (finds-own-empty side may)
+      ]
 
       pub knows-empty : IsReaderNext capacity knew_empty r → Fits capacity (reader_after capacity knew_empty r) w s → ReaderLeads knew_empty
       knows-empty next after k acts =
@@ -216,8 +236,8 @@ module _ (capacity : ℕ) (w : WriterAt) (l : Chance) (sources : List SourceAct)
       pub finds-filled : (side : Side) → ReaderLeads (loaded_slot side true)
       finds-filled side k acts = (k, acts, leads-none capacity (at_first k acts))
 
-      pub takes : (side : Side) (old : Option ℕ) → IsReaderNext capacity (swapped side old None) r → Finds (swapped side old None) s → Fits capacity (reader_after capacity (swapped side old None) r) w (words_after (swapped side old None) s) → ReaderLeads (swapped side old None)
-      takes Reader old next finds after k acts =
+      takes-out : (side : Side) (old : Option ℕ) → IsToEmpty side r → Finds (swapped side old None) s → Empties (does.Take side) (swapped side old None)
+      takes-out Reader old next finds after k acts =
           let p : Pipe = at_first k acts in (
             k,
             acts,
@@ -227,7 +247,7 @@ module _ (capacity : ℕ) (w : WriterAt) (l : Chance) (sources : List SourceAct)
                 refl
                 (sound capacity _ w _ k acts l sources after),
           )
-      takes Writer old next finds after k acts =
+      takes-out Writer old next finds after k acts =
           let p : Pipe = at_first k acts in (
             k,
             acts,
@@ -237,6 +257,32 @@ module _ (capacity : ℕ) (w : WriterAt) (l : Chance) (sources : List SourceAct)
                 refl
                 (sound capacity _ w _ k acts l sources after),
           )
+
+      -- before it registers, the reader takes its waker out, or finds none
+      withdraws-own : (side : Side) (old : Option ℕ) → MayWithdraw side r → Finds (swapped side old None) s → Empties does.Register (swapped side old None)
+      withdraws-own Writer old may finds after k acts = absurd (let no : Writer ≡ Reader = may.0 in cc)
+      withdraws-own Reader None may finds after k acts =
+          let p : Pipe = at_first k acts in
+          let q : Pipe = record p { reader_waker = None } in (
+            k,
+            acts,
+            subst (λ (es : List Event). Leads capacity p q es) (sym (stays capacity r.point false may.1))
+                (subst (λ (x : Option ℕ). Leads capacity p (record p { reader_waker = x }) []) (sym finds) (leads-none capacity p)),
+          )
+      withdraws-own Reader (Some waker) may finds after k acts =
+          let p : Pipe = at_first k acts in
+          let q : Pipe = record p { reader_waker = None } in (
+            k,
+            acts,
+            subst (λ (es : List Event). LeadsBy true capacity p q es) (sym (stays capacity r.point true may.1))
+                (leads-withdrawn capacity Reader p (sound capacity _ w _ k acts l sources after) (action-same r.calling.draw k.draws r.point ∙ may.1)),
+          )
+
+      pub takes : (side : Side) (old : Option ℕ) → IsReaderNext capacity (swapped side old None) r → Finds (swapped side old None) s → Fits capacity (reader_after capacity (swapped side old None) r) w (words_after (swapped side old None) s) → ReaderLeads (swapped side old None)
+      takes side old next finds = elim next [
+        | inl to ↦ at-action (swapped side old None) (does.Take side) to.0 (takes-out side old to finds)
+        | inr may ↦ at-action (swapped side old None) does.Register may.1 (withdraws-own side old may finds)
+      ]
 
       pub registers-own : (side : Side) (old : Option ℕ) (waker : ℕ) → IsReaderNext capacity (swapped side old (Some waker)) r → Fits capacity (reader_after capacity (swapped side old (Some waker)) r) w (words_after (swapped side old (Some waker)) s) → ReaderLeads (swapped side old (Some waker))
       registers-own Writer old waker next after k acts = absurd (let no : Writer ≡ Reader = next.0 in cc)

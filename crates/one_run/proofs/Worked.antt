@@ -1,12 +1,13 @@
--- Two pairs of logs that may be, and others that may not.
-use Rattle.std.proofs.Common.{List, [], ◌∷◌, true, false, None, Some, refl, arith}
+-- Three pairs of logs that may be, and others that may not.
+use Rattle.std.proofs.Common.{◌≡◌, List, [], ◌∷◌, true, false, None, Some, refl, arith}
 use Rattle.piper_protocol.specs.declared.table.Side.TheVariants.{Reader, Writer}
 use Rattle.one_run.specs.Line.{Line, polls, try_drains_with, poll_drains_bytes, poll_drains, consumes, try_fills, poll_fills, produces, closes, drops, began, loaded_head, loaded_tail, loaded_closed, stored_head, stored_tail, stored_closed, loaded_slot, swapped, met_tail, knew_empty, took, gave, failed, drew, refused, yielded, woke}
 use Rattle.one_run.specs.OneList.{AreInOrder, By, by, did, is_access, kept_if}
 use Rattle.one_run.specs.OneRun.{AreLogs}
 use Rattle.one_run.specs.Reading.{AreReaderRuns}
 use Rattle.one_run.specs.Writing.{AreWriterRuns}
-use Rattle.one_run.specs.Worked.{fill_and_drain, wait_and_wake}
+use Rattle.one_run.specs.Worked.{fill_and_drain, wait_again, wait_and_wake}
+use Rattle.one_run.specs.Wide.{goes_beyond}
 
 abbrev accessed : List (By Line) → List (By Line)
 accessed [] = []
@@ -16,7 +17,7 @@ filled-order : AreInOrder (accessed fill_and_drain)
 filled-order = search
 
 filled-reader : AreReaderRuns 4 (did Reader fill_and_drain)
-filled-reader = search
+filled-reader = search arith
 
 filled-writer : AreWriterRuns 4 (did Writer fill_and_drain)
 filled-writer = search arith
@@ -35,6 +36,22 @@ woken-writer = search arith
 
 pub woken : AreLogs 4 (did Reader wait_and_wake) (did Writer wait_and_wake)
 woken = record { some = omega arith; list = (accessed wait_and_wake, woken-order, refl, refl); reads = woken-reader; writes = woken-writer }
+
+again-order : AreInOrder (accessed wait_again)
+again-order = search
+
+again-reader : AreReaderRuns 4 (did Reader wait_again)
+again-reader = search arith
+
+again-writer : AreWriterRuns 4 (did Writer wait_again)
+again-writer = search arith
+
+pub again : AreLogs 4 (did Reader wait_again) (did Writer wait_again)
+again = record { some = omega arith; list = (accessed wait_again, again-order, refl, refl); reads = again-reader; writes = again-writer }
+
+-- a waker that is taken out before a registration goes beyond the machine
+again-beyond : goes_beyond Reader 4 (did Reader wait_again) ≡ true
+again-beyond = refl
 
 -- one call of each kind
 
@@ -61,6 +78,27 @@ drains_with = search arith
 
 wants_memory : AreReaderRuns 4 (refused ∷ loaded_tail 0 ∷ began (polls 7) ∷ [])
 wants_memory = search arith
+
+-- a registration over a waker of an earlier poll, which may have been taken meanwhile
+
+looks_again : AreReaderRuns 4 (swapped Reader None (Some 8) ∷ loaded_slot Reader false ∷ loaded_tail 0 ∷ began (polls 8) ∷ loaded_tail 0 ∷ loaded_closed false ∷ swapped Reader None (Some 7) ∷ loaded_tail 0 ∷ began (polls 7) ∷ [])
+looks_again = search arith
+
+replaces : AreReaderRuns 4 (swapped Reader (Some 7) (Some 8) ∷ loaded_slot Reader true ∷ loaded_tail 0 ∷ began (polls 8) ∷ loaded_tail 0 ∷ loaded_closed false ∷ swapped Reader None (Some 7) ∷ loaded_tail 0 ∷ began (polls 7) ∷ [])
+replaces = search arith
+
+-- if none was there, that is no more than the machine does
+abbrev finds_none : List Line
+finds_none =
+    refused ∷ swapped Writer None None ∷ loaded_slot Writer true ∷ loaded_head 0 ∷ loaded_closed false ∷ began (polls 4)
+    ∷ loaded_closed false ∷ loaded_head 0 ∷ swapped Writer None (Some 3) ∷ loaded_head 0 ∷ loaded_closed false ∷ began (polls 3)
+    ∷ loaded_slot Reader false ∷ stored_tail (5 ∷ []) ∷ began (produces (5 ∷ [])) ∷ []
+
+wants_memory_again : AreWriterRuns 1 finds_none
+wants_memory_again = search arith
+
+not_beyond : goes_beyond Writer 1 finds_none ≡ false
+not_beyond = refl
 
 leaves : AreReaderRuns 4 (loaded_slot Writer false ∷ stored_closed ∷ began drops ∷ [])
 leaves = search arith
@@ -108,6 +146,21 @@ closed_unseen runs = grind arith
 -- after the last look, and so too late
 registers_last : AreReaderRuns 4 (swapped Reader None (Some 7) ∷ loaded_tail 0 ∷ loaded_closed false ∷ loaded_tail 0 ∷ began (polls 7) ∷ []) → ⊥
 registers_last runs = grind arith
+
+withdraws_late : AreReaderRuns 4 (swapped Reader (Some 7) None ∷ swapped Reader None (Some 7) ∷ loaded_tail 0 ∷ began (polls 7) ∷ []) → ⊥
+withdraws_late runs = grind arith
+
+-- where no waker of its own can be
+withdraws_nothing : AreReaderRuns 4 (swapped Reader None None ∷ loaded_tail 0 ∷ began (polls 7) ∷ []) → ⊥
+withdraws_nothing runs = grind arith
+
+-- the other side's
+withdraws_other : AreReaderRuns 4 (swapped Writer (Some 3) None ∷ loaded_tail 0 ∷ began (polls 8) ∷ loaded_tail 0 ∷ loaded_closed false ∷ swapped Reader None (Some 7) ∷ loaded_tail 0 ∷ began (polls 7) ∷ []) → ⊥
+withdraws_other runs = grind arith
+
+-- a waker that was withdrawn is not called
+withdrawn_woken : AreReaderRuns 4 (woke 7 ∷ swapped Reader (Some 7) None ∷ loaded_tail 0 ∷ began (polls 8) ∷ loaded_tail 0 ∷ loaded_closed false ∷ swapped Reader None (Some 7) ∷ loaded_tail 0 ∷ began (polls 7) ∷ []) → ⊥
+withdrawn_woken runs = grind arith
 
 other_waker : AreReaderRuns 4 (swapped Reader None (Some 8) ∷ loaded_tail 0 ∷ began (polls 7) ∷ []) → ⊥
 other_waker runs = grind arith

@@ -1,11 +1,14 @@
 -- The writer's table goes on in the same way, whatever a copy that has still to draw will draw.
-use Rattle.std.proofs.Common.{◌≡◌, ℕ, ◌+◌, ◌≤◌, List, Bool, Option, None, Some, arith}
+use Rattle.std.proofs.Common.{◌≡◌, ℕ, ◌+◌, ◌≤◌, List, [], Bool, Option, None, Some, refl, arith}
 use Rattle.piper_protocol.specs.declared.answer.Answer.{Answer}
 use Rattle.piper_protocol.specs.declared.table.Side.TheVariants.{Writer}
 use Rattle.piper_protocol.specs.declared.table.Action.TheVariants as does
 use Rattle.piper_protocol.specs.declared.table.Found.{Found}
+use Rattle.piper_protocol.specs.declared.table.Found.TheVariants as found
 use Rattle.piper_protocol.specs.declared.table.WritePoint.{WritePoint}
+use Rattle.piper_protocol.specs.declared.table.WritePoint.TheVariants as on
 use Rattle.piper_protocol.specs.Table.{Next, ends_fill, write_action, write_after, tail_store, moved_in}
+use Rattle.piper_machine.specs.Log.{answer_event}
 use Rattle.piper_machine.specs.Refusal.{cannot_go, writer_state}
 use Rattle.piper_machine.specs.Step.{filled_out, lent_after, lent_at}
 use Rattle.one_run.specs.Writing.{HasDrawn}
@@ -51,3 +54,8 @@ leaves-lent point answer lent = grind arith
 
 pub offers-none : (point : WritePoint) (lent before : List ℕ) → (write_action point ≡ does.CallSource → ⊥) → lent_at point lent before ≡ before
 offers-none point lent before other = grind arith
+
+-- no call returns before it registers
+pub stays : (capacity room : ℕ) (point : WritePoint) (b : Bool) → write_action point ≡ does.Register → answer_event Writer (write_after capacity room point (found.Waker b)).answer ≡ []
+stays capacity room (on.LookRegister l) b e = refl
+stays capacity room point b e = absurd (grind arith)

@@ -10,11 +10,11 @@ use Rattle.piper_protocol.specs.declared.table.WritePoint.{WritePoint}
 use Rattle.piper_protocol.specs.declared.table.WritePoint.TheVariants as on
 use Rattle.piper_protocol.specs.Index.{offset_of}
 use Rattle.piper_protocol.specs.Table.{Next, ends_fill, moved_in, tail_store, write_action, write_after}
-use Rattle.one_run.specs.Calling.{Calling, calling_after, may_wait_after, no_calling}
+use Rattle.one_run.specs.Calling.{Calling, calling_after, may_wait_after, no_calling, withdrawn}
 use Rattle.one_run.specs.Line.{met_head, met_tail, Opening, polls, try_fills, try_fills_with, poll_fills_bytes, poll_fills, produces, closes, drops, Line, began, loaded_head, loaded_tail, loaded_closed, stored_head, stored_tail, stored_closed, loaded_slot, swapped, knew_empty, took, gave, failed, drew, refused, yielded, woke}
 use Rattle.one_run.specs.OneList.{FindsCount, Words, words_after}
 use Rattle.one_run.specs.Reading.{ReaderAt}
-use Rattle.one_run.specs.Writing.{Source, nothing, HasDrawn, IsWriterNext, WriterAt, contiguous, room_to, shut_at, source_after, writer_after, writer_answered, writer_begun, writer_changed, writer_stepped, writer_told, lent_for, most_lent}
+use Rattle.one_run.specs.Writing.{Source, nothing, HasDrawn, IsWriterNext, WriterAt, contiguous, room_to, shut_at, source_after, writer_after, writer_answered, writer_begun, writer_changed, writer_empties, writer_stepped, writer_told, lent_for, most_lent}
 use Rattle.one_run.proofs.Joint.{Fits, Shares, writer_point}
 use Rattle.one_run.proofs.WriterDraws.{ends-at, next-same, rests-drawn, rests-none, stored-none, stores-moved}
 use Rattle.one_run.proofs.Contexts.{none-of}
@@ -178,6 +178,19 @@ module _ (capacity : ℕ) (r : ReaderAt) where
         let none = close-stores-none b w.point e in
         steps-fit stored_closed (does.StoreClosed b) e (λ x. absurd cc) refl (omega arith) rest
 
+    -- a line by which a slot was found empty, or emptied
+    empties-fit : (line : Line) (action : Action) → write_action w.point ≡ action → Fits capacity r (writer_empties capacity action line w) (words_after line s) → Fits capacity r (writer_empties capacity (write_action w.point) line w) (words_after line s)
+    empties-fit line action e fit = subst (λ (a : Action). Fits capacity r (writer_empties capacity a line w) (words_after line s)) (sym e) fit
+
+    -- before it registers
+    withdraws-fit : (slot : Option ℕ) → slot ≡ None → Fits capacity r (record w { calling = withdrawn w.calling; may_wait = false }) (record s { writer_slot = slot })
+    withdraws-fit slot none = record {
+      counts = fits.counts;
+      reads = fits.reads;
+      writes = record { lent = fits.writes.lent; stores = fits.writes.stores; shut = fits.writes.shut; draws = fits.writes.draws };
+      shares = record { closed = fits.shares.closed; reader_rests = fits.shares.reader_rests; writer_rests = λ x. none };
+    }
+
     pub writer-fits : (line : Line) → IsWriterNext capacity line w → FindsCount line s → Fits capacity r (writer_after capacity line w) (words_after line s)
     writer-fits (began opening) next finds = begin-fits opening next
     writer-fits (loaded_head count) next finds = keeps-fit (loaded_head count) does.LoadIndex next (λ x. absurd cc) refl refl refl (head-fits count finds)
@@ -190,11 +203,23 @@ module _ (capacity : ℕ) (r : ReaderAt) where
       | inr e ↦ close-fits true e (subst (λ (v : WriterAt). Fits capacity r (at_rest (record v { may_wait = w.may_wait })) (record s { is_closed = true })) (sym (shuts w.point w e)) shut-fits)
     ]
     writer-fits (loaded_slot side true) next finds = keeps-on w s w.point (calling_after (loaded_slot side true) w.calling) w.source fits.writes.stores fits.writes.draws fits
-    writer-fits (loaded_slot Reader false) next finds = keeps-fit (loaded_slot Reader false) (does.Take Reader) next.0 (λ x. next.1) refl refl refl rest-fits
-    writer-fits (loaded_slot Writer false) next finds = keeps-fit (loaded_slot Writer false) (does.Take Writer) next.0 (λ x. next.1) refl refl refl (share-fits false (record s { reader_slot = s.reader_slot; writer_slot = s.writer_slot }) refl refl (record { closed = fits.shares.closed; reader_rests = fits.shares.reader_rests; writer_rests = λ x. none-of s.writer_slot finds }))
+    writer-fits (loaded_slot Reader false) next finds = elim next.0 [
+      | inl to ↦ empties-fit (loaded_slot Reader false) (does.Take Reader) to.0 (keeps-fit (loaded_slot Reader false) (does.Take Reader) to.0 (λ x. to.1) refl refl refl rest-fits)
+      | inr may ↦ absurd (let no : Reader ≡ Writer = may.0 in cc)
+    ]
+    writer-fits (loaded_slot Writer false) next finds = elim next.0 [
+      | inl to ↦ empties-fit (loaded_slot Writer false) (does.Take Writer) to.0 (keeps-fit (loaded_slot Writer false) (does.Take Writer) to.0 (λ x. to.1) refl refl refl (share-fits false (record s { reader_slot = s.reader_slot; writer_slot = s.writer_slot }) refl refl (record { closed = fits.shares.closed; reader_rests = fits.shares.reader_rests; writer_rests = λ x. none-of s.writer_slot finds })))
+      | inr may ↦ empties-fit (loaded_slot Writer false) does.Register may.1 (withdraws-fit s.writer_slot (none-of s.writer_slot finds))
+    ]
     writer-fits knew_empty next finds = keeps-fit knew_empty (does.Take Writer) next.0 (λ x. next.1) refl refl refl rest-fits
-    writer-fits (swapped Reader old None) next finds = keeps-fit (swapped Reader old None) (does.Take Reader) next.0 (λ x. next.1) refl refl refl (share-fits w.may_wait (record s { reader_slot = None; writer_slot = s.writer_slot }) refl refl (record { closed = fits.shares.closed; reader_rests = λ x. refl; writer_rests = fits.shares.writer_rests }))
-    writer-fits (swapped Writer old None) next finds = keeps-fit (swapped Writer old None) (does.Take Writer) next.0 (λ x. next.1) refl refl refl (share-fits false (record s { reader_slot = s.reader_slot; writer_slot = None }) refl refl (record { closed = fits.shares.closed; reader_rests = fits.shares.reader_rests; writer_rests = λ x. refl }))
+    writer-fits (swapped Reader old None) next finds = elim next [
+      | inl to ↦ empties-fit (swapped Reader old None) (does.Take Reader) to.0 (keeps-fit (swapped Reader old None) (does.Take Reader) to.0 (λ x. to.1) refl refl refl (share-fits w.may_wait (record s { reader_slot = None; writer_slot = s.writer_slot }) refl refl (record { closed = fits.shares.closed; reader_rests = λ x. refl; writer_rests = fits.shares.writer_rests })))
+      | inr may ↦ absurd (let no : Reader ≡ Writer = may.0 in cc)
+    ]
+    writer-fits (swapped Writer old None) next finds = elim next [
+      | inl to ↦ empties-fit (swapped Writer old None) (does.Take Writer) to.0 (keeps-fit (swapped Writer old None) (does.Take Writer) to.0 (λ x. to.1) refl refl refl (share-fits false (record s { reader_slot = s.reader_slot; writer_slot = None }) refl refl (record { closed = fits.shares.closed; reader_rests = fits.shares.reader_rests; writer_rests = λ x. refl })))
+      | inr may ↦ empties-fit (swapped Writer old None) does.Register may.1 (withdraws-fit None refl)
+    ]
     writer-fits (swapped Writer old (Some waker)) next finds = keeps-fit (swapped Writer old (Some waker)) does.Register next.1 (λ x. absurd cc) refl refl refl (share-fits true (record s { reader_slot = s.reader_slot; writer_slot = (Some waker) }) refl refl (record { closed = fits.shares.closed; reader_rests = fits.shares.reader_rests; writer_rests = λ x. absurd cc }))
     writer-fits (swapped Reader old (Some waker)) next finds = absurd (let no : Reader ≡ Writer = next.0 in cc)
     writer-fits (gave bytes) next finds =

@@ -30,13 +30,13 @@ use Rattle.one_run.specs.Wide.{is_beyond}
 use Rattle.one_run.specs.Line.{met_head, Line, loaded_head, loaded_closed, stored_tail, stored_closed, loaded_slot, swapped, knew_empty, drew, refused, yielded, woke}
 use Rattle.one_run.specs.OneList.{Finds, Words, words_after}
 use Rattle.one_run.specs.Reading.{ReaderAt}
-use Rattle.one_run.specs.Writing.{HasDrawn, IsWriterNext, WriterAt, room_to, writer_after, writer_answered, writer_changed, writer_stepped, writer_told}
+use Rattle.one_run.specs.Writing.{HasDrawn, IsToEmpty, IsWriterNext, MayWithdraw, WriterAt, room_to, writer_after, writer_answered, writer_changed, writer_empties, writer_stepped, writer_told}
 use Rattle.one_run.proofs.Contexts.{none-of, registers, grants, reports, yields, reports-yield, reports-wake, registers-none, refuses, reports-none}
 use Rattle.one_run.proofs.ReaderOpens.{writer-idle-same}
 use Rattle.one_run.proofs.Fitting.{sound}
 use Rattle.one_run.proofs.Joint.{Chance, Fits, context_with, luck_of, number_of, pipe_at, settled, writer_drawn, writer_point}
-use Rattle.one_run.proofs.Leading.{Leads, LeadsBy, leads-learned, leads-none, leads-step}
-use Rattle.one_run.proofs.WriterDraws.{action-same, ends-at, fill-same, leaves-lent, next-same, offers-none, rests-drawn, writer_next}
+use Rattle.one_run.proofs.Leading.{Leads, LeadsBy, leads-learned, leads-none, leads-step, leads-withdrawn}
+use Rattle.one_run.proofs.WriterDraws.{action-same, ends-at, fill-same, leaves-lent, next-same, offers-none, rests-drawn, stays, writer_next}
 use Rattle.one_run.proofs.WriterDraws as W
 use Rattle.one_run.proofs.WriterOpens.{may-go, shuts, shuts-not}
 
@@ -138,7 +138,15 @@ module _ (capacity : ℕ) (r : ReaderAt) (k : Chance) (acts : List DestAct) wher
     -- each line is a step of the machine, or none
     abbrev pub WriterLeads : Line → Type 0
     WriterLeads line = (l : Chance) (sources : List SourceAct) → (l' : Chance) × (sources' : List SourceAct)
-        × LeadsBy (is_beyond line) capacity (at_first l' sources') (pipe_at capacity r (writer_after capacity line w) (words_after line s) k acts l sources) (writer_reports capacity line w)
+        × LeadsBy (is_beyond line (write_action w.point)) capacity (at_first l' sources') (pipe_at capacity r (writer_after capacity line w) (words_after line s) k acts l sources) (writer_reports capacity line w)
+
+    -- the same of a line by which a slot was found empty, or emptied, where the table has this next
+    abbrev Empties : Action → Line → Type 0
+    Empties action line = Fits capacity r (writer_empties capacity action line w) (words_after line s) → (l : Chance) (sources : List SourceAct) → (l' : Chance) × (sources' : List SourceAct)
+        × LeadsBy (is_beyond line action) capacity (at_first l' sources') (pipe_at capacity r (writer_empties capacity action line w) (words_after line s) k acts l sources) (writer_reports capacity line w)
+
+    at-action : (line : Line) (action : Action) → write_action w.point ≡ action → Empties action line → Empties (write_action w.point) line
+    at-action line action e empties = subst (λ (a : Action). Empties a line) (sym e) empties
 
     module _ (fits : Fits capacity r w s) where
       unread : length (drop s.head s.sent) ≡ length s.sent - s.head
@@ -219,8 +227,8 @@ module _ (capacity : ℕ) (r : ReaderAt) (k : Chance) (acts : List DestAct) wher
         ],
       )
 
-      pub finds-empty : (side : Side) → IsWriterNext capacity (loaded_slot side false) w → Finds (loaded_slot side false) s → Fits capacity r (writer_after capacity (loaded_slot side false) w) s → WriterLeads (loaded_slot side false)
-      finds-empty Reader next finds after l sources =
+      finds-none : (side : Side) → IsToEmpty side w → Finds (loaded_slot side false) s → Empties (does.Take side) (loaded_slot side false)
+      finds-none Reader next finds after l sources =
           let p : Pipe = at_first l sources in
           let none : s.reader_slot ≡ None = none-of s.reader_slot finds in (
             l,
@@ -232,7 +240,7 @@ module _ (capacity : ℕ) (r : ReaderAt) (k : Chance) (acts : List DestAct) wher
                 refl
                 (sound capacity r _ _ k acts l sources after),
           )
-      finds-empty Writer next finds after l sources =
+      finds-none Writer next finds after l sources =
           let p : Pipe = at_first l sources in
           let none : s.writer_slot ≡ None = none-of s.writer_slot finds in (
             l,
@@ -244,6 +252,18 @@ module _ (capacity : ℕ) (r : ReaderAt) (k : Chance) (acts : List DestAct) wher
                 refl
                 (sound capacity r _ _ k acts l sources after),
           )
+
+      -- before it registers, the writer finds its slot empty
+      finds-own-empty : (side : Side) → MayWithdraw side w → Empties does.Register (loaded_slot side false)
+      finds-own-empty side may after l sources =
+          let p : Pipe = at_first l sources in
+          (l, sources, subst (λ (es : List Event). Leads capacity p p es) (sym (stays capacity (room_to capacity w) w.point false may.1)) (leads-none capacity p))
+
+      pub finds-empty : (side : Side) → IsWriterNext capacity (loaded_slot side false) w → Finds (loaded_slot side false) s → Fits capacity r (writer_after capacity (loaded_slot side false) w) s → WriterLeads (loaded_slot side false)
+      finds-empty side next finds = elim next.0 [
+        | inl to ↦ at-action (loaded_slot side false) (does.Take side) to.0 (finds-none side to finds)
+        | inr may ↦ at-action (loaded_slot side false) does.Register may.1 (finds-own-empty side may)
+      ]
 
       pub knows-empty : IsWriterNext capacity knew_empty w → Fits capacity r (writer_after capacity knew_empty w) s → WriterLeads knew_empty
       knows-empty next after l sources =
@@ -262,8 +282,8 @@ module _ (capacity : ℕ) (r : ReaderAt) (k : Chance) (acts : List DestAct) wher
       pub finds-filled : (side : Side) → WriterLeads (loaded_slot side true)
       finds-filled side l sources = (l, sources, leads-none capacity (at_first l sources))
 
-      pub takes : (side : Side) (old : Option ℕ) → IsWriterNext capacity (swapped side old None) w → Finds (swapped side old None) s → Fits capacity r (writer_after capacity (swapped side old None) w) (words_after (swapped side old None) s) → WriterLeads (swapped side old None)
-      takes Reader old next finds after l sources =
+      takes-out : (side : Side) (old : Option ℕ) → IsToEmpty side w → Finds (swapped side old None) s → Empties (does.Take side) (swapped side old None)
+      takes-out Reader old next finds after l sources =
           let p : Pipe = at_first l sources in (
             l,
             sources,
@@ -273,7 +293,7 @@ module _ (capacity : ℕ) (r : ReaderAt) (k : Chance) (acts : List DestAct) wher
                 refl
                 (sound capacity r _ _ k acts l sources after),
           )
-      takes Writer old next finds after l sources =
+      takes-out Writer old next finds after l sources =
           let p : Pipe = at_first l sources in (
             l,
             sources,
@@ -283,6 +303,32 @@ module _ (capacity : ℕ) (r : ReaderAt) (k : Chance) (acts : List DestAct) wher
                 refl
                 (sound capacity r _ _ k acts l sources after),
           )
+
+      -- before it registers, the writer takes its waker out, or finds none
+      withdraws-own : (side : Side) (old : Option ℕ) → MayWithdraw side w → Finds (swapped side old None) s → Empties does.Register (swapped side old None)
+      withdraws-own Reader old may finds after l sources = absurd (let no : Reader ≡ Writer = may.0 in cc)
+      withdraws-own Writer None may finds after l sources =
+          let p : Pipe = at_first l sources in
+          let q : Pipe = record p { writer_waker = None } in (
+            l,
+            sources,
+            subst (λ (es : List Event). Leads capacity p q es) (sym (stays capacity (room_to capacity w) w.point false may.1))
+                (subst (λ (x : Option ℕ). Leads capacity p (record p { writer_waker = x }) []) (sym finds) (leads-none capacity p)),
+          )
+      withdraws-own Writer (Some waker) may finds after l sources =
+          let p : Pipe = at_first l sources in
+          let q : Pipe = record p { writer_waker = None } in (
+            l,
+            sources,
+            subst (λ (es : List Event). LeadsBy true capacity p q es) (sym (stays capacity (room_to capacity w) w.point true may.1))
+                (leads-withdrawn capacity Writer p (sound capacity r _ _ k acts l sources after) (action-same w.calling.draw l.draws w.point ∙ may.1)),
+          )
+
+      pub takes : (side : Side) (old : Option ℕ) → IsWriterNext capacity (swapped side old None) w → Finds (swapped side old None) s → Fits capacity r (writer_after capacity (swapped side old None) w) (words_after (swapped side old None) s) → WriterLeads (swapped side old None)
+      takes side old next finds = elim next [
+        | inl to ↦ at-action (swapped side old None) (does.Take side) to.0 (takes-out side old to finds)
+        | inr may ↦ at-action (swapped side old None) does.Register may.1 (withdraws-own side old may finds)
+      ]
 
       pub registers-own : (side : Side) (old : Option ℕ) (waker : ℕ) → IsWriterNext capacity (swapped side old (Some waker)) w → Fits capacity r (writer_after capacity (swapped side old (Some waker)) w) (words_after (swapped side old (Some waker)) s) → WriterLeads (swapped side old (Some waker))
       registers-own Reader old waker next after l sources = absurd (let no : Reader ≡ Writer = next.0 in cc)

@@ -35,12 +35,18 @@ abbrev pub calling_after : Line → Calling → Calling
 calling_after (loaded_slot side true) c = record c { is_looking = true }
 calling_after (loaded_slot side false) c = record c { taken = None; is_looking = false }
 calling_after (swapped side old None) c = record c { taken = old; is_looking = false }
-calling_after (swapped side old (Some waker)) c = record c { granted = Some true }
+calling_after (swapped side old (Some waker)) c =
+    record c { granted = Some true; is_looking = false }
 calling_after refused c = record c { granted = Some false }
 calling_after (drew is_drawn) c = record c { draw = Some is_drawn }
 calling_after knew_empty c = record c { taken = None }
 calling_after (woke waker) c = record c { taken = None }
 calling_after line c = c
+
+-- what is left of it after a side that is about to register found its own slot empty, or emptied
+-- it: the waker that comes out is not one to be called
+abbrev pub withdrawn : Calling → Calling
+withdrawn c = record c { is_looking = false }
 
 -- what the table is told of a line that both sides have
 abbrev pub told_by : Line → Found

@@ -1,7 +1,9 @@
 -- Where the reader is after the lines of its log, and which line may come next.
-use Rattle.std.specs.Prelude.{◌≡◌, ℕ, ◌+◌, ◌-◌, ◌≤◌, min, List, [], ◌∷◌, length, Bool, true, false, Option, None, Some, IsSome, ◌==◌, ⊤}
+use Rattle.std.specs.Prelude.{◌≡◌, ◌⊎◌, ℕ, ◌+◌, ◌-◌, ◌≤◌, min, List, [], ◌∷◌, length, Bool, true, false, Option, None, Some, IsSome, ◌==◌, ⊤}
 use Rattle.piper_protocol.specs.declared.answer.Answer.{Answer}
+use Rattle.piper_protocol.specs.declared.table.Side.{Side}
 use Rattle.piper_protocol.specs.declared.table.Side.TheVariants.{Reader}
+use Rattle.piper_protocol.specs.declared.table.Action.{Action}
 use Rattle.piper_protocol.specs.declared.table.Action.TheVariants as does
 use Rattle.piper_protocol.specs.declared.table.AfterRead.TheVariants as after_read
 use Rattle.piper_protocol.specs.declared.table.Form.TheVariants.{Try, Polling}
@@ -15,7 +17,7 @@ use Rattle.piper_protocol.specs.declared.table.TheConstants.{MOST_A_ROUND}
 use Rattle.piper_protocol.specs.Index.{offset_of}
 use Rattle.piper_protocol.specs.Table.{read_action, read_after, reader_looks_for}
 use Rattle.one_run.specs.Line.{Opening, Line, polls, try_drains, try_drains_with, poll_drains_bytes, poll_drains, consumes, drops, began, loaded_tail, loaded_closed, stored_head, stored_closed, loaded_slot, swapped, met_tail, knew_empty, took, failed, drew, refused, yielded, woke}
-use Rattle.one_run.specs.Calling.{Calling, no_calling, handed_over, calling_after, may_wait_after, told_by}
+use Rattle.one_run.specs.Calling.{Calling, no_calling, handed_over, calling_after, withdrawn, may_wait_after, told_by}
 
 pub record ReaderAt : Type 0 where
   pub point : ReadPoint
@@ -109,10 +111,23 @@ reader_stepped capacity line r =
       may_wait = may_wait_after Reader line r.may_wait;
     })
 
+-- a line by which a slot was found empty, or emptied: before the reader registers it is no step of
+-- the table
+abbrev pub reader_empties : ℕ → Action → Line → ReaderAt → ReaderAt
+reader_empties capacity does.Register line r = record r {
+  calling = withdrawn r.calling;
+  may_wait = may_wait_after Reader line r.may_wait;
+}
+reader_empties capacity action line r = reader_stepped capacity line r
+
 abbrev pub reader_after : ℕ → Line → ReaderAt → ReaderAt
 reader_after capacity (began opening) r = reader_begun opening r
 reader_after capacity (loaded_slot side true) r =
     record r { calling = calling_after (loaded_slot side true) r.calling }
+reader_after capacity (loaded_slot side false) r =
+    reader_empties capacity (read_action r.point) (loaded_slot side false) r
+reader_after capacity (swapped side old None) r =
+    reader_empties capacity (read_action r.point) (swapped side old None) r
 reader_after capacity (drew is_drawn) r = record r {
   point = at.LookTake (Copy (Polling is_drawn));
   calling = calling_after (drew is_drawn) r.calling;
@@ -150,7 +165,16 @@ abbrev pub HasDrawn : ReadPoint → Option Bool → Type 0
 HasDrawn (at.LookTake (Copy (Polling is_drawn))) draw = IsSome draw
 HasDrawn point draw = ⊤
 
--- the line is the step that the table has next
+-- the table has next that this slot is emptied
+abbrev pub IsToEmpty : Side → ReaderAt → Type 0
+IsToEmpty side r = (read_action r.point ≡ does.Take side) × HasDrawn r.point r.calling.draw
+
+-- before it registers, the reader may look whether its waker is still in its slot, and take it out
+abbrev pub MayWithdraw : Side → ReaderAt → Type 0
+MayWithdraw side r =
+    (side ≡ Reader) × (read_action r.point ≡ does.Register) × (r.may_wait ≡ true)
+
+-- the line is the step that the table has next, or comes before it registers
 abbrev pub IsReaderNext : ℕ → Line → ReaderAt → Type 0
 IsReaderNext capacity (began opening) r =
     (r.point ≡ at.Idle) × MayReaderBegin capacity opening r
@@ -161,10 +185,8 @@ IsReaderNext capacity (stored_head bytes) r =
 IsReaderNext capacity stored_closed r = (read_action r.point ≡ does.StoreClosed false)
 -- where the slot is found filled, the exchange is still to come
 IsReaderNext capacity (loaded_slot side is_filled) r =
-    (read_action r.point ≡ does.Take side) × HasDrawn r.point r.calling.draw
-    × (r.calling.is_looking ≡ false)
-IsReaderNext capacity (swapped side old None) r =
-    (read_action r.point ≡ does.Take side) × HasDrawn r.point r.calling.draw
+    (IsToEmpty side r ⊎ MayWithdraw side r) × (r.calling.is_looking ≡ false)
+IsReaderNext capacity (swapped side old None) r = IsToEmpty side r ⊎ MayWithdraw side r
 IsReaderNext capacity (swapped side old (Some waker)) r =
     (side ≡ Reader) × (read_action r.point ≡ does.Register) × (r.calling.handed ≡ Some waker)
     × (r.calling.granted ≡ None)

@@ -37,3 +37,25 @@ wait_and_wake =
     ∷ by Reader (loaded_tail 0)
     ∷ by Reader (began (polls 7))
     ∷ []
+
+-- a poll that was left pending is made again. It takes its first waker out before it registers; the
+-- writer finds the slot empty then, and the poll finds the byte
+abbrev pub wait_again : List (By Line)
+wait_again =
+    by Reader (swapped Reader (Some 8) None)
+    ∷ by Reader (loaded_slot Reader true)
+    ∷ by Reader (loaded_tail 1)
+    ∷ by Reader (loaded_closed false)
+    ∷ by Reader (swapped Reader None (Some 8))
+    ∷ by Writer (loaded_slot Reader false)
+    ∷ by Writer (stored_tail (5 ∷ []))
+    ∷ by Reader (swapped Reader (Some 7) None)
+    ∷ by Writer (began (produces (5 ∷ [])))
+    ∷ by Reader (loaded_tail 0)
+    ∷ by Reader (began (polls 8))
+    ∷ by Reader (loaded_tail 0)
+    ∷ by Reader (loaded_closed false)
+    ∷ by Reader (swapped Reader None (Some 7))
+    ∷ by Reader (loaded_tail 0)
+    ∷ by Reader (began (polls 7))
+    ∷ []

@@ -1,7 +1,9 @@
 -- Where the writer is after the lines of its log, and which line may come next.
 use Rattle.std.specs.Prelude.{◌≡◌, ◌⊎◌, ℕ, ◌+◌, ◌-◌, ◌<◌, ◌≤◌, min, List, [], ◌∷◌, length, take, drop, Bool, true, false, Option, None, Some, IsSome, ◌==◌, if◌then◌else◌, ⊤}
 use Rattle.piper_protocol.specs.declared.answer.Answer.{Answer}
+use Rattle.piper_protocol.specs.declared.table.Side.{Side}
 use Rattle.piper_protocol.specs.declared.table.Side.TheVariants.{Writer}
+use Rattle.piper_protocol.specs.declared.table.Action.{Action}
 use Rattle.piper_protocol.specs.declared.table.Action.TheVariants as does
 use Rattle.piper_protocol.specs.declared.table.AfterWrite.TheVariants as after_write
 use Rattle.piper_protocol.specs.declared.table.Form.TheVariants.{Try, Polling}
@@ -15,7 +17,7 @@ use Rattle.piper_protocol.specs.declared.table.TheConstants.{MOST_A_ROUND}
 use Rattle.piper_protocol.specs.Index.{offset_of}
 use Rattle.piper_protocol.specs.Table.{ends_fill, write_action, write_after}
 use Rattle.one_run.specs.Line.{Opening, Line, polls, try_fills, try_fills_with, poll_fills_bytes, poll_fills, produces, closes, drops, began, loaded_head, loaded_closed, stored_tail, stored_closed, loaded_slot, swapped, met_head, knew_empty, gave, failed, drew, refused, yielded, woke}
-use Rattle.one_run.specs.Calling.{Calling, no_calling, handed_over, calling_after, may_wait_after, told_by}
+use Rattle.one_run.specs.Calling.{Calling, no_calling, handed_over, calling_after, withdrawn, may_wait_after, told_by}
 
 -- what the open fill takes bytes from: a source of the caller's own, these bytes, or nothing that
 -- is left
@@ -166,10 +168,23 @@ writer_stepped capacity line w =
       may_wait = may_wait_after Writer line w.may_wait;
     })
 
+-- a line by which a slot was found empty, or emptied: before the writer registers it is no step of
+-- the table
+abbrev pub writer_empties : ℕ → Action → Line → WriterAt → WriterAt
+writer_empties capacity does.Register line w = record w {
+  calling = withdrawn w.calling;
+  may_wait = may_wait_after Writer line w.may_wait;
+}
+writer_empties capacity action line w = writer_stepped capacity line w
+
 abbrev pub writer_after : ℕ → Line → WriterAt → WriterAt
 writer_after capacity (began opening) w = writer_begun opening w
 writer_after capacity (loaded_slot side true) w =
     record w { calling = calling_after (loaded_slot side true) w.calling }
+writer_after capacity (loaded_slot side false) w =
+    writer_empties capacity (write_action w.point) (loaded_slot side false) w
+writer_after capacity (swapped side old None) w =
+    writer_empties capacity (write_action w.point) (swapped side old None) w
 writer_after capacity (drew is_drawn) w = record w {
   point = on.LookTake (Copy (Polling is_drawn));
   calling = calling_after (drew is_drawn) w.calling;
@@ -214,7 +229,16 @@ abbrev pub HasDrawn : WritePoint → Option Bool → Type 0
 HasDrawn (on.LookTake (Copy (Polling is_drawn))) draw = IsSome draw
 HasDrawn point draw = ⊤
 
--- the line is the step that the table has next
+-- the table has next that this slot is emptied
+abbrev pub IsToEmpty : Side → WriterAt → Type 0
+IsToEmpty side w = (write_action w.point ≡ does.Take side) × HasDrawn w.point w.calling.draw
+
+-- before it registers, the writer may look whether its waker is still in its slot, and take it out
+abbrev pub MayWithdraw : Side → WriterAt → Type 0
+MayWithdraw side w =
+    (side ≡ Writer) × (write_action w.point ≡ does.Register) × (w.may_wait ≡ true)
+
+-- the line is the step that the table has next, or comes before it registers
 abbrev pub IsWriterNext : ℕ → Line → WriterAt → Type 0
 IsWriterNext capacity (began opening) w =
     (w.point ≡ on.Idle) × MayWriterBegin capacity opening w
@@ -226,10 +250,8 @@ IsWriterNext capacity stored_closed w =
     (write_action w.point ≡ does.StoreClosed false) ⊎ (write_action w.point ≡ does.StoreClosed true)
 -- where the slot is found filled, the exchange is still to come
 IsWriterNext capacity (loaded_slot side is_filled) w =
-    (write_action w.point ≡ does.Take side) × HasDrawn w.point w.calling.draw
-    × (w.calling.is_looking ≡ false)
-IsWriterNext capacity (swapped side old None) w =
-    (write_action w.point ≡ does.Take side) × HasDrawn w.point w.calling.draw
+    (IsToEmpty side w ⊎ MayWithdraw side w) × (w.calling.is_looking ≡ false)
+IsWriterNext capacity (swapped side old None) w = IsToEmpty side w ⊎ MayWithdraw side w
 IsWriterNext capacity (swapped side old (Some waker)) w =
     (side ≡ Writer) × (write_action w.point ≡ does.Register) × (w.calling.handed ≡ Some waker)
     × (w.calling.granted ≡ None)

@@ -9,15 +9,17 @@ ghost use Rattle.one_run.specs.Listed.{lines_of};
 ghost use Rattle.one_run.specs.OneList.{AreListed, FindsCount, accesses, did};
 ghost use Rattle.piper_protocol.specs.OneList.{Access, AreOneList};
 ghost use Rattle.one_run.specs.OneRun.{AreCountedLogs, AreLogs, IsOneRun};
-ghost use Rattle.one_run.specs.Worked.{fill_and_drain, wait_and_wake};
+ghost use Rattle.one_run.specs.Worked.{fill_and_drain, wait_again, wait_and_wake};
 ghost use Rattle.piper_protocol.specs.declared.table.Side.TheVariants.{Reader, Writer};
 
 /// Two logs whose accesses are what is left of one list, each a list of runs of the call table,
 /// are one run of the model. It has acts of its own for what the model does not have: what a meet
-/// taught, and a copy without a context whose source or destination is no slice.
+/// taught, a waker that a side takes out of its own slot before it registers, and a copy without a
+/// context whose source or destination is no slice.
 pub fn is_one_run()
     ensures plain { (capacity : ℕ) (reader writer : List Line) → AreLogs capacity reader writer →
-        goes_beyond reader ≡ false → goes_beyond writer ≡ false → IsOneRun capacity reader writer }
+        goes_beyond Reader capacity reader ≡ false → goes_beyond Writer capacity writer ≡ false →
+        IsOneRun capacity reader writer }
     ensures wide { (capacity : ℕ) (reader writer : List Line) →
         AreLogs capacity reader writer → IsOneWideRun capacity reader writer }
 {}
@@ -26,7 +28,8 @@ pub fn is_one_run()
 pub fn is_one_run_by_counts()
     ensures plain { (capacity : ℕ) (reader writer : List Line) →
         AreCountedLogs capacity reader writer →
-        goes_beyond reader ≡ false → goes_beyond writer ≡ false → IsOneRun capacity reader writer }
+        goes_beyond Reader capacity reader ≡ false → goes_beyond Writer capacity writer ≡ false →
+        IsOneRun capacity reader writer }
     ensures wide { (capacity : ℕ) (reader writer : List Line) →
         AreCountedLogs capacity reader writer → IsOneWideRun capacity reader writer }
 {}
@@ -59,8 +62,10 @@ pub fn nobody_is_forgotten()
         (run : IsOneWideRun capacity reader writer) → IsOneAwake run }
 {}
 
-/// The logs of a fill and a drain are such, and those of a wait and its wake.
+/// The logs of a fill and a drain are such, those of a wait and its wake, and those of a wait that
+/// begins again while the writer looks for a waiter.
 pub fn are_worked()
     ensures filled { AreLogs 4 (did Reader fill_and_drain) (did Writer fill_and_drain) }
     ensures woken { AreLogs 4 (did Reader wait_and_wake) (did Writer wait_and_wake) }
+    ensures again { AreLogs 4 (did Reader wait_again) (did Writer wait_again) }
 {}
