@@ -378,6 +378,12 @@ try_silent 'files on their devices' 10 0 '$pump --fsync -i src -o synced1 --tee 
 try 'a copy that has no device' 10 7 '^piper_pump: fifo2: Invalid argument' 'mkfifo fifo2; cat fifo2 > synced4 & $pump --fsync -i src -o synced3 --tee fifo2; status=$?; wait; cmp src synced3 && cmp src synced4 && exit $status'
 if command -v strace > /dev/null; then
     try 'an output that can not be brought to its device' 10 4 '^piper_pump: synced5: writing the output failed: Input/output error' 'strace -f -o calls -e trace=fsync -e inject=fsync:error=EIO $pump --fsync -i src -o synced5'
+    # A close tells last what could not be kept.
+    for name in closed1 closed2 closed3; do : > $name; done
+    export closing='strace -f -o calls -e trace=close -e inject=close:error=EDQUOT'
+    try 'a close that fails' 10 4 '^piper_pump: closed1: writing the output failed: Disk quota' '$closing -P closed1 $pump -i src -o closed1'
+    try 'a close of standard output that fails' 10 4 '^piper_pump: writing the output failed: Disk quota' '$closing -P closed2 $pump src > closed2'
+    try 'a close of a copy that fails' 10 7 '^piper_pump: closed3: Disk quota' '$closing -P closed3 $pump -i src --tee closed3 | cmp - src && exit ${PIPESTATUS[0]}'
     try_silent 'files that are not waited for' 10 0 'strace -f -o calls -e trace=fsync $pump -i src -o synced6 && ! grep -q fsync calls'
 fi
 
