@@ -426,6 +426,25 @@ for case in 'pipe 3000' 'pipe 1000 --capacity 4K' 'pipe 100 --capacity 64' 'pipe
     try_silent "packets: $case" 20 0 "python3 packets.py $case"
 done
 
+# Files of the system, which give bytes to their first read alone, and an end that is typed once.
+try_silent 'what is left out of a file of the system' 10 0 '$pump --skip 3 /proc/sys/kernel/pid_max | cmp - <(cat /proc/sys/kernel/pid_max | tail -c +4) && exit ${PIPESTATUS[0]}'
+export ports=/proc/sys/net/ipv4/ip_local_reserved_ports
+if unshare -n test -w $ports 2> /dev/null; then
+    try_silent 'a file of the system of 11,000 bytes' 10 0 'unshare -n bash -c "seq -s, 1 2 5000 | dd bs=64K iflag=fullblock of=\$ports status=none; \$pump \$ports | cmp - <(cat \$ports) && test \$(cat \$ports | wc -c) -gt 10000"'
+else
+    echo 'left out, for want of unshare: a long file of the system'
+fi
+cat > typed.py <<'PYTHON'
+import os, pty, subprocess, time
+near, far = pty.openpty()
+child = subprocess.Popen([os.environ["pump"]], stdin=far, stdout=subprocess.DEVNULL)
+os.close(far)
+time.sleep(0.3)
+os.write(near, b"\x04")
+assert child.wait(5) == 0
+PYTHON
+try_silent 'an end that is typed once' 10 0 'python3 typed.py'
+
 # Bytes that come between the look at a file and its cut, and files that can't be cut.
 : > late
 mkfifo fifo3
