@@ -129,6 +129,8 @@ try() { # TARGET [LINKER [RUNNER..]]
     for tool in "$2" "${@:3}"; do
         [[ $tool != *gcc* && $tool != qemu* && $tool != wine* ]] || is_there "$tool" || return 2
     done
+    # A compiler of Debian's may lack its C library, which apt-get takes for recommended.
+    echo 'int main(void) { return 0; }' | "$2" -o "$root/empty" -x c - 2> /dev/null || return 2
     case $target in *windows*) for_windows || return 2 ;; *musl) for_musl || return 2 ;; esac
     export "CARGO_TARGET_${name^^}_LINKER=$2"
     [ -z "${3-}" ] || export "CARGO_TARGET_${name^^}_RUNNER=${*:3}"
@@ -157,4 +159,5 @@ while read -r target how; do
     echo "$target: $said"
 done < <(table)
 echo "targets: $passed passed, $failed failed, $left not tried"
+[ $((passed + failed)) -gt 0 ] || exit 2
 [ "$failed" -eq 0 ]
