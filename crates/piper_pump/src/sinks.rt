@@ -231,9 +231,9 @@ impl Destination for Target {
     }
 }
 
-// Closes another number of an open file, and tells how that went: only then some systems say that they
+// Closes another number of an open file, and tells how that went: some systems say only then that they
 // could not keep what was written. std drops the answer, but the system keeps the number of its last
-// error: where a file is no terminal, that is another one before.
+// error. The look for a terminal leaves one there that no close has.
 fn try_close(file: &impl AsFd) -> io::Result<()> {
     let other = file.as_fd().try_clone_to_owned()?;
     if other.is_terminal() {
