@@ -4,10 +4,10 @@
 #     rust/targets.sh FOLDER [TARGET..]
 #
 # The table below has the targets. It gets Debian's rustc-web and the sources of its std, which it unpacks in FOLDER and installs
-# nowhere (150 MB), and builds std for each target there, which takes four minutes of a processor once. It needs cargo, and for tests
-# what the table names; a target whose tools are missing prints `not tried`. Tests leave out programs and examples, for which Debian
-# has the crates on its own processors alone. The last line is 'targets: N passed, M failed, K not tried'. The status is 2 if nothing
-# could be tried.
+# nowhere (150 MB), and builds std for each target there, which takes four minutes of a processor once. It needs cargo, what
+# `rust/check.sh --install` gets, and for tests what the table names; a target whose tools are missing prints `not tried`. Tests
+# leave out programs and examples, for which Debian has the crates on its own processors alone. The last line is
+# 'targets: N passed, M failed, K not tried'. The status is 2 if nothing could be tried.
 set -uo pipefail
 . "$(dirname "$0")/common.sh"
 [ $# -gt 0 ] || usage
@@ -60,7 +60,7 @@ unpack() {
 }
 
 prepare() {
-    is_there cargo taskset || return
+    is_there cargo taskset && compgen -G "$sources/futures-lite-[0-9]*" > /dev/null || return
     [ -e "$root/usr/lib/rustlib/src/rust/library" ] || unpack 2> /dev/null || return
     printf '%s\n' '#!/bin/sh' "export LD_LIBRARY_PATH=$root/usr/lib/x86_64-linux-gnu:$(echo "$root"/usr/lib/llvm-*/lib)" \
         "exec $root/usr/bin/rustc \"\$@\"" > "$root/rustc"
@@ -129,6 +129,8 @@ try() { # TARGET [LINKER [RUNNER..]]
     for tool in "$2" "${@:3}"; do
         [[ $tool != *gcc* && $tool != qemu* && $tool != wine* ]] || is_there "$tool" || return 2
     done
+    # A compiler of Debian's may lack its C library, which apt-get takes for recommended.
+    echo 'int main(void) { return 0; }' | "$2" -o "$root/empty" -x c - 2> /dev/null || return 2
     case $target in *windows*) for_windows || return 2 ;; *musl) for_musl || return 2 ;; esac
     export "CARGO_TARGET_${name^^}_LINKER=$2"
     [ -z "${3-}" ] || export "CARGO_TARGET_${name^^}_RUNNER=${*:3}"
@@ -143,7 +145,7 @@ try() { # TARGET [LINKER [RUNNER..]]
     return "$status"
 }
 
-prepare || { echo 'targets.sh: cargo is missing, or the packages are not to be had; nothing was tried' >&2; exit 2; }
+prepare || { echo 'targets.sh: cargo is missing, or packages are (check.sh --install gets them); nothing was tried' >&2; exit 2; }
 left=0
 while read -r target how; do
     [ $# -eq 0 ] || [[ " $* " == *" $target "* ]] || continue
@@ -157,4 +159,5 @@ while read -r target how; do
     echo "$target: $said"
 done < <(table)
 echo "targets: $passed passed, $failed failed, $left not tried"
+[ $((passed + failed)) -gt 0 ] || exit 2
 [ "$failed" -eq 0 ]

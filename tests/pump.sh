@@ -378,6 +378,12 @@ try_silent 'files on their devices' 10 0 '$pump --fsync -i src -o synced1 --tee 
 try 'a copy that has no device' 10 7 '^piper_pump: fifo2: Invalid argument' 'mkfifo fifo2; cat fifo2 > synced4 & $pump --fsync -i src -o synced3 --tee fifo2; status=$?; wait; cmp src synced3 && cmp src synced4 && exit $status'
 if command -v strace > /dev/null; then
     try 'an output that can not be brought to its device' 10 4 '^piper_pump: synced5: writing the output failed: Input/output error' 'strace -f -o calls -e trace=fsync -e inject=fsync:error=EIO $pump --fsync -i src -o synced5'
+    # A close tells last what could not be kept.
+    for name in closed1 closed2 closed3; do : > $name; done
+    export closing='strace -f -o calls -e trace=close -e inject=close:error=EDQUOT'
+    try 'a close that fails' 10 4 '^piper_pump: closed1: writing the output failed: Disk quota' '$closing -P closed1 $pump -i src -o closed1'
+    try 'a close of standard output that fails' 10 4 '^piper_pump: writing the output failed: Disk quota' '$closing -P closed2 $pump src > closed2'
+    try 'a close of a copy that fails' 10 7 '^piper_pump: closed3: Disk quota' '$closing -P closed3 $pump -i src --tee closed3 | cmp - src && exit ${PIPESTATUS[0]}'
     try_silent 'files that are not waited for' 10 0 'strace -f -o calls -e trace=fsync $pump -i src -o synced6 && ! grep -q fsync calls'
 fi
 
@@ -419,6 +425,25 @@ for case in 'pipe 3000' 'pipe 1000 --capacity 4K' 'pipe 100 --capacity 64' 'pipe
     'socket 3000' 'socket 1000 --capacity 4K' 'socket 150000' 'socket 3000 --skip 10'; do
     try_silent "packets: $case" 20 0 "python3 packets.py $case"
 done
+
+# Files of the system, which give bytes to their first read alone, and an end that is typed once.
+try_silent 'what is left out of a file of the system' 10 0 '$pump --skip 3 /proc/sys/kernel/pid_max | cmp - <(cat /proc/sys/kernel/pid_max | tail -c +4) && exit ${PIPESTATUS[0]}'
+export ports=/proc/sys/net/ipv4/ip_local_reserved_ports
+if unshare -n test -w $ports 2> /dev/null; then
+    try_silent 'a file of the system of 11,000 bytes' 10 0 'unshare -n bash -c "seq -s, 1 2 5000 | dd bs=64K iflag=fullblock of=\$ports status=none; \$pump \$ports | cmp - <(cat \$ports) && test \$(cat \$ports | wc -c) -gt 10000"'
+else
+    echo 'left out, for want of unshare: a long file of the system'
+fi
+cat > typed.py <<'PYTHON'
+import os, pty, subprocess, time
+near, far = pty.openpty()
+child = subprocess.Popen([os.environ["pump"]], stdin=far, stdout=subprocess.DEVNULL)
+os.close(far)
+time.sleep(0.3)
+os.write(near, b"\x04")
+assert child.wait(5) == 0
+PYTHON
+try_silent 'an end that is typed once' 10 0 'python3 typed.py'
 
 # Bytes that come between the look at a file and its cut, and files that can't be cut.
 : > late

@@ -42,18 +42,19 @@ targets() {
     rust/targets.sh "$platforms"
 }
 
-# What needs the sources of 0.2.5: its tests, the same drawn calls over both, and the page's table.
-upstream() {
-    local folder=${PIPER_UPSTREAM:-$(compgen -G "${CARGO_SOURCES:-/usr/share/cargo/registry}/piper-0.2.*" | head -n 1)}
+# What needs the sources of 0.2.5: its tests, the page's table, no row of more instructions, and the same drawn calls over both.
+upstream() (
+    set -o pipefail
+    folder=${PIPER_UPSTREAM:-$(compgen -G "${CARGO_SOURCES:-/usr/share/cargo/registry}/piper-0.2.*" | head -n 1)}
     [ -n "$folder" ] || return 2
     cp rust/README.md "$room" && rust/upstream.sh "$folder" && rust/api.py "$folder" && diff "$room/README.md" rust/README.md &&
-        rust/beside.sh "$folder"
-}
+        rust/speed.sh -i "$folder" rust | awk '{ print } NR > 1 && $NF > 1 { more = 1 } END { exit more }' && rust/beside.sh "$folder"
+)
 
 try rust 'cargo gcc' rust
 try one_program 'cargo gcc make' rust/one_program.sh
 try clients cargo rust/clients.sh rust
-try upstream 'cargo python3' upstream
+try upstream 'cargo python3 valgrind' upstream
 try c 'cargo gcc make' make -s -C c check
 try miri cargo rust/miri.sh
 try targets cargo targets

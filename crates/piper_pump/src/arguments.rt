@@ -153,11 +153,7 @@ fn command<'a>(alloc: Global) -> Result<Command<'a>, Error> {
             "Tells the SHA-256 of what passed, on standard error at the end, as sha256sum does",
         ))?;
     let command = with_files(alloc, with_sizes(alloc, command)?)?
-        .arg(option(
-            alloc,
-            "skip",
-            "How many bytes of the input it leaves out; it reads them",
-        ))?
+        .arg(option(alloc, "skip", "How many bytes of the input it leaves out"))?
         .arg(option(
             alloc,
             "stop-after",

@@ -13,8 +13,9 @@ use std::time::Clock;
 /// it, and the rest of it would be lost.
 const PIPE_PACKET: usize = 4_096;
 
-/// The same, of a socket's packet.
-const SOCKET_PACKET: usize = 1_048_576;
+/// The same, of what a socket's packet holds, a record of a device, or a file of the system, which may
+/// give bytes to its first read alone.
+const RECORD: usize = 1_048_576;
 
 /// The input.
 #[derive(Drop)]
@@ -39,13 +40,14 @@ pub type Part = BufReader<Take<Inlet>>;
 pub fn part_of(
     alloc: Global,
     inlet: Inlet,
-    kind: Kind,
+    found: &Found,
     skip: u64,
     most: Option<u64>,
 ) -> Result<Part, Ended> {
-    let room = match kind {
-        Kind::Socket | Kind::Untold => SOCKET_PACKET,
-        _ => PIPE_PACKET,
+    let room = match found.kind {
+        Kind::Fifo | Kind::BlockDevice => PIPE_PACKET,
+        Kind::Regular if 0 < found.len => PIPE_PACKET,
+        _ => RECORD,
     };
     let limit = match most {
         Some(most) => skip.saturating_add(most),
@@ -56,16 +58,17 @@ pub fn part_of(
 
 /// Passes over what is left out, and makes the first read of what comes after that. Then the input
 /// can be read, and files that are written may be opened.
-pub fn begin<R, B>(rt: &R, part: &mut B, skip: u64) -> Result<(), TransferError>
-where
-    R: Wait + Clock,
-    B: BufRead,
-{
+pub fn begin<R: Wait + Clock>(rt: &R, part: &mut Part, skip: u64) -> Result<(), TransferError> {
     let mut patience = Patience::new();
     let mut skip = skip;
     for _ in rt.forever() {
         match part.fill_buf() {
-            Ok(bytes) if bytes.is_empty() || skip == 0 => return Ok(()),
+            Ok(bytes) if bytes.is_empty() => {
+                // No other read waits for an end that would be typed once more at a terminal.
+                part.get_mut().set_limit(0);
+                return Ok(());
+            }
+            Ok(_) if skip == 0 => return Ok(()),
             Ok(bytes) => {
                 let count = (bytes.len() as u64).min(skip);
                 part.consume(count as usize);
@@ -78,14 +81,16 @@ where
     unreachable!()
 }
 
-/// Passes over what is left out of a regular file without reading it. Returns what is still to be
-/// passed over.
-pub fn seek_past(inlet: &mut Inlet, kind: Kind, skip: u64) -> u64 {
+/// Passes over what is left out of a regular file without reading it, if it says how long it is. Returns
+/// what is still to be passed over.
+pub fn seek_past(inlet: &mut Inlet, found: &Found, skip: u64) -> u64 {
     match inlet {
-        Inlet::File(file) if kind == Kind::Regular => match file.seek(SeekFrom::Start(skip)) {
-            Ok(_) => 0,
-            Err(_) => skip,
-        },
+        Inlet::File(file) if found.kind == Kind::Regular && 0 < found.len => {
+            match file.seek(SeekFrom::Start(skip)) {
+                Ok(_) => 0,
+                Err(_) => skip,
+            }
+        }
         _ => skip,
     }
 }

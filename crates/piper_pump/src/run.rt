@@ -108,8 +108,8 @@ where
         tees,
     } = ends;
     let total = numbers.total.or(size_of_part(rt, &inlet, &input, numbers.skip, numbers.most));
-    let skip = seek_past(&mut inlet, input.kind, numbers.skip);
-    let mut part = Plain(part_of(rt.alloc(), inlet, input.kind, skip, numbers.most)?);
+    let skip = seek_past(&mut inlet, &input, numbers.skip);
+    let mut part = Plain(part_of(rt.alloc(), inlet, &input, skip, numbers.most)?);
     let ready = match Ready::new(rt, numbers.sizes) {
         Ok(ready) => ready,
         Err(error) => return Err(Ended::of(Err(error), false)),

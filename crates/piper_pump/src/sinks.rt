@@ -5,7 +5,9 @@ use piper_transfer::Destination;
 use std::alloc::Global;
 use std::fs::{self, File, Files, OpenOptions};
 use std::io;
-use std::io::{ErrorKind, Stdout, Write};
+use std::io::{ErrorKind, IsTerminal, Stdout, Write};
+use std::os::fd::AsFd;
+use std_io::io::last_error;
 
 /// What is said of a file that holds bytes, if such files are not taken.
 const HOLDS_BYTES: &str = "it holds bytes, which --force overwrites and --append keeps";
@@ -212,14 +214,38 @@ impl Destination for Target {
 
     fn flush(&mut self) -> io::Result<()> {
         match self {
-            Target::Standard(standard) => standard.flush(),
+            Target::Standard(standard) => {
+                standard.flush()?;
+                try_close(standard)
+            }
             Target::File(sink) => match &sink.file {
-                Some(file) if sink.way.syncs => file.sync_all(),
-                Some(_) => Ok(()),
+                Some(file) => {
+                    if sink.way.syncs {
+                        file.sync_all()?;
+                    }
+                    try_close(file)
+                }
                 None => Err(not_open()),
             },
         }
     }
+}
+
+// Closes another number of an open file, and tells how that went: some systems say only then that they
+// could not keep what was written. std drops the answer, but the system keeps the number of its last
+// error. The look for a terminal leaves one there that no close has.
+fn try_close(file: &impl AsFd) -> io::Result<()> {
+    let other = file.as_fd().try_clone_to_owned()?;
+    if other.is_terminal() {
+        return Ok(());
+    }
+    let before = last_error();
+    other.drop();
+    let after = last_error();
+    if after.raw_os_error() == before.raw_os_error() {
+        return Ok(());
+    }
+    Err(after)
 }
 
 // Why a file can't be made that was not there.
