@@ -3,6 +3,9 @@ pub mod InThreads
 pub mod DrainingOn
 pub mod Failing
 pub mod FillingOn
+pub mod FramesRun
+pub mod LinesRun
+pub mod PiecesSent
 pub mod ReadingOn
 pub mod UntilOn
 pub mod WritingOn
