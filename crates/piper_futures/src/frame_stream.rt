@@ -11,7 +11,7 @@ use futures::Stream;
 use futures::task::{Context, Poll};
 use piper::PipeError;
 use piper::io::AsyncBufRead;
-use piper_lines::{ByteOrder, FrameAnswer, FrameHeader, Frames};
+use piper_lines::{FrameAnswer, FrameHeader, Frames};
 use std::alloc::Global;
 use std::fmt::{self, Debug, Formatter};
 use std::io::ErrorKind;
@@ -44,8 +44,7 @@ impl<R: AsyncBufRead + Drop> FrameStream<R> {
         ensures limit { frame_limit_of result ≡ limit }
         ensures open { is_over result ≡ false }
     {
-        let format = FrameHeader::FourBytes(ByteOrder::BigEndian);
-        FrameStream::with_header(alloc, reader, format, limit)
+        FrameStream::with_header(alloc, reader, FrameHeader::default(), limit)
     }
 
     /// The frames of at most `limit` bytes, whose length is reported in this way.

@@ -10,7 +10,7 @@ use futures::Sink;
 use futures::task::{Context, Poll};
 use piper::PipeError;
 use piper::io::AsyncWrite;
-use piper_lines::{ByteOrder, FrameHeader};
+use piper_lines::FrameHeader;
 use std::alloc::Global;
 use std::fmt::Debug;
 use std::io::ErrorKind;
@@ -37,7 +37,7 @@ impl<W: AsyncWrite + Drop> FrameSink<W> {
         ensures format { header_of result ≡ usual_header }
         ensures left { left_of (frames_below result) ≡ [] }
     {
-        FrameSink::with_header(alloc, writer, FrameHeader::FourBytes(ByteOrder::BigEndian))
+        FrameSink::with_header(alloc, writer, FrameHeader::default())
     }
 
     /// The sink over this writer, of frames whose length is reported in this way. Nothing is sent
