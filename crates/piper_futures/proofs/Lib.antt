@@ -3,8 +3,7 @@ pub mod InThreads
 pub mod DrainingOn
 pub mod Failing
 pub mod FillingOn
-pub mod FramesRun
-pub mod LinesRun
+pub mod PiecesRun
 pub mod PiecesSent
 pub mod ReadingOn
 pub mod UntilOn

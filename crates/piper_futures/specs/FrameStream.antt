@@ -1,5 +1,5 @@
 -- What a stream of frames has.
-use Rattle.std.specs.Prelude.{◌≡◌, ℕ, ◌<◌, ◌⊎◌, Bool, true, false, List, length, Option, Some, None, Ok, Err}
+use Rattle.std.specs.Prelude.{◌≡◌, ℕ, ◌<◌, ◌≤◌, ◌⊎◌, Bool, true, false, List, length, Option, Some, None, Ok, Err}
 use Rattle.futures.specs.Runs.{EndsIf}
 use Rattle.futures.specs.declared.task.Poll.{Poll}
 use Rattle.futures.specs.declared.task.Poll.TheVariants.{Ready, Pending}
@@ -8,9 +8,10 @@ use Rattle.piper.specs.declared.error.PipeError.{PipeError}
 use Rattle.piper_lines.specs.FrameReader.{reader_of, format_of, kept_of, header_of, body_of, header_room_of, body_room_of}
 use Rattle.piper_lines.specs.Refusals.{IsReported, LacksFrameRoom}
 use Rattle.piper_lines.specs.Stays.{Pends}
-use Rattle.piper_futures.specs.FrameRuns.{FrameRuns}
-use Rattle.piper_futures.specs.LineRuns.{Item}
-use Rattle.piper_futures.specs.Told.{IsOfFrame}
+use Rattle.piper_lines.specs.Frame.{frame_bytes}
+use Rattle.piper_futures.specs.PieceRuns.{Item, PieceRuns}
+use Rattle.piper_futures.specs.Told.{IsOfFrame, IsOfKept, IsOfReader}
+use Rattle.piper_lines.specs.declared.header.FrameHeader.{FrameHeader}
 use Rattle.piper_lines.specs.declared.frame_reader.Frames.{Frames}
 use Rattle.piper_futures.specs.declared.frame_stream.FrameStream.{FrameStream}
 
@@ -26,12 +27,23 @@ frame_limit_of stream = stream.limit
 abbrev pub is_over : {R : Type 0} → FrameStream R → Bool
 is_over stream = stream.is_ended
 
+-- an item after which more may come: a body no longer than the limit, or an error of the reader's
+abbrev pub FrameGoes : {R : Type 0} → (R → Context → PipeError → Type 0) → ℕ → Item → Type 0
+FrameGoes fails limit (Ok body) = length body.items ≤ limit
+FrameGoes fails limit (Err e) = IsOfReader fails e
+
+-- the last one: an error of the frame of which these bytes are left
+abbrev pub FrameCloses : FrameHeader → ℕ → List ℕ → List ℕ → Bool → Item → Type 0
+FrameCloses format limit left known saw (Ok body) = ⊥
+FrameCloses format limit left known saw (Err e) = IsOfKept format limit left known saw e
+
 -- what may come from it
 abbrev pub YieldsFrames : {R : Type 0} → (R → List ℕ) → (R → List ℕ) → (R → Bool)
     → (R → Context → PipeError → Type 0) → FrameStream R → List Item → Option Item → Type 0
 YieldsFrames taken known saw fails stream =
-    EndsIf stream.is_ended (FrameRuns taken known saw fails (format_of stream.frames) stream.limit
-    (reader_of stream.frames) (kept_of stream.frames))
+    EndsIf stream.is_ended (PieceRuns (FrameGoes fails stream.limit)
+    (FrameCloses (format_of stream.frames) stream.limit) taken known saw
+    (frame_bytes (format_of stream.frames)) (reader_of stream.frames) (kept_of stream.frames))
 
 -- why a poll failed: the frame that is kept is too long, or was cut off, and the stream is over; or
 -- the reader failed, or memory was refused, and it goes on. And why one is pending: the reader has

@@ -1,16 +1,13 @@
 pub mod Carrying
 pub mod Draining
 pub mod Filling
-pub mod FrameRuns
 pub mod FrameStream
-pub mod LineRuns
 pub mod LineStream
 pub mod Moving
+pub mod PieceRuns
 pub mod Polling
 pub mod Reading
 pub mod Sent
-pub mod SentFrames
-pub mod SentLines
 pub mod Threads
 pub mod Told
 pub mod Until

@@ -1,5 +1,5 @@
 -- What a stream of lines has.
-use Rattle.std.specs.Prelude.{◌≡◌, ℕ, Bool, false, List, Option, Some, None, Ok, Err, ⊤}
+use Rattle.std.specs.Prelude.{◌≡◌, ℕ, ◌<◌, Bool, false, List, [], length, Option, Some, None, Ok, Err, ⊤}
 use Rattle.futures.specs.Runs.{EndsIf}
 use Rattle.futures.specs.declared.task.Poll.{Poll}
 use Rattle.futures.specs.declared.task.Poll.TheVariants.{Ready, Pending}
@@ -9,7 +9,11 @@ use Rattle.piper_lines.specs.LineReader.{reader_of, end_of, kept_of, room_of}
 use Rattle.piper_lines.specs.Refusals.{IsReported, LacksRoom}
 use Rattle.piper_lines.specs.Stays.{WaitsForBytes}
 use Rattle.piper_lines.specs.declared.line_reader.Lines.{Lines}
-use Rattle.piper_futures.specs.LineRuns.{Item, LineRuns}
+use Rattle.piper_lines.specs.AtEnd.{AtEnd}
+use Rattle.piper_lines.specs.Line.{Lacks}
+use Rattle.piper_lines.specs.Split.{IsPiece}
+use Rattle.piper_futures.specs.PieceRuns.{Item, PieceRuns}
+use Rattle.piper_futures.specs.Told.{IsOfReader}
 use Rattle.piper_futures.specs.declared.line_stream.LineStream.{LineStream}
 
 -- the lines below
@@ -24,11 +28,23 @@ limit_of stream = stream.limit
 abbrev pub ended_of : {R : Type 0} → LineStream R → Bool
 ended_of stream = stream.is_ended
 
+-- an item after which more may come: a piece, or an error of the reader's
+abbrev pub LineGoes : {R : Type 0} → (R → Context → PipeError → Type 0) → ℕ → ℕ → Item → Type 0
+LineGoes fails end limit (Ok line) = IsPiece end limit line.items
+LineGoes fails end limit (Err e) = IsOfReader fails e
+
+-- the last one: what follows the last line
+abbrev pub LineCloses : ℕ → List ℕ → List ℕ → Bool → Item → Type 0
+LineCloses end left known saw (Ok line) =
+    Lacks end line.items × (0 < length line.items) × (left ≡ []) × AtEnd known saw
+LineCloses end left known saw (Err e) = ⊥
+
 -- what may come from it
 abbrev pub YieldsLines : {R : Type 0} → (R → List ℕ) → (R → List ℕ) → (R → Bool)
     → (R → Context → PipeError → Type 0) → LineStream R → List Item → Option Item → Type 0
 YieldsLines taken known saw fails stream =
-    EndsIf stream.is_ended (LineRuns taken known saw fails (end_of stream.lines) stream.limit
+    EndsIf stream.is_ended (PieceRuns (LineGoes fails (end_of stream.lines) stream.limit)
+    (LineCloses (end_of stream.lines)) taken known saw (λ line. line)
     (reader_of stream.lines) (kept_of stream.lines))
 
 -- why a poll failed: the reader did, or memory was refused, and the stream goes on; and why one is

@@ -284,7 +284,7 @@ where
     same_bytes(rt, printed.expect(rt, "memory").as_bytes(), wanted);
     let printed = format!(in alloc; "{:?}", WriteSink::new(alloc, writer));
     let wanted =
-        b"WriteSink { writer: OwnedWriter(Writer { capacity: 8, room: 6, closed: true }), written: 0, of: 0 }";
+        b"PieceSink { writer: OwnedWriter(Writer { capacity: 8, room: 6, closed: true }), framing: AsItIs, written: 0, of: 0 }";
     same_bytes(rt, printed.expect(rt, "memory").as_bytes(), wanted);
 }
 

@@ -1,7 +1,7 @@
 -- The trait says less: what was sent stays so also where a poll failed.
 use Rattle.std.proofs.Common.{rules}
 use Rattle.piper_futures.proofs.PiecesSent.{unless_failed}
-use Rattle.piper_futures.proofs.write_sink.frame_sink.FrameSinkSinkVecU8.TheImpl.Goals as goal
+use Rattle.piper_futures.proofs.piece_sink.PieceSinkSinkVecU8.TheImpl.Goals as goal
 
 pub poll_ready-tells : goal.poll_ready-tells
 poll_ready-tells g w c = record {
