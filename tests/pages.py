@@ -36,7 +36,7 @@ from pathlib import Path
 
 TOP = Path(__file__).resolve().parent.parent
 GUIDE = "docs/USING.md"
-EXAMPLES = [f"docs/api/piper_{name}.md" for name in ("futures", "streams", "duplex")]
+EXAMPLES = [f"docs/api/piper_{name}.md" for name in ("futures", "duplex")]
 PAGES = ["README.md", GUIDE, "docs/PROVING.md", "CONTRIBUTING.md", *EXAMPLES]
 SETUP = "A repository of your own"
 FILES = ("rust", "c", "toml", "antt")

@@ -11,7 +11,7 @@ here=$(cd "$(dirname "$0")" && pwd)
 . "$here/trying.bash"
 room=$(mktemp -d)
 trap 'rm -rf "$room"' EXIT
-programs='piper_pump piper_stress piper_bench piper_compare duplex_echo example_lines example_order'
+programs='piper_pump piper_stress piper_bench piper_compare duplex_echo example_order'
 for program in $programs piper_replay; do
     cp "${1:-$here/../crates/$program/out}/$program" "$room/" || exit 2
     chmod 755 "$room/$program"

@@ -20,8 +20,8 @@ from api.words import anchor  # noqa: E402
 DATA = Path(__file__).resolve().parent / "api"
 PAGES = TOP / "docs/api"
 # The crates with a page, lower ones first.
-CRATES = ["piper", "piper_lines", "piper_futures", "piper_streams", "piper_duplex",
-          "piper_transfer", "piper_tokio", "piper_ring", "piper_machine"]
+CRATES = ["piper", "piper_lines", "piper_futures", "piper_duplex", "piper_transfer",
+          "piper_tokio", "piper_ring", "piper_machine"]
 # Of `piper_machine`: modules that its page says in words.
 IN_WORDS = ("index", "destination", "examples")
 HANDLES = ("Reader", "Writer")

@@ -3,6 +3,8 @@ pub mod InThreads
 pub mod DrainingOn
 pub mod Failing
 pub mod FillingOn
+pub mod PiecesRun
+pub mod PiecesSent
 pub mod ReadingOn
 pub mod UntilOn
 pub mod WritingOn

@@ -1,9 +1,14 @@
 pub mod Carrying
 pub mod Draining
 pub mod Filling
+pub mod FrameStream
+pub mod LineStream
 pub mod Moving
+pub mod PieceRuns
 pub mod Polling
 pub mod Reading
+pub mod Sent
 pub mod Threads
+pub mod Told
 pub mod Until
 pub mod Writing

@@ -16,11 +16,9 @@ use futures::task::{Context, Poll};
 use piper::PipeError;
 use piper::io::AsyncBufRead;
 use piper::like::StdWriter;
+use piper_lines::MOST_PIECES;
 use std::fmt::{self, Debug, Formatter};
 use std::io::{self, Write};
-
-/// How many pieces a poll moves at most, so that other tasks get their turn.
-const MOST_PIECES: u32 = 64;
 
 /// The future of [`drain_into`].
 #[derive(Drop)]

@@ -1,13 +1,17 @@
-//! The futures as calls on what they read or write.
-ghost use Rattle.std.specs.Prelude.{◌≤◌, length};
+//! The futures, and the stream of lines, as calls on what they read or write.
+ghost use Rattle.std.specs.Prelude.{◌≡◌, ◌<◌, ◌≤◌, [], length, false};
 ghost use Rattle.piper_futures.specs.Draining.{StartsDraining};
 ghost use Rattle.piper_futures.specs.Filling.{StartsFilling};
+ghost use Rattle.piper_futures.specs.LineStream.{lines_of, limit_of, ended_of};
 ghost use Rattle.piper_futures.specs.Reading.{StartsReading, StartsReadingUpTo, StartsReadingAll};
 ghost use Rattle.piper_futures.specs.Until.{StartsReadingThrough};
+ghost use Rattle.piper_lines.specs.Line.{line_feed};
+ghost use Rattle.piper_lines.specs.LineReader.{reader_of, end_of, kept_of};
 ghost use Rattle.piper_futures.specs.Writing.{StartsWriting, StartsWritingToClose, StartsFlushing, StartsClosing};
 
 use crate::drain::{Draining, drain_into};
 use crate::fill::{AsyncFill, Filling, fill_from};
+use crate::line_stream::LineStream;
 use crate::read_all::{ReadToEnd, read_to_end};
 use crate::read_some::{ReadOnce, read};
 use crate::read_through::{ReadUntil, read_until};
@@ -16,6 +20,7 @@ use crate::write_and_close::{WriteAllAndClose, write_all_and_close};
 use crate::write_end::{Closing, Flushing, close, flush};
 use crate::write_whole::{WriteAll, write_all};
 use piper::io::{AsyncBufRead, AsyncRead, AsyncWrite};
+use std::alloc::Global;
 use std::io::{Read, Write};
 
 /// Calls of a reader, each a future that owns it and gives it back.
@@ -32,7 +37,8 @@ pub trait AsyncReadExt: AsyncRead {
 
 impl<R: AsyncRead> AsyncReadExt for R {}
 
-/// Calls of a reader that lends what it has, each a future that owns it and gives it back.
+/// Calls of a reader that lends what it has: futures that own it and give it back, and the stream of
+/// its lines.
 pub trait AsyncBufReadExt: AsyncBufRead {
     /// As the function [`read_exact`].
     final fn read_exact(self, bytes: Vec<u8>, size: usize) -> ReadExact<Self>
@@ -69,6 +75,22 @@ pub trait AsyncBufReadExt: AsyncBufRead {
         ensures { StartsDraining result self dest }
     {
         drain_into(self, dest)
+    }
+
+    /// The lines of at most `limit` bytes that end with LF, as `LineStream::new` gives them.
+    ///
+    /// Requires: `limit`, which counts the LF, is at least 1.
+    final fn lines(self, alloc: Global, limit: usize) -> LineStream<Self>
+    where
+        Self: Sized + Drop,
+        requires { 0 < limit }
+        ensures reader { reader_of (lines_of result) ≡ self }
+        ensures end { end_of (lines_of result) ≡ line_feed }
+        ensures kept { kept_of (lines_of result) ≡ [] }
+        ensures limit { limit_of result ≡ limit }
+        ensures open { ended_of result ≡ false }
+    {
+        LineStream::new(alloc, self, limit)
     }
 }
 

@@ -16,10 +16,8 @@ use futures::Future;
 use futures::task::{Context, Poll};
 use piper::PipeError;
 use piper::io::AsyncBufRead;
+use piper_lines::MOST_PIECES;
 use std::fmt::{self, Debug, Formatter};
-
-/// How many pieces a poll takes at most, so that other tasks get their turn.
-const MOST_PIECES: u32 = 64;
 
 /// The future of [`read_to_end`].
 #[derive(Drop)]

@@ -16,10 +16,8 @@ use futures::task::{Context, Poll};
 use memchr::memchr;
 use piper::PipeError;
 use piper::io::AsyncBufRead;
+use piper_lines::MOST_PIECES;
 use std::fmt::{self, Debug, Formatter};
-
-/// How many pieces a poll takes at most, so that other tasks get their turn.
-const MOST_PIECES: u32 = 64;
 
 /// The future of [`read_until`].
 #[derive(Drop)]

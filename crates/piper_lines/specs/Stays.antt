@@ -2,6 +2,7 @@
 use Rattle.std.specs.Prelude.{◌≡◌, ◌⊎◌, ◌+◌, ◌≤◌, Bool, true, false, List, [], ℕ}
 use Rattle.futures.specs.declared.task.context.Context.{Context}
 use Rattle.piper.specs.Contexts.{AsksAgain}
+use Rattle.piper_lines.specs.declared.gather.TheConstants.{MOST_PIECES}
 
 -- a reader is told of no more than before, and whoever it has woken stays woken
 abbrev pub ReaderStays : {R : Type 0} → (R → Bool) → (R → Type 0) → R → R → Type 0
@@ -17,10 +18,10 @@ abbrev pub WaitsForBytes : {R : Type 0} → (R → List ℕ) → (R → Bool) �
     → Context → Type 0
 WaitsForBytes known knows_end waits r cx = (known r ≡ []) × (knows_end r ≡ false) × waits r cx
 
--- how far a poll has come where it asks for another one itself: by 64 pieces, each of a byte at
--- least, or by 64 lines or frames
+-- how far a poll has come where it asks for another one itself: by as many pieces as one may take,
+-- each of a byte at least, or by as many lines or frames
 abbrev pub WentOn : ℕ → ℕ → Type 0
-WentOn before after = before + 64 ≤ after
+WentOn before after = before + MOST_PIECES ≤ after
 
 -- why a poll is pending: its reader has nothing to give yet, or the poll went on by Moved, and
 -- asked for another one itself

@@ -7,9 +7,6 @@ mod all_lines;
 pub use all_frames::poll_frames;
 pub use all_lines::poll_lines;
 
-/// How many lines or frames a poll takes at most, so that other tasks get their turn.
-const MOST_PIECES: u32 = 64;
-
 /// Why a poll for all frames ended.
 #[derive(Clone, Copy, Debug, PartialEq, Eq)]
 pub enum Collected {

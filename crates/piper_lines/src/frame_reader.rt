@@ -9,7 +9,7 @@ ghost use Rattle.piper_lines.specs.Header.{header_size, encoded_length, usual_he
 ghost use Rattle.piper_lines.specs.Stays.{Pends, ReaderStays, WentOn};
 
 use crate::gather::{fill_up, pass_over};
-use crate::header::{ByteOrder, FrameHeader};
+use crate::header::FrameHeader;
 use futures::task::{Context, Poll};
 use piper::PipeError;
 use piper::io::AsyncBufRead;
@@ -65,7 +65,7 @@ impl<R: AsyncBufRead> Frames<R> {
         ensures kept { kept_of result ≡ [] }
         ensures skips { skips_of result ≡ 0 }
     {
-        Frames::with_header(alloc, reader, FrameHeader::FourBytes(ByteOrder::BigEndian))
+        Frames::with_header(alloc, reader, FrameHeader::default())
     }
 
     /// The frames whose length is reported in this way. Nothing is kept yet, and no memory is asked

@@ -9,7 +9,7 @@ ghost use Rattle.piper.specs.Polls.{IfReadyErr};
 ghost use Rattle.piper_lines.specs.Sends.{Sends};
 ghost use Rattle.piper_lines.specs.Stays.{WriterStays};
 
-use crate::header::{ByteOrder, FrameHeader};
+use crate::header::FrameHeader;
 use crate::length_bytes::LengthBytes;
 use crate::write_all::{Written, poll_write_both};
 use futures::task::{Context, Poll};
@@ -47,7 +47,7 @@ impl<'a> WriteFrame<'a> {
         requires { length body.now < 2 ^ 32 }
         ensures { left_of result ≡ frame_bytes usual_header body.now }
     {
-        WriteFrame::begin(FrameHeader::FourBytes(ByteOrder::BigEndian), body)
+        WriteFrame::begin(FrameHeader::default(), body)
     }
 
     /// The frame with this body, whose length is reported in this way.

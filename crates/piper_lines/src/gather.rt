@@ -12,8 +12,9 @@ use futures::task::{Context, Poll};
 use piper::PipeError;
 use piper::io::AsyncBufRead;
 
-/// How many pieces a poll passes over at most, so that other tasks get their turn.
-const MOST_PIECES: u32 = 64;
+/// How many pieces a poll takes at most, so that other tasks get their turn. A piece is what a
+/// reader lends at once, or a line, or a frame.
+pub const MOST_PIECES: u32 = 64;
 
 /// Takes bytes from the reader to the end of `gathered`, until that has `size` bytes.
 ///

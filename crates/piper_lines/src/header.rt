@@ -27,6 +27,17 @@ pub enum FrameHeader {
     EightBytes(ByteOrder),
 }
 
+/// Four bytes, the most significant first.
+impl Default for FrameHeader {
+    ghost use Rattle.piper_lines.specs.Header.{usual_header};
+
+    ghost is_default = { λ header. header ≡ usual_header };
+
+    fn default() -> FrameHeader {
+        FrameHeader::FourBytes(ByteOrder::BigEndian)
+    }
+}
+
 impl FrameHeader {
     ghost use Rattle.piper_lines.specs.Shown.{shown_of};
 

@@ -15,7 +15,7 @@ mod write_all;
 pub use collect::{Collected, poll_frames, poll_lines};
 pub use frame_reader::{FrameAnswer, Frames};
 pub use frame_writer::{BodyTooLong, WriteFrame};
-pub use gather::fill_up;
+pub use gather::{MOST_PIECES, fill_up};
 pub use header::{ByteOrder, FrameHeader};
 pub use length_bytes::LengthBytes;
 pub use line_reader::{LineAnswer, Lines};

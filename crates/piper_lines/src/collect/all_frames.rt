@@ -10,8 +10,9 @@ ghost use Rattle.piper_lines.specs.Refusals.{IsReported, LacksFrameRoom};
 ghost use Rattle.piper_lines.specs.Stays.{Pends, ReaderStays, WentOn};
 ghost use Rattle.piper.specs.Polls.{IfReadyErr};
 
-use super::{Collected, MOST_PIECES, push};
+use super::{Collected, push};
 use crate::frame_reader::{FrameAnswer, Frames};
+use crate::gather::MOST_PIECES;
 use futures::task::{Context, Poll};
 use piper::PipeError;
 use piper::io::AsyncBufRead;

@@ -12,7 +12,8 @@ ghost use Rattle.piper_lines.specs.Refusals.{IsReported, LacksRoom};
 ghost use Rattle.piper_lines.specs.Collected.{rest_of};
 ghost use Rattle.piper_lines.specs.Stays.{Pends, ReaderStays, WentOn};
 
-use super::{MOST_PIECES, push};
+use super::push;
+use crate::gather::MOST_PIECES;
 use crate::line_reader::Lines;
 use futures::task::{Context, Poll};
 use piper::PipeError;

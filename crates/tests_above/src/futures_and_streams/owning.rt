@@ -10,9 +10,11 @@ use futures::task::Poll;
 use futures::test::MockTask;
 use piper::io::Copied;
 use piper::{OwnedReader, OwnedWriter, PipeError, owned_pipe};
-use piper_futures::{close, copy, drain_into, fill_from, read_to_end, read_until, write_all};
+use piper_futures::{
+    FrameSink, FrameStream, LineSink, LineStream, WriteSink, close, copy, drain_into, fill_from,
+    read_to_end, read_until, write_all,
+};
 use piper_lines::{ByteOrder, FrameAnswer, FrameHeader, Frames, into_line_text};
-use piper_streams::{FrameSink, FrameStream, LineSink, LineStream, WriteSink};
 use std::alloc::AllocGlobal;
 use std::io::{self, ErrorKind};
 use std::process::Abort;
@@ -282,7 +284,7 @@ where
     same_bytes(rt, printed.expect(rt, "memory").as_bytes(), wanted);
     let printed = format!(in alloc; "{:?}", WriteSink::new(alloc, writer));
     let wanted =
-        b"WriteSink { writer: OwnedWriter(Writer { capacity: 8, room: 6, closed: true }), written: 0, of: 0 }";
+        b"PieceSink { writer: OwnedWriter(Writer { capacity: 8, room: 6, closed: true }), framing: AsItIs, written: 0, of: 0 }";
     same_bytes(rt, printed.expect(rt, "memory").as_bytes(), wanted);
 }
 

@@ -2,11 +2,10 @@
 use crate::compare::same;
 use piper::{OutOfMemory, PipeError, owned_pipe};
 use piper_futures::{
-    Failed, copy, drain_into, fill_from, read, read_exact, read_until, write_all,
-    write_all_and_close,
+    Failed, FrameStream, LineStream, copy, drain_into, fill_from, read, read_exact, read_until,
+    write_all, write_all_and_close,
 };
 use piper_lines::BodyTooLong;
-use piper_streams::{FrameStream, LineStream};
 use std::alloc::AllocGlobal;
 use std::fmt::{Debug, Display};
 use std::io::ErrorKind;

@@ -1,3 +1,0 @@
-pub mod FramesRun
-pub mod LinesRun
-pub mod PiecesSent
