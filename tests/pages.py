@@ -315,7 +315,7 @@ def main():
         blocks += [block for section in found for block in section.blocks]
         named = [s for s in found if word in s.heading.lower() or s.heading == SETUP]
         sections += [s for s in named if any(block.word != "text" for block in s.blocks)]
-    others = [TOP / name for name in ("README.md", "CONTRIBUTING.md", "SECURITY.md", "rust/README.md", PAST)]
+    others = [TOP / name for name in ("README.md", "CONTRIBUTING.md", "SECURITY.md", "rust/README.md", "examples/README.md", PAST)]
     pages = others + sorted((TOP / "docs").glob("*.md")) + sorted((TOP / "docs/api").glob("*.md"))
     wrong += [link for page in pages for link in wrong_links(page)]
     wrong += [name for page in pages if page.name != PAST for name in wrong_names(page)]

@@ -1,9 +1,10 @@
 #!/usr/bin/env python3
-"""Writes docs/api from the sources: a page for each crate, with its public items in the form of
-docs.rs. What a call does, and its labels (as `Returns: ..`), are the comment above it; lines of
-use are from crates that are tested; tools/api has the words of a page, and what holds of all its
-calls. It also sets the line of each clause that README.md and docs link. `tools/write_api.py
---check` writes nothing, and fails if a page differs.
+"""Writes docs/api from the sources: a page or some for each crate, with its public items in the form
+of docs.rs, and an index of all names. What a call does, and its labels (as `Returns: ..`), are the
+comment above it; lines of use are from crates that are tested; tools/api has the words of a page, what
+holds of all its calls, and which page has what (layout.py). It also sets the line of each clause, and
+the page of each call, that README.md and docs link. `tools/write_api.py --check` writes nothing, and
+fails if a page differs.
 """
 import difflib
 import re
@@ -12,6 +13,8 @@ from pathlib import Path
 
 sys.dont_write_bytecode = True
 from api import clause_links  # noqa: E402
+from api.layout import CRATES, MOST, SECTIONS, WHOLE  # noqa: E402
+from api.names import index  # noqa: E402
 from api.page import HEADER, Doc, Page, Wrong, listed, spaced  # noqa: E402
 from api.sources import (TOP, about, bare, exports, function_text, ghosts, impls, inner,  # noqa: E402
                          items_of, parts, with_types)
@@ -19,26 +22,10 @@ from api.words import anchor  # noqa: E402
 
 DATA = Path(__file__).resolve().parent / "api"
 PAGES = TOP / "docs/api"
-# The crates with a page, lower ones first.
-CRATES = ["piper", "piper_lines", "piper_futures", "piper_duplex", "piper_transfer",
-          "piper_tokio", "piper_ring", "piper_machine"]
 # Of `piper_machine`: modules that its page says in words.
 IN_WORDS = ("index", "destination", "examples")
 HANDLES = ("Reader", "Writer")
 OWNERS = {"OwnedReader": "Reader", "OwnedWriter": "Writer", "OwnedEnd": "End"}
-# Of `piper`: what stands where on its page. Items in none of these sections come before the last.
-SECTIONS = {
-    "Open a pipe": ["owned_pipe", "pipe", "DEFAULT_SEED"],
-    "The handles": ["Reader", "Writer"],
-    "Owners": ["OwnedReader", "OwnedWriter"],
-    "Errors": ["OutOfMemory", "PipeError", "Inner"],
-    "Copies, and traits of readers and writers": ["poll_copy", "Copied", "AsyncRead", "AsyncBufRead",
-                                                  "AsyncWrite"],
-    "Sources and destinations of fills and drains": [
-        "ReadLike", "WriteLike", "ReadBytes", "WriteBytes", "StdReader", "StdWriter", "StdRead",
-        "StdWrite"],
-    "Calls for proofs": ["FinishedReader", "FinishedWriter"],
-}
 OF_RING = ["LastReadMark", "ReadEnd", "ReadMark", "WriteEnd", "WriteMark", "open_ring"]
 # The order of a handle's calls in the table and on the page; others follow as in the sources.
 ORDER = ["poll", "peek_buf", "write_buf", "consume", "produced", "try_drain", "try_fill",
@@ -46,16 +33,6 @@ ORDER = ["poll", "peek_buf", "write_buf", "consume", "produced", "try_drain", "t
          "poll_fill_with", "try_drain_with", "try_fill_with", "poll_close", "is_closed", "len",
          "is_empty", "is_full", "capacity", "drop"]
 FOR_PROOFS = ["mark", "observe", "observe_last", "meet", "meet_finished", "end"]
-# An example for a type whose calls need one another: a file, and a function of it.
-WHOLE = {
-    "Reader": ("crates/tests_pipe/src/examples/handles.rt", "poll_fill_bytes_and_poll_drain_bytes"),
-    "Writer": ("crates/tests_pipe/src/examples/handles.rt", "write_buf_and_peek_buf"),
-    "OwnedReader": ("crates/tests_pipe/src/examples/ends.rt", "owners"),
-    "Lines": ("crates/tests_pipe/src/examples/lines.rt", "poll_line"),
-    "Frames": ("crates/tests_pipe/src/examples/frames.rt", "poll_frame"),
-    "End": ("crates/tests_pipe/src/examples/duplex.rt", "bytes_go_both_ways"),
-    "OwnedEnd": ("crates/tests_pipe/src/examples/duplex.rt", "sends_and_goes"),
-}
 
 
 def page_of(crate):
@@ -101,9 +78,13 @@ def impl_call(page, name, trait, method, is_foreign):
     made_by = re.match(r"The future of `(\w+)`", Doc(item_named(page.crate, name).doc).summary())
     if made_by and not doc.paragraphs:
         doc.paragraphs = [f"[`{made_by[1]}`](#{made_by[1]}) says what it gives."]
+        doc.labels["Requires"] = "The future was made by that call, and has not given its result yet."
     of_trait, there = (None, None) if is_foreign else trait_named(trait)
+    above = next(one for one in inner(of_trait) if one.name == method.name) if of_trait else None
+    asks = above and "requires" in " ".join(method.clauses() or above.clauses())
+    if asks and "Requires" not in doc.labels:
+        doc.labels |= {key: said for key, said in Doc(above.doc).labels.items() if key == "Requires"}
     if of_trait and not doc.paragraphs:
-        above = next(one for one in inner(of_trait) if one.name == method.name)
         there = "" if there == page.name else there
         where = f"{there}#{anchor(f'{trait}::{method.name}')}"
         doc.paragraphs = [f"As [`{trait}::{method.name}`]({where}): {Doc(above.doc).summary()}"]
@@ -124,12 +105,12 @@ def a_type(page, crate, name, path):
     page.lines += ["", *parts(item)] if parts(item) and item.kind != "const" else []
     page.group(f"[`{name}`](#{anchor(name)})", doc.summary())
     if name in WHOLE:
-        file, function = WHOLE[name]
-        text = function_text(file, function)
-        if not text:
-            raise Wrong(f"{file} has no function {function}, the example of {name}")
-        page.lines += ["", f"An example, from [a tested crate](../../{file}):"]
-        page.code(text)
+        file, *functions = WHOLE[name]
+        texts = [function_text(file, function) for function in functions]
+        if not all(texts):
+            raise Wrong(f"{file} lacks a function of {functions}, the example of {name}")
+        page.lines += ["", f"Its use from first to last, from [a tested crate](../../{file}):"]
+        page.code([line for text in texts for line in ["", *text]][1:])
     elif item.kind in ("struct", "enum"):
         page.example("", name)
     if doc.of_clauses and item.kind != "trait":
@@ -229,11 +210,12 @@ def piper_page():
         group = [name for name in group if name in names]
         if not group:
             continue
-        page.heading(2, title, False)
         page.group(f"**{title}**")
         if title == "Calls for proofs":
+            page.begin("", title)
             proofs(page)
         for name in group:
+            page.begin(name, title)
             any_item(page, names[name][0], name, names[name][1])
     return page
 
@@ -262,20 +244,24 @@ def crate_page(crate):
                            ("Traits", ("trait",))):
         group = [name for name in names if kinds[name] in of_kind]
         if group:
-            page.heading(2, title, False)
             page.group(f"**{title}**")
         for name in group:
+            page.begin(name, title)
             any_item(page, names[name][0], name, names[name][1])
+    page.turn_to(page.name)
     told(page, f"examples/{crate}.md")
     return page
 
 
 def start_page(pages):
     """The first page."""
-    lines = ["# API reference", "", HEADER, "", "## The pages", ""]
+    lines = ["# API reference", "", HEADER, "", "## The pages", "",
+             "- [Index by name](names.md): every entry of all pages."]
     for crate, page in zip(CRATES, pages):
         first = Doc(about(crate)).summary()
-        lines.append(f"- [`{crate}`]({page.name}): {first[0].lower() + first[1:]}")
+        parts = [f"[{title.split(': ')[1]}]({name})" for name, title in page.titles.items() if name != page.name]
+        also = f" Its parts: {', '.join(parts)}." if parts else ""
+        lines.append(f"- [`{crate}`]({page.name}): {first[0].lower() + first[1:]}{also}")
     lines += ["- [scripts](scripts.md): the language that `piper_replay` and `piper_compare` play.", "",
               (DATA / "start.md").read_text().rstrip()]
     return "\n".join(lines) + "\n"
@@ -289,12 +275,28 @@ def scripts_page():
     return page
 
 
+def aimed(text, file, pages):
+    """A page's text. A link to an entry leads to the page of the crate that has it."""
+    homes = {name: page.homes for page in pages for name in page.bodies}
+
+    def one(link):
+        above, name, where = link.groups()
+        home = homes.get(name or file, {}).get(where, name or file)
+        return f"]({'' if home == file else above + home}#{where})"
+    return re.sub(r"\]\(((?:docs/)?(?:api/)?)([\w-]+\.md)?#([\w-]+)\)", one, text)
+
+
 def written():
     """Each page by its name."""
     pages = [piper_page() if crate == "piper" else crate_page(crate) for crate in CRATES]
-    found = {f"docs/api/{page.name}": page.text() for page in [*pages, scripts_page()]}
+    found = {name: text for page in [*pages, scripts_page()] for name, text in page.texts().items()}
+    found |= {"README.md": start_page(pages), "names.md": index(pages, HEADER)}
+    reference = {f"docs/api/{name}": aimed(text, name, pages) for name, text in found.items()}
+    for name, text in reference.items():
+        if len(text.encode()) > MOST:
+            raise Wrong(f"{name}: more than {MOST} bytes: tools/api/layout.py gives its crate a page more")
     linking = {name: clause_links.with_lines((TOP / name).read_text()) for name in clause_links.PAGES}
-    return {"docs/api/README.md": start_page(pages), **found, **linking}
+    return reference | {name: aimed(text, name, pages) for name, text in linking.items()}
 
 
 def differing(name, text):

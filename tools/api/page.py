@@ -1,7 +1,8 @@
-"""A page in Markdown: tables of its calls, and items with signature, facts, example and clauses."""
+"""The pages of a crate in Markdown: tables of its calls, and items with signature, facts, example and clauses."""
 import re
 
 from .examples import excerpt
+from .layout import PARTS
 from .words import anchor, block
 
 LABELS = ["Requires", "Returns", "Pending", "Errors", "Wakes", "Cancel safety"]
@@ -57,17 +58,38 @@ def listed(names):
 
 
 class Page:
-    """One page. Rows for the table of calls are kept until the page is whole."""
+    """A crate's page, with the pages that have a part of it. Rows for the table of calls are kept until
+    all is there. `lines` are those of the page that is written on now."""
 
     def __init__(self, crate, name, title):
         self.crate, self.name, self.title = crate, name, title
-        self.lines, self.seen, self.groups, self.table_at = [], set(), [], None
+        self.at, self.bodies, self.titles = name, {name: []}, {name: title}
+        self.parts = PARTS.get(crate, {})
+        self.homes, self.named, self.section_of = {}, [], {}
+        self.lines, self.groups, self.table_at = self.bodies[name], [], None
+
+    def turn_to(self, name):
+        """Writes on this page from now on."""
+        self.at, self.lines = name, self.bodies.setdefault(name, [])
+
+    def begin(self, item, section):
+        """Turns to the page that has this item, below the heading of its section."""
+        part = next((one for one, items in self.parts.items() if {item, section} & set(items)), None)
+        name = self.name.replace(".md", f"-{part.split()[-1].lower()}.md") if part else self.name
+        self.titles.setdefault(name, f"{self.title}: {part}")
+        self.turn_to(name)
+        if self.section_of.get(name) != section:
+            self.section_of[name] = section
+            self.homes.setdefault(anchor(section), name)
+            self.lines += ["", f"## {section}"]
 
     def heading(self, depth, text, is_code=True):
         where = anchor(text)
-        if where in self.seen:
+        if where in self.homes:
             raise Wrong(f"{self.name}: two headings have the anchor {where}")
-        self.seen.add(where)
+        self.homes[where] = self.at
+        if is_code:
+            self.named.append((text, self.at, where))
         self.lines += ["", "#" * depth + " " + (f"`{text}`" if is_code else text)]
 
     def group(self, title, summary=""):
@@ -89,11 +111,14 @@ class Page:
 
     def check_labels(self, item, title, doc):
         """A call says what it requires if a clause asks for something, and what it is pending for if it
-        may be; one that is as another says neither."""
+        may be. For one that is as another, and one of the ring, the clauses stand for words."""
+        asking = re.findall(r"^requires (?:\w+ )?\{ (.*?) \}$", "\n".join(item.clauses()), re.M | re.S)
         if self.crate == "piper_ring" or re.match(r"As |\[", " ".join(doc.paragraphs)):
+            if asking:
+                said = "; ".join(f"`{' '.join(clause.split())}`" for clause in asking)
+                doc.labels.setdefault("Requires", f"{said}.")
             return
-        asks = any(re.match("requires", line) for line in item.clauses())
-        if asks != ("Requires" in doc.labels):
+        if bool(asking) != ("Requires" in doc.labels):
             raise Wrong(f"{title}: a clause and the label Requires stand together, or neither")
         is_at_once = re.search("Ready at once|at once and always", " ".join(
             [*doc.paragraphs, doc.labels.get("Returns", "")]))
@@ -145,8 +170,15 @@ class Page:
                 lines.append(f"| [`{shown}`](#{where}) | {said} | {cell} |")
         return lines
 
-    def text(self):
-        head = [f"# {self.title}", "", HEADER]
-        at = len(self.lines) if self.table_at is None else self.table_at
+    def texts(self):
+        """Each page by its name: first the crate's own, with the table of all calls."""
+        own = self.bodies[self.name]
+        at = len(own) if self.table_at is None else self.table_at
         table = ["", "## Calls", *self.table()] if self.table() else []
-        return "\n".join(head + self.lines[:at] + table + self.lines[at:]) + "\n"
+        links = [f"[{self.titles[name].split(': ')[1]}]({name})" for name in self.bodies if name != self.name]
+        more = ["", f"On pages of their own: {', '.join(links)}."] if links else []
+        bodies = self.bodies | {self.name: own[:at] + more + table + own[at:]}
+        above = ["", f"[The crate's page]({self.name}) has the words, a table of all calls, and what holds of each."]
+        found = {name: lines if name == self.name else above + lines for name, lines in bodies.items()}
+        return {name: "\n".join([f"# {self.titles[name]}", "", HEADER, *lines]) + "\n"
+                for name, lines in found.items()}

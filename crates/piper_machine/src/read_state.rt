@@ -203,7 +203,7 @@ fn action(point: ReadPoint) -> Action
     }
 }
 
-// Where it leads that the writer was woken, or had no waker, and the answer if the call ends there.
+// The point after the writer was woken, or had no waker, and the answer if the call ends there.
 fn woke(next: AfterRead) -> (ReadPoint, Option<Answer>)
     ensures point { result.0 ≡ (read_done next).point }
     ensures answer { result.1 ≡ (read_done next).answer }
@@ -215,8 +215,8 @@ fn woke(next: AfterRead) -> (ReadPoint, Option<Answer>)
     }
 }
 
-// Where the step leads that comes next in a pipe of this capacity, by what it found, and the answer
-// if the call ends there.
+// The point after the next step, by what that found in a pipe of this capacity, and the answer if
+// the call ends there.
 fn after(point: ReadPoint, capacity: usize, found: Found) -> (ReadPoint, Option<Answer>)
     requires fits { SumFits (read_sum point) found }
     ensures point { result.0 ≡ (read_after capacity point found).point }

@@ -1,6 +1,6 @@
 //! Why a step or a run is refused.
 
-/// Why a step is refused. Where several reasons hold, the first in the order `Dropped`, `Busy` or
+/// Why a step is refused. If several reasons hold, the first in the order `Dropped`, `Busy` or
 /// `Idle`, `BadDraw`, `PastLent` or `PastPeek`, `Memory` is returned.
 #[derive(Clone, Copy, Debug, PartialEq, Eq)]
 pub enum StepRefusal {

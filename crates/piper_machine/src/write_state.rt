@@ -235,7 +235,7 @@ fn action(point: WritePoint) -> Action
     }
 }
 
-// Where it leads that the reader was woken, or had no waker, and the answer if the call ends there.
+// The point after the reader was woken, or had no waker, and the answer if the call ends there.
 fn woke(next: AfterWrite) -> (WritePoint, Option<Answer>)
     ensures point { result.0 ≡ (write_done next).point }
     ensures answer { result.1 ≡ (write_done next).answer }
@@ -248,8 +248,8 @@ fn woke(next: AfterWrite) -> (WritePoint, Option<Answer>)
     }
 }
 
-// Where the step leads that comes next in a pipe of this capacity and known room, by what it found,
-// and the answer if the call ends there.
+// The point after the next step, by what that found in a pipe of this capacity and known room, and
+// the answer if the call ends there.
 fn after(
     point: WritePoint,
     capacity: usize,

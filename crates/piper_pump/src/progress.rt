@@ -142,7 +142,7 @@ where
     Some(Progress::new(watched, outcome.take_name(rt)))
 }
 
-// Prints a line after each pause until the transfer is over, and then one of the whole. Where nobody
+// Prints a line after each pause until the transfer is over, and then one of the whole. Once nobody
 // reads them any more, it prints no more.
 fn watch<R>(rt: &R, outcome: &Outcome, watched: Watched, mut front: Front)
 where

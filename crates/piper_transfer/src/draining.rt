@@ -20,7 +20,7 @@ use std::io;
 use std::sync::Wait;
 use std::time::Clock;
 
-/// Empties the pipe as `drain_output` does, once the other side has begun. Where that one has not,
+/// Empties the pipe as `drain_output` does, once the other side has begun. If that one has not,
 /// it is given up; then the answer is `None` and nothing was done. If the output fails, the other
 /// side is told to end: bytes that it publishes until then stay in the pipe.
 pub(crate) fn drain_from<R, D>(

@@ -60,7 +60,7 @@ where
 }
 
 // Reads the input into the pipe, at most `chunk` bytes at a time, up to its end, and closes the
-// pipe. Where it is told to end, it leaves it open.
+// pipe. If it is told to end, it leaves it open.
 fn fill_in_turns<R, S>(
     rt: &R,
     turns: &Turns,

@@ -41,8 +41,8 @@ impl Halts {
     }
 }
 
-/// What a poll returned, if it did, and else one more halt. Where memory was refused it is none:
-/// the poll is made again.
+/// What a poll returned, if it did, and else one more halt. A poll that was refused memory is no
+/// halt: it is made again.
 fn reported<A: Drop>(polled: Poll<Result<A, PipeError>>, halts: &mut Halts) -> Option<A> {
     match polled {
         Poll::Ready(Ok(answer)) => return Some(answer),

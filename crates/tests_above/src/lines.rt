@@ -104,7 +104,7 @@ fn random_text(alloc: Global, rng: &mut Pcg32) -> Result<Vec<u8>, AllocError> {
 }
 
 /// Sends the text in random pieces, closes, and collects the lines: the last is what follows the
-/// last LF. Where memory is refused it polls again.
+/// last LF. If memory is refused it polls again.
 fn lines_through(
     task: &MockTask,
     alloc: Global,

@@ -140,7 +140,7 @@ fn a_copy_refused_for_want_of_memory_can_be_opened_again(rt: HostRuntime) {
     holds(&rt, &run.pipe, b"ab");
 }
 
-/// The run of those steps. Where it is refused for want of memory, it is made again.
+/// The run of those steps. If it is refused for want of memory, it is made again.
 fn run_at_last(rt: &impl Abort, alloc: Global) -> Run {
     let (pipe, log) = match run(alloc, 4, &PUBLISHED_AND_CONSUMED) {
         Ok(ran) => ran,

@@ -12,8 +12,8 @@ pub(crate) fn byte_at(index: usize) -> u8 {
     (index % 251) as u8
 }
 
-/// An end of a copy. It moves at most `most` bytes a call, but for the call `last`, which fails or
-/// moves none: one that is called again moves more.
+/// An end of a copy. It moves at most `most` bytes a call, except for the call `last`, which fails
+/// or moves none: one that is called again moves more.
 #[derive(Drop)]
 pub(crate) struct End {
     most: usize,

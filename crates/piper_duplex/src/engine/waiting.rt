@@ -62,7 +62,7 @@ where
     Still(())
 }
 
-/// Ends a turn of a reader, from which so many bytes were printed to the output. Where it is
+/// Ends a turn of a reader, from which so many bytes were printed to the output. If it is
 /// pending the reader is; or it asked for another turn itself, after 64 bytes at least or a write
 /// that was interrupted.
 pub(crate) fn end_printing<A, O, T>(

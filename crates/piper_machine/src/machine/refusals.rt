@@ -1,4 +1,4 @@
-//! Why a step would be refused, but for want of memory.
+//! Why a step would be refused, other than for want of memory.
 ghost use Rattle.std.specs.Prelude.{◌≡◌};
 ghost use Rattle.piper_machine.specs.Refusal.{reader_state, writer_state, state_of, cannot_begin, cannot_go, unless, or_else, past, refusal_of};
 
@@ -92,7 +92,7 @@ impl Machine {
         }
     }
 
-    /// Why the call would not be opened, but for want of memory.
+    /// Why the call would not be opened, other than for want of memory.
     pub fn call_refusal(&self, call: &Call) -> Option<StepRefusal>
         ensures { result ≡ refusal_of (Step.Begin call.now) self.now }
     {
@@ -103,7 +103,7 @@ impl Machine {
         )
     }
 
-    /// Why the step would be refused, but for want of memory.
+    /// Why the step would be refused, other than for want of memory.
     pub fn refusal(&self, step: &Step) -> Option<StepRefusal>
         ensures { result ≡ refusal_of step.now self.now }
     {
