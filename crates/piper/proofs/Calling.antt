@@ -4,7 +4,7 @@ use Rattle.futures.specs.Task.{Holds, Keeps, Lasting, Wakes}
 use Rattle.futures.specs.declared.task.context.Context.{Context}
 use Rattle.futures.specs.declared.task.waker.Waker.{Waker}
 use Rattle.piper.specs.Called.{AreCalled, CallsTaken, LetsOwnGo, WasCalled, WasLetGo}
-use Rattle.piper_ring.specs.Loads.{IsUnregistered, WasTaken, WasTakenBack}
+use Rattle.piper_ring.specs.Loads.{IsUnregistered, WasTaken, TookBack}
 use Rattle.piper_ring.specs.Shared.{Names}
 use Rattle.piper_ring.specs.SlotsView.{SlotsView}
 
@@ -36,11 +36,10 @@ grants (Some waker) old new keeps (inl lacks) = inl lacks
 grants (Some waker) old new keeps (inr own) = inr (wakes_on waker old new keeps own)
 
 -- what came out of the own slot was dropped
-pub lets_go : (a b : SlotsView) (waker : Option Waker) → b ≡ record a { waits = true } → a.waits ≡ true
-    → WasTakenBack b.names b.waits b.tickets waker → (waker ≡ None → IsUnregistered b.names b.waits)
-    → IfSome waker WasLetGo → LetsOwnGo a
-lets_go a b None same waits out none gone = inr (rw waits (rw same at none refl))
-lets_go a b (Some waker) same waits out none gone = inl (waker, rw waits (rw same at out), gone)
+pub lets_go : (a b : SlotsView) (waker : Option Waker) → b ≡ a
+    → TookBack b.names b.waits b.tickets waker → IfSome waker WasLetGo → LetsOwnGo a
+lets_go a b None same out gone = inr (rw same at out.none refl)
+lets_go a b (Some waker) same out gone = inl (waker, rw same at out.taken, gone)
 
 -- a waker that was taken, or none, as the call that took it tells
 pub calls_one : (z : Names) (old new : ℕ) (taken : Option Waker) → WasTaken z old new taken

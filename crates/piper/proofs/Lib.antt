@@ -7,6 +7,7 @@ pub mod Clients
 mod LookingOut
 mod LookingIn
 mod OfStd
+mod Rounds
 mod RoundsIn
 mod RoundsOut
 mod Wrote

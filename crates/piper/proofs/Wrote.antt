@@ -80,3 +80,23 @@ module _ {S : Type 0} (rest : S → List ℕ) (fails : S → Infallible → S �
   )
   fills_slice (Ready (Err e)) a b s t d = looked_only a b d.published d.lost d.copied.1 d.sent d.room d.fresh
   fills_slice Pending a b s t d = looked_only a b d.published d.lost d.copied.1 d.sent d.room d.fresh
+
+-- a fill from a slice that was pending published none of it
+pub none_filled : (a b : Writer) (bytes published lost : List ℕ)
+    → b.side.end.sent ≡ a.side.end.sent ++ published → published ++ lost ≡ []
+    → (0 < a.side.end.room → IsReplaced a.side.end b.side.end)
+    → (a.side.end.room ≡ 0 → b.side.end.saw ≡ false → WriterIsUpToDate b.side.end)
+    → b.side.end.room ≡ 0 → Filled 0 a b bytes
+none_filled a b bytes published lost sent none room fresh full =
+    let nothing : published ≡ [] =
+    nil_from_length published (omega (arith, ap length none, length-append published lost)) in
+    let same : b.side.end.sent ≡ a.side.end.sent ++ [] =
+    sent ∙ ap (λ (l : List ℕ). a.side.end.sent ++ l) nothing in record {
+      count = omega arith;
+      front = (0, omega arith, same);
+      all = λ _. same;
+      last = omega (arith, ap length sent, length-append a.side.end.sent published);
+      room = room;
+      fresh = fresh;
+      most = λ _ _. full;
+    }

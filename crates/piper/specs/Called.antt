@@ -3,12 +3,10 @@ use Rattle.std.specs.Prelude.{⊤, ◌≡◌, ℕ, ◌⊎◌, true, List, [], �
 use Rattle.futures.specs.Task.{Wakes}
 use Rattle.futures.specs.declared.task.context.Context.{Context}
 use Rattle.futures.specs.declared.task.waker.Waker.{Waker}
-use Rattle.piper_protocol.specs.Table.{goes_on}
-use Rattle.piper_protocol.specs.declared.table.Found.TheVariants.{Nothing, Waker as found_waker}
 use Rattle.piper_protocol.specs.declared.table.Point.{Point}
 use Rattle.piper_ring.specs.Cells.{GetsLeft}
 use Rattle.piper_ring.specs.Loads.{IsUnregistered, WasPut, WasTaken, WasTakenBack}
-use Rattle.piper_ring.specs.Log.{HasLeft, Log, Opened, then}
+use Rattle.piper_ring.specs.Log.{HasLeft, Log, began}
 use Rattle.piper_ring.specs.Shared.{Names}
 use Rattle.piper_ring.specs.SlotsView.{SlotsView}
 use Rattle.piper.specs.Contexts.{WasAsked}
@@ -75,8 +73,7 @@ pub record RegistersTask (a b : SlotsView) (old left : Context) : Type 0 where
 pub record HasDropped (names : Names) (start : Point) (before : Log) : Type 0 where
   pub taken : Option Waker
   pub after : Log
-  pub leaves : HasLeft (is_some taken) before after
-  pub ran : Opened start (then (then (goes_on start) Nothing) (found_waker (is_some taken))) before after
+  pub leaves : HasLeft (is_some taken) (began start before) after
   pub called : IfSome taken WasCalled
   pub left : LeftWakers Waker
   pub gets : GetsLeft names left

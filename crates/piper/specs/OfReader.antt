@@ -3,7 +3,7 @@ use Rattle.std.specs.Prelude.{ℕ, List, Bool}
 use Rattle.piper_ring.specs.ReadView.{ReadView, in_one_piece}
 use Rattle.piper_ring.specs.Shared.{Ring}
 use Rattle.piper_protocol.specs.OneList.{Access}
-use Rattle.piper_ring.specs.Log.{Log}
+use Rattle.piper_ring.specs.Log.{Log, accesses_of}
 use Rattle.piper_ring.specs.SlotsView.{SlotsView}
 use Rattle.piper.specs.declared.handles.Reader.{Reader}
 
@@ -57,4 +57,4 @@ log reader = reader.side.log
 
 -- all its accesses to what both sides share, the last first
 abbrev pub accesses : Reader → List Access
-accesses reader = reader.side.log.did
+accesses reader = accesses_of reader.side.log

@@ -3,7 +3,7 @@ use Rattle.std.specs.Prelude.{ℕ, List, Bool}
 use Rattle.piper_ring.specs.Shared.{Ring}
 use Rattle.piper_ring.specs.WriteView.{WriteView}
 use Rattle.piper_protocol.specs.OneList.{Access}
-use Rattle.piper_ring.specs.Log.{Log}
+use Rattle.piper_ring.specs.Log.{Log, accesses_of}
 use Rattle.piper_ring.specs.SlotsView.{SlotsView}
 use Rattle.piper.specs.declared.handles.Writer.{Writer}
 
@@ -53,4 +53,4 @@ log writer = writer.side.log
 
 -- all its accesses to what both sides share, the last first
 abbrev pub accesses : Writer → List Access
-accesses writer = writer.side.log.did
+accesses writer = accesses_of writer.side.log

@@ -1,5 +1,6 @@
 -- An end leaves: it closes the ring, and then gives up its places; the second one to leave gets all
 -- of the memory. Assumes `Logic`.
+use Rattle.piper_ring.specs.Line.{accesses_in}
 use Rattle.piper_ring.proofs.Kit.{position_of, fwand, ◌<◌, Filled, filled, slot_word, slot_rooms, ◌≡◌, ℕ, zero, suc, ◌+◌, ◌-◌, ◌*◌, ◌≤◌, Bool, true, false, List, [], ◌∷◌, length, sym, refl, ap, ◌∙◌, subst, arith, Ura, numbers, latest, SProp, ent, sep, upd, ex, via, upd_i, Share, Fml, ftrue, fsep, Logic, sem, latest_grows, latest_shows, ‵, raw, ◌⊛◌, some, given, ◌$◌, ◌∵◌, !, qed, by, move, keep, split, split3, fsplit, fsplit3, fjoin, fjoin3, fpick, fpack, pick, learn, show, frame, assume, settle, suffices, rewrite, use1, use2, use3, done, drop as forget, Ptr, block_ptr, block_of, count_of, nothing, asks, always, Lies, length-drop, span_join, span_map, span, array_of, Ty, w64, ty_int, lone, apply∗, id⊢, froom, fex, unset, full_share, u8, slot_of as offset_of, Names, State, Holds, half, other, flag, gone, until_both, where_gone, word, word_room, all_rooms, slots, blanks, memory, writer_knows, reader_knows, ends, raised, state_holds, Inner, common, drop_list}
 use Rattle.rtrb.proofs.Spans.{ring_in}
 use Rattle.piper_ring.proofs.PlacesParts.{forgets}
@@ -170,7 +171,7 @@ module _ {M : Type 1} {𝓤 : Ura M} (𝓛 : Logic 𝓤) (w p : Ptr) (z : Names)
 
   -- the reader closes the ring, as it is about to leave
   pub reader_closes : (head seen i : ℕ) → i ≤ 1 → (k : Log) → k.keeps ≡ true → k.names ≡ z
-      → ⟦ C ⟧ ∗ ⟦ RK half head seen i ⟧ ∗ ⟦ Kept 𝓛 w p z k k.did ⟧ ⊢ access 136 one (Closed 𝓛 w p z k (IsClosing head seen))
+      → ⟦ C ⟧ ∗ ⟦ RK half head seen i ⟧ ∗ ⟦ Kept 𝓛 w p z k (accesses_in k.lines) ⟧ ⊢ access 136 one (Closed 𝓛 w p z k (IsClosing head seen))
   reader_closes head seen i le k kept own = let Then : Fml = IsClosing head seen in let At : Bool → Pr = ClosedAt 𝓛 w p z (λ c. c) one (λ _. true) (λ _ _. Then) in let Z : Pr = ex 𝓤 At in
       closed_stored_noted 𝓛 w p z Then ⟦ RK half head seen i ⟧ (qed 𝓛 (‵ I ∷ ‵ (RK half head seen i) ∷ []) ∵
       use2 𝓛 (some (λ (s : State). given (ReaderSees 𝓛 w p z head seen i s) (‵ (RK half head seen i) ⊛ ‵ (RK other s.head s.seen s.reader_stage) ⊛ ‵ (WK other s.sent s.limit s.shut s.writer_stage) ⊛ ‵ (Rest 𝓛 w p z s)))) (reader_opens 𝓛 w p z half head seen i le) $ pick ! (λ s. learn ! (λ so. split3 ! $

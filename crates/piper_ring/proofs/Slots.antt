@@ -1,4 +1,5 @@
 -- The steps of both sides on a slot. Assumes `Logic`.
+use Rattle.piper_ring.specs.Line.{accesses_in}
 use Rattle.piper_ring.proofs.Kit.{◌*◌, ◌^◌, ◌<◌, lit<, flag, ◌≡◌, ℕ, ◌+◌, ◌≤◌, ◌⊎◌, inl, inr, Bool, true, false, List, [], ◌∷◌, sym, refl, subst, arith, Ura, SProp, ent, sep, upd, ex, guard, upd_i, apply∗, Share, Fml, ftrue, fsep, fex, fwand, fobs, Logic, sem, ‵, raw, ◌⊛◌, some, given, ◌$◌, ◌∵◌, !, qed, by, move, keep, split, split3, fsplit, fsplit3, fjoin, fjoin3, fpick, fpack, pick, learn, check, show, frame, assume, settle, suffices, rewrite, use1, use2, done, drop as forget, Ptr, block_ptr, block_of, count_of, nothing, asks, always, Filled, filled, Lying, number, ticket_if, mirrored, is_odd, Waits, Wakes, AreAt, Exchanges, IsTicket, waits_code, wakes_code, both_at, both, cell, slot_at, slot, IsRemembered, Names, State, Holds, other, reader_knows, writer_knows, slots, Inner, common, Order, numbers, latest, latest_shows, Stream, streams, reaches_same, took, raised, Stored, as_stored, stored_code, Known, by_reader, by_writer, knows, evidence, slot_word, waits_in, wakes_in}
 use Rattle.std.proofs.Common.{◌%◌, ◌==◌, ◌∙◌, Option, Some, None, is_some, ap}
 use Rattle.std.proofs.lemmas.Bool.{false≢true}
@@ -181,7 +182,7 @@ module _ {M : Type 1} {𝓤 : Ura M} (𝓛 : Logic 𝓤) (w p : Ptr) (z : Names)
 
     abbrev slot_noted : (f : ℕ → ℕ) (v' : Lying → Option ℕ) (then : Lying → ℕ → Fml) (Q : Pr) (a : Lying → Access) → ⟦ I ⟧ ∗ Q ⊢ upd 𝓤 (ex 𝓤 (SlotAt f v' then))
         → ((s : Lying) (t : Words) → s.1 ≡ slot_in (side_of r) t → FindsWords (a s) t) → ((s : Lying) (t : Words) → s.1 ≡ slot_in (side_of r) t → words_after (a s) t ≡ with_slot (side_of r) (v' s) t)
-        → (k : Log) → (k.keeps ≡ true → k.names ≡ z) → (k.keeps ≡ false → ((m : ℕ) → f m ≡ m) × ((s : Lying) → v' s ≡ s.1)) → ⟦ C ⟧ ∗ Q ∗ ⟦ Kept 𝓛 w p z k k.did ⟧ ⊢ access far f (SlotNoted f v' then k a)
+        → (k : Log) → (k.keeps ≡ true → k.names ≡ z) → (k.keeps ≡ false → ((m : ℕ) → f m ≡ m) × ((s : Lying) → v' s ≡ s.1)) → ⟦ C ⟧ ∗ Q ∗ ⟦ Kept 𝓛 w p z k (accesses_in k.lines) ⟧ ⊢ access far f (SlotNoted f v' then k a)
     slot_noted f v' then = access_noted 𝓛 w p z ticket_code μ far (slot_in (side_of r)) (with_slot (side_of r)) (takes_slot 𝓛 w z.traced I r) f (λ s. number (filled s)) (λ s. s.1) v' then
 
     -- what the side has that waits, and the one that wakes
@@ -200,7 +201,7 @@ module _ {M : Type 1} {𝓤 : Ura M} (𝓛 : Logic 𝓤) (w p : Ptr) (z : Names)
 
     -- one swap: the own cell goes in, and another comes out, whatever else the step does to both sides
     trades : Lent K F → (own : Lying) → own.0 < 4 → (Z : Fml) (Y : Option ℕ → Fml) → ((lies : Option ℕ) → ⟦ B lies ⟧ ∗ ⟦ Z ⟧ ⊢ upd 𝓤 (⟦ B own.1 ⟧ ∗ ⟦ Y lies ⟧))
-        → (k : Log) → k.keeps ≡ true → k.names ≡ z → ⟦ C ⟧ ∗ (⟦ K ⟧ ∗ ⟦ fsep (Cell (filled own)) Z ⟧) ∗ ⟦ Kept 𝓛 w p z k k.did ⟧ ⊢ access far (λ _. number (filled own)) (Swapped own Y k)
+        → (k : Log) → k.keeps ≡ true → k.names ≡ z → ⟦ C ⟧ ∗ (⟦ K ⟧ ∗ ⟦ fsep (Cell (filled own)) Z ⟧) ∗ ⟦ Kept 𝓛 w p z k (accesses_in k.lines) ⟧ ⊢ access far (λ _. number (filled own)) (Swapped own Y k)
     trades lends own small Z Y can k kept is = let f : ℕ → ℕ = λ _. number (filled own) in let At : Lying → Pr = SlotAt f (λ _. own.1) (out_at Y) in let G : Pr = ex 𝓤 At in let new : Fml = mirrored ticket_code μ w far (number (filled own)) own.1 in
         slot_noted f (λ _. own.1) (out_at Y) (⟦ K ⟧ ∗ ⟦ fsep (Cell (filled own)) Z ⟧) (λ s. swapped (side_of r) s.1 own.1) (qed 𝓛 (‵ I ∷ ‵ K ∷ ‵ (fsep (Cell (filled own)) Z) ∷ []) ∵ use2 𝓛 (‵ K ⊛ ‵ F ⊛ ‵ (fwand F I)) lends $ split3 ! $ move ! (1 ∷ []) $
         fpick ! (λ s. fsplit3 ! $ fpick ! (λ there. forget ! $ move ! (1 ∷ []) $ fsplit ! $ move ! (5 ∷ []) $ fsplit ! $
@@ -226,7 +227,7 @@ module _ {M : Type 1} {𝓤 : Ura M} (𝓛 : Logic 𝓤) (w p : Ptr) (z : Names)
 
     -- one load, which leaves the word
     looks : Lent K F → (Z : Fml) (Y : Option ℕ → Fml) → ((lies : Option ℕ) → ⟦ B lies ⟧ ∗ ⟦ Z ⟧ ⊢ upd 𝓤 (⟦ B lies ⟧ ∗ ⟦ Y lies ⟧))
-        → (k : Log) → (k.keeps ≡ true → k.names ≡ z) → ⟦ C ⟧ ∗ (⟦ K ⟧ ∗ ⟦ Z ⟧) ∗ ⟦ Kept 𝓛 w p z k k.did ⟧ ⊢ access far (λ n. n) (Loaded Y k)
+        → (k : Log) → (k.keeps ≡ true → k.names ≡ z) → ⟦ C ⟧ ∗ (⟦ K ⟧ ∗ ⟦ Z ⟧) ∗ ⟦ Kept 𝓛 w p z k (accesses_in k.lines) ⟧ ⊢ access far (λ n. n) (Loaded Y k)
     looks lends Z Y can k own = let f : ℕ → ℕ = λ n. n in let At : Lying → Pr = SlotAt f (λ s. s.1) (loaded_at Y) in let G : Pr = ex 𝓤 At in
         slot_noted f (λ s. s.1) (loaded_at Y) (⟦ K ⟧ ∗ ⟦ Z ⟧) (λ s. loaded_slot (side_of r) (is_some s.1)) (qed 𝓛 (‵ I ∷ ‵ K ∷ ‵ Z ∷ []) ∵ use2 𝓛 (‵ K ⊛ ‵ F ⊛ ‵ (fwand F I)) lends $ split3 ! $ move ! (1 ∷ []) $
         fpick ! (λ s. fsplit3 ! $ fpick ! (λ there. forget ! $ move ! (1 ∷ []) $ fsplit ! $
@@ -281,7 +282,7 @@ module _ {M : Type 1} {𝓤 : Ura M} (𝓛 : Logic 𝓤) (w p : Ptr) (z : Names)
     hears twice false a b = hears_old a.1.1 b.1
 
     exchange : Lent K F → Twice → (a : Waits X) (i : ℕ) (full : Bool) → i < 4 → (k : Log) → k.keeps ≡ true → k.names ≡ z
-        → ⟦ C ⟧ ∗ (⟦ K ⟧ ∗ ⟦ fsep (Cell (filled (i, put_in full a))) (Waiting a) ⟧) ∗ ⟦ Kept 𝓛 w p z k k.did ⟧ ⊢ access far (λ _. number (filled (i, put_in full a))) (Swapped (i, put_in full a) (Exchanged a full) k)
+        → ⟦ C ⟧ ∗ (⟦ K ⟧ ∗ ⟦ fsep (Cell (filled (i, put_in full a))) (Waiting a) ⟧) ∗ ⟦ Kept 𝓛 w p z k (accesses_in k.lines) ⟧ ⊢ access far (λ _. number (filled (i, put_in full a))) (Swapped (i, put_in full a) (Exchanged a full) k)
     exchange lends twice a i full small = trades lends (i, put_in full a) small (Waiting a) (Exchanged a full) (λ lies.
         waits_on lies (put_in full a) a (λ b. after full a b.1) (λ b h. goes_in full lies a b h) (IsExchanged a full lies) (λ b h. let was = waited lies a b h in (exchanges full a b.1, was.0, was.1)) (hears twice full a))
 
@@ -299,7 +300,7 @@ module _ {M : Type 1} {𝓤 : Ura M} (𝓛 : Logic 𝓤) (w p : Ptr) (z : Names)
     keeps_old true a b = hears_old a.1.1 b.1
     keeps_old false a b = hears_old a.1.1 b.1
 
-    load_own_slot : Lent K F → (a : Waits X) → (k : Log) → (k.keeps ≡ true → k.names ≡ z) → ⟦ C ⟧ ∗ (⟦ K ⟧ ∗ ⟦ Waiting a ⟧) ∗ ⟦ Kept 𝓛 w p z k k.did ⟧ ⊢ access far (λ n. n) (Loaded (Seen a) k)
+    load_own_slot : Lent K F → (a : Waits X) → (k : Log) → (k.keeps ≡ true → k.names ≡ z) → ⟦ C ⟧ ∗ (⟦ K ⟧ ∗ ⟦ Waiting a ⟧) ∗ ⟦ Kept 𝓛 w p z k (accesses_in k.lines) ⟧ ⊢ access far (λ n. n) (Loaded (Seen a) k)
     load_own_slot lends a = looks lends (Waiting a) (Seen a) (λ lies. waits_on lies lies a (λ _. seen_own (is_some lies) a) (λ b h. own_seen lies a b h) (IsSeen a lies) (λ b h. (refl, (waited lies a b h).0)) (keeps_old (is_some lies) a))
 
     one_shows : (y x o : X) → (y ≡ x) ⊎ (y ≡ o) → ⟦ shows x ⟧ ∗ ⟦ shows o ⟧ ⊢ ⟦ shows y ⟧
@@ -329,7 +330,7 @@ module _ {M : Type 1} {𝓤 : Ura M} (𝓛 : Logic 𝓤) (w p : Ptr) (z : Names)
     Taken b x lies = fex (Wakes X) (λ b'. fsep (fact (IsTaken b x lies b')) (Waking b'))
 
     empty : Lent K F → (b : Wakes X) (x : X) (i : ℕ) → i < 4 → (k : Log) → k.keeps ≡ true → k.names ≡ z
-        → ⟦ C ⟧ ∗ (⟦ K ⟧ ∗ ⟦ fsep (Cell (i, false)) (fsep (Waking b) (shows x)) ⟧) ∗ ⟦ Kept 𝓛 w p z k k.did ⟧ ⊢ access far (λ _. number (i, false)) (Swapped (i, None) (Taken b x) k)
+        → ⟦ C ⟧ ∗ (⟦ K ⟧ ∗ ⟦ fsep (Cell (i, false)) (fsep (Waking b) (shows x)) ⟧) ∗ ⟦ Kept 𝓛 w p z k (accesses_in k.lines) ⟧ ⊢ access far (λ _. number (i, false)) (Swapped (i, None) (Taken b x) k)
     empty lends b x i small = trades lends (i, None) small (fsep (Waking b) (shows x)) (Taken b x) (λ lies. wakes_on lies None b x (IsTaken b x lies) (λ a h. let o = comes_out lies a b x h in ((o.0, x), o.2, (o.1, refl), inl refl)))
 
     -- what the side is that loaded the other's slot
@@ -340,7 +341,7 @@ module _ {M : Type 1} {𝓤 : Ura M} (𝓛 : Logic 𝓤) (w p : Ptr) (z : Names)
     sees true b x = inr refl
     sees false b x = inl refl
 
-    load_other_slot : Lent K F → (b : Wakes X) (x : X) → (k : Log) → (k.keeps ≡ true → k.names ≡ z) → ⟦ C ⟧ ∗ (⟦ K ⟧ ∗ ⟦ fsep (Waking b) (shows x) ⟧) ∗ ⟦ Kept 𝓛 w p z k k.did ⟧ ⊢ access far (λ n. n) (Loaded (Looked b x) k)
+    load_other_slot : Lent K F → (b : Wakes X) (x : X) → (k : Log) → (k.keeps ≡ true → k.names ≡ z) → ⟦ C ⟧ ∗ (⟦ K ⟧ ∗ ⟦ fsep (Waking b) (shows x) ⟧) ∗ ⟦ Kept 𝓛 w p z k (accesses_in k.lines) ⟧ ⊢ access far (λ n. n) (Loaded (Looked b x) k)
     load_other_slot lends b x = looks lends (fsep (Waking b) (shows x)) (Looked b x) (λ lies. wakes_on lies lies b x (λ b'. b' ≡ seen_other (is_some lies) b x) (λ a h. (seen_other (is_some lies) b x, other_seen lies a b x h, refl, sees (is_some lies) b x)))
 
     abbrev pub Met : Waits X → Wakes X → Pr
@@ -389,7 +390,7 @@ module _ {M : Type 1} {𝓤 : Ura M} (𝓛 : Logic 𝓤) (w p : Ptr) (z : Names)
 
     -- what is kept by the log
     abbrev Keep : Log → Fml
-    Keep k = Kept 𝓛 w p z k k.did
+    Keep k = Kept 𝓛 w p z k (accesses_in k.lines)
 
     abbrev pub SwapsOwn : Waits Stored → Filled → Log → ℕ → Fml
     SwapsOwn a own = Swapped r far (waiter z r) (waker z r) stored_code shows K (own.0, put_in own.1 a) (Exchanged r far (waiter z r) (waker z r) stored_code shows K a own.1)

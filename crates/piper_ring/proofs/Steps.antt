@@ -1,5 +1,6 @@
 -- The invariant is taken apart by what one end knows and put together again; and the steps on the
 -- tail, on the head and on closed. Assumes `Logic`.
+use Rattle.piper_ring.specs.Line.{accesses_in}
 use Rattle.piper_ring.proofs.Kit.{◌≡◌, ℕ, zero, suc, ◌+◌, ◌-◌, ◌≤◌, Bool, true, false, List, [], ◌∷◌, ◌++◌, length, sym, refl, ap, ◌∙◌, length-append, arith, Ura, full_share, Order, numbers, latest, prefix_refl, SProp, ent, sep, upd, guard, ex, upd_i, Share, Fml, GName, ftrue, fsep, Logic, sem, latest_grows, latest_bounds, latest_shows, ‵, raw, ◌⊛◌, some, given, ◌$◌, ◌∵◌, !, qed, by, move, split, split3, fsplit, fsplit3, fjoin, fjoin3, fpick, fpack, pick, learn, check, show, frame, assume, settle, suffices, rewrite, use1, use2, use3, done, drop as forget, Ptr, block_ptr, block_of, count_of, nothing, asks, always, position_of, run, Lies, length-drop, run_join, byte, Stream, Reaches, streams, open_reaches, Names, State, Holds, half, other, flag, gone, until_both, where_gone, blanks, deeds, memory, announced, began, took, writer_knows, reader_knows, ends, state_holds, Inner, common, keep, reaches_same, raised, u8, part_at, slot_of as offset_of, idle, drop_list}
 use Rattle.std.proofs.Common.{append-nil}
 use types.Growing.{latest_agrees}
@@ -91,14 +92,14 @@ module _ {M : Type 1} {𝓤 : Ura M} (𝓛 : Logic 𝓤) (w p : Ptr) (z : Names)
     Holding = HoldingIn 𝓛 w z.traced I c γ d f n v v' then
 
     abbrev pub Noted : Log → (B → Access) → ℕ → Fml
-    Noted k = NotedIn 𝓛 w z.traced I c γ d f n v v' then k.names.traced k.keeps k.reads k.did
+    Noted k = NotedIn 𝓛 w z.traced I c γ d f n v v' then k.names.traced k.keeps k.reads (accesses_in k.lines)
 
     -- it is noted in the log k, which is of this ring, or of nobody if the access is a load
     pub access_noted : (X : Pr) (a : B → Access) → ⟦ I ⟧ ∗ X ⊢ upd 𝓤 (ex 𝓤 Holding) → ((x : B) (s : Words) → v x ≡ get s → FindsWords (a x) s)
         → ((x : B) (s : Words) → v x ≡ get s → words_after (a x) s ≡ put (v' x) s) → (k : Log) → (k.keeps ≡ true → k.names ≡ z)
-        → (k.keeps ≡ false → ((m : ℕ) → f m ≡ m) × ((x : B) → v' x ≡ v x)) → ⟦ C ⟧ ∗ X ∗ ⟦ Kept k k.did ⟧ ⊢ access d f (Noted k a)
-    access_noted X a can finds sets k own same = qed 𝓛 (‵ C ∷ raw X ∷ ‵ (Kept k k.did) ∷ []) ∵ fsplit ! $ forget ! $
-        by ! (noted 𝓛 w z.traced I c γ d f n v v' then get put takes a X can k.reads k.did finds sets k.names.traced k.keeps (λ e. ap (λ (y : Names). y.traced) (own e)) same)
+        → (k.keeps ≡ false → ((m : ℕ) → f m ≡ m) × ((x : B) → v' x ≡ v x)) → ⟦ C ⟧ ∗ X ∗ ⟦ Kept k (accesses_in k.lines) ⟧ ⊢ access d f (Noted k a)
+    access_noted X a can finds sets k own same = qed 𝓛 (‵ C ∷ raw X ∷ ‵ (Kept k (accesses_in k.lines)) ∷ []) ∵ fsplit ! $ forget ! $
+        by ! (noted 𝓛 w z.traced I c γ d f n v v' then get put takes a X can k.reads (accesses_in k.lines) finds sets k.names.traced k.keeps (λ e. ap (λ (y : Names). y.traced) (own e)) same)
 
   abbrev same_number : {B : Type 0} {A : Type 0} (v : B → A) → ((m : ℕ) → m ≡ m) × ((x : B) → v x ≡ v x)
   same_number v = (λ m. refl, λ x. refl)
@@ -106,17 +107,17 @@ module _ {M : Type 1} {𝓤 : Ura M} (𝓛 : Logic 𝓤) (w p : Ptr) (z : Names)
   pub no_load : {Q : Type 0} {b : Bool} → b ≡ true → b ≡ false → Q
   no_load kept is = absurd (true≢false (sym kept ∙ is))
 
-  readers_meet : (r k : Log) → IsLogOf z true r → IsLogOf z false k → ⟦ C ⟧ ∗ ⟦ Kept r r.did ⟧ ∗ ⟦ Kept k k.did ⟧ ⊢ H.⇛ (guard 𝓤 (AreOneList r.did k.did) (⟦ Kept r r.did ⟧ ∗ ⟦ Kept k k.did ⟧))
+  readers_meet : (r k : Log) → IsLogOf z true r → IsLogOf z false k → ⟦ C ⟧ ∗ ⟦ Kept r (accesses_in r.lines) ⟧ ∗ ⟦ Kept k (accesses_in k.lines) ⟧ ⊢ H.⇛ (guard 𝓤 (AreOneList (accesses_in r.lines) (accesses_in k.lines)) (⟦ Kept r (accesses_in r.lines) ⟧ ∗ ⟦ Kept k (accesses_in k.lines) ⟧))
   readers_meet r k mine theirs = let Of : Bool × Names × Bool → List Access → Fml = λ l did. did_owns l.1.traced l.0 l.2 did in
-      subst (λ (u : (Bool × Names × Bool) × (Bool × Names × Bool)). ⟦ C ⟧ ∗ ⟦ Of u.0 r.did ⟧ ∗ ⟦ Of u.1 k.did ⟧ ⊢ H.⇛ (guard 𝓤 (AreOneList r.did k.did) (⟦ Of u.0 r.did ⟧ ∗ ⟦ Of u.1 k.did ⟧)))
+      subst (λ (u : (Bool × Names × Bool) × (Bool × Names × Bool)). ⟦ C ⟧ ∗ ⟦ Of u.0 (accesses_in r.lines) ⟧ ∗ ⟦ Of u.1 (accesses_in k.lines) ⟧ ⊢ H.⇛ (guard 𝓤 (AreOneList (accesses_in r.lines) (accesses_in k.lines)) (⟦ Of u.0 (accesses_in r.lines) ⟧ ∗ ⟦ Of u.1 (accesses_in k.lines) ⟧)))
       {x = ((true, z, true), (true, z, false))} {y = ((r.keeps, r.names, r.reads), (k.keeps, k.names, k.reads))} (λ j. ((sym mine.0 j, sym mine.1 j, sym mine.2 j), (sym theirs.0 j, sym theirs.1 j, sym theirs.2 j)))
-      (qed 𝓛 (‵ C ∷ ‵ (Of (true, z, true) r.did) ∷ ‵ (Of (true, z, false) k.did) ∷ []) ∵ fsplit ! $ forget ! $ by ! (meets_in 𝓛 w z.traced I r.did k.did))
+      (qed 𝓛 (‵ C ∷ ‵ (Of (true, z, true) (accesses_in r.lines)) ∷ ‵ (Of (true, z, false) (accesses_in k.lines)) ∷ []) ∵ fsplit ! $ forget ! $ by ! (meets_in 𝓛 w z.traced I (accesses_in r.lines) (accesses_in k.lines)))
 
   -- the logs of both sides, held by one thread: it is no step of the program
-  pub logs_meet : (reads : Bool) (r k : Log) → IsLogOf z reads r → IsLogOf z (not reads) k → ⟦ C ⟧ ∗ ⟦ Kept r r.did ⟧ ∗ ⟦ Kept k k.did ⟧ ⊢ H.⇛ (guard 𝓤 (AreSides reads r.did k.did) (⟦ Kept r r.did ⟧ ∗ ⟦ Kept k k.did ⟧))
+  pub logs_meet : (reads : Bool) (r k : Log) → IsLogOf z reads r → IsLogOf z (not reads) k → ⟦ C ⟧ ∗ ⟦ Kept r (accesses_in r.lines) ⟧ ∗ ⟦ Kept k (accesses_in k.lines) ⟧ ⊢ H.⇛ (guard 𝓤 (AreSides reads (accesses_in r.lines) (accesses_in k.lines)) (⟦ Kept r (accesses_in r.lines) ⟧ ∗ ⟦ Kept k (accesses_in k.lines) ⟧))
   logs_meet true r k mine theirs = readers_meet r k mine theirs
-  logs_meet false r k mine theirs = let Q : Type 0 = AreOneList k.did r.did in qed 𝓛 (‵ C ∷ ‵ (Kept r r.did) ∷ ‵ (Kept k k.did) ∷ []) {P = H.⇛ (guard 𝓤 (AreSides false r.did k.did) (⟦ Kept r r.did ⟧ ∗ ⟦ Kept k k.did ⟧))} (updating ! $ move ! (0 ∷ 2 ∷ 1 ∷ []) $
-      use3 𝓛 (later (given Q (‵ (Kept k k.did) ⊛ ‵ (Kept r r.did)))) (readers_meet k r theirs mine) $ await ! tt $ learn ! (λ list. split ! $ now ! $ check ! list $ move ! (1 ∷ 0 ∷ []) $ done !))
+  logs_meet false r k mine theirs = let Q : Type 0 = AreOneList (accesses_in k.lines) (accesses_in r.lines) in qed 𝓛 (‵ C ∷ ‵ (Kept r (accesses_in r.lines)) ∷ ‵ (Kept k (accesses_in k.lines)) ∷ []) {P = H.⇛ (guard 𝓤 (AreSides false (accesses_in r.lines) (accesses_in k.lines)) (⟦ Kept r (accesses_in r.lines) ⟧ ∗ ⟦ Kept k (accesses_in k.lines) ⟧))} (updating ! $ move ! (0 ∷ 2 ∷ 1 ∷ []) $
+      use3 𝓛 (later (given Q (‵ (Kept k (accesses_in k.lines)) ⊛ ‵ (Kept r (accesses_in r.lines))))) (readers_meet k r theirs mine) $ await ! tt $ learn ! (λ list. split ! $ now ! $ check ! list $ move ! (1 ∷ 0 ∷ []) $ done !))
 
   abbrev pub Rest : State → Fml
   Rest s = fsep (ends w p z s.closed) (memory w p z s)
@@ -184,7 +185,7 @@ module _ {M : Type 1} {𝓤 : Ura M} (𝓛 : Logic 𝓤) (w p : Ptr) (z : Names)
 
   abbrev tail_noted : (f : ℕ → ℕ) (v' : List ℕ → List ℕ) (then : List ℕ → ℕ → Fml) (X : Pr) (a : List ℕ → Access) → ⟦ I ⟧ ∗ X ⊢ upd 𝓤 (ex 𝓤 (TailAt f v' then))
       → ((x : List ℕ) (s : Words) → x ≡ s.sent → FindsWords (a x) s) → ((x : List ℕ) (s : Words) → x ≡ s.sent → words_after (a x) s ≡ record s { sent = v' x })
-      → (k : Log) → (k.keeps ≡ true → k.names ≡ z) → (k.keeps ≡ false → ((m : ℕ) → f m ≡ m) × ((x : List ℕ) → v' x ≡ x)) → ⟦ C ⟧ ∗ X ∗ ⟦ Kept k k.did ⟧ ⊢ access 208 f (TailNoted f v' then k a)
+      → (k : Log) → (k.keeps ≡ true → k.names ≡ z) → (k.keeps ≡ false → ((m : ℕ) → f m ≡ m) × ((x : List ℕ) → v' x ≡ x)) → ⟦ C ⟧ ∗ X ∗ ⟦ Kept k (accesses_in k.lines) ⟧ ⊢ access 208 f (TailNoted f v' then k a)
   tail_noted f v' then = access_noted bytes_code (tail_name z.traced) 208 (λ s. s.sent) (λ y s. record s { sent = y }) (takes_tail 𝓛 w z.traced I) f tail_at (λ x. x) v' then
 
   -- a load of the tail by anyone who has a share of what the reader knows
@@ -192,7 +193,7 @@ module _ {M : Type 1} {𝓤 : Ura M} (𝓛 : Logic 𝓤) (w p : Ptr) (z : Names)
   AfterLook q head seen i observed k = TailNoted (λ n. n) (λ x. x) (λ xs n. TailSeen q head seen i observed n xs) k (λ xs. loaded_tail (length xs))
 
   pub looks_tail : (q : Share) (head seen i : ℕ) (observed : Stream) → i ≤ 1 → (k : Log) → (k.keeps ≡ true → k.names ≡ z)
-      → ⟦ C ⟧ ∗ (⟦ RK q head seen i ⟧ ∗ ⟦ announced z observed.0 observed.1 ⟧) ∗ ⟦ Kept k k.did ⟧ ⊢ access 208 (λ n. n) (AfterLook q head seen i observed k)
+      → ⟦ C ⟧ ∗ (⟦ RK q head seen i ⟧ ∗ ⟦ announced z observed.0 observed.1 ⟧) ∗ ⟦ Kept k (accesses_in k.lines) ⟧ ⊢ access 208 (λ n. n) (AfterLook q head seen i observed k)
   looks_tail q head seen i observed le k own = let then : List ℕ → ℕ → Fml = λ xs n. TailSeen q head seen i observed n xs in let At : List ℕ → Pr = TailAt (λ n. n) (λ x. x) then in let Z : Pr = ex 𝓤 At in let O : Order Stream = streams in let T : Fml = announced z observed.0 observed.1 in
       tail_noted (λ n. n) (λ x. x) then (⟦ RK q head seen i ⟧ ∗ ⟦ T ⟧) (λ xs. loaded_tail (length xs)) (qed 𝓛 (‵ I ∷ ‵ (RK q head seen i) ∷ ‵ T ∷ []) ∵
       use2 𝓛 (some (λ (s : State). given (ReaderSees head seen i s) (‵ (RK q head seen i) ⊛ ‵ (RK other s.head s.seen s.reader_stage) ⊛ ‵ (WK other s.sent s.limit s.shut s.writer_stage) ⊛ ‵ (Rest s)))) (reader_opens q head seen i le) $ pick ! (λ s. learn ! (λ so. split3 ! $
@@ -250,7 +251,7 @@ module _ {M : Type 1} {𝓤 : Ura M} (𝓛 : Logic 𝓤) (w p : Ptr) (z : Names)
 
   abbrev head_noted : (f : ℕ → ℕ) (v' : ℕ → ℕ) (then : ℕ → ℕ → Fml) (X : Pr) (a : ℕ → Access) → ⟦ I ⟧ ∗ X ⊢ upd 𝓤 (ex 𝓤 (HeadAt f v' then))
       → ((x : ℕ) (s : Words) → x ≡ s.head → FindsWords (a x) s) → ((x : ℕ) (s : Words) → x ≡ s.head → words_after (a x) s ≡ record s { head = v' x })
-      → (k : Log) → (k.keeps ≡ true → k.names ≡ z) → (k.keeps ≡ false → ((m : ℕ) → f m ≡ m) × ((x : ℕ) → v' x ≡ x)) → ⟦ C ⟧ ∗ X ∗ ⟦ Kept k k.did ⟧ ⊢ access 8 f (HeadNoted f v' then k a)
+      → (k : Log) → (k.keeps ≡ true → k.names ≡ z) → (k.keeps ≡ false → ((m : ℕ) → f m ≡ m) × ((x : ℕ) → v' x ≡ x)) → ⟦ C ⟧ ∗ X ∗ ⟦ Kept k (accesses_in k.lines) ⟧ ⊢ access 8 f (HeadNoted f v' then k a)
   head_noted f v' then = access_noted coded_ℕ (head_name z.traced) 8 (λ s. s.head) (λ y s. record s { head = y }) (takes_head 𝓛 w z.traced I) f (position_of cap) (λ x. x) v' then
 
   -- a load of the head by anyone who has a share of what the writer knows
@@ -258,7 +259,7 @@ module _ {M : Type 1} {𝓤 : Ura M} (𝓛 : Logic 𝓤) (w p : Ptr) (z : Names)
   AfterPeek q sent limit shut i observed k = HeadNoted (λ n. n) (λ x. x) (λ h n. HeadSeen q sent limit shut i observed n h) k loaded_head
 
   pub looks_head : (q : Share) (sent : List ℕ) (limit : ℕ) (shut : Bool) (i : ℕ) (observed : ℕ) → i ≤ 1 → (k : Log) → (k.keeps ≡ true → k.names ≡ z)
-      → ⟦ C ⟧ ∗ (⟦ WK q sent limit shut i ⟧ ∗ ⟦ took z observed ⟧) ∗ ⟦ Kept k k.did ⟧ ⊢ access 8 (λ n. n) (AfterPeek q sent limit shut i observed k)
+      → ⟦ C ⟧ ∗ (⟦ WK q sent limit shut i ⟧ ∗ ⟦ took z observed ⟧) ∗ ⟦ Kept k (accesses_in k.lines) ⟧ ⊢ access 8 (λ n. n) (AfterPeek q sent limit shut i observed k)
   looks_head q sent limit shut i observed le k own = let then : ℕ → ℕ → Fml = λ h n. HeadSeen q sent limit shut i observed n h in let At : ℕ → Pr = HeadAt (λ n. n) (λ x. x) then in let Z : Pr = ex 𝓤 At in
       head_noted (λ n. n) (λ x. x) then (⟦ WK q sent limit shut i ⟧ ∗ ⟦ took z observed ⟧) loaded_head (qed 𝓛 (‵ I ∷ ‵ (WK q sent limit shut i) ∷ ‵ (took z observed) ∷ []) ∵
       use2 𝓛 (some (λ (s : State). given (WriterSees sent limit shut i s) (‵ (WK q sent limit shut i) ⊛ ‵ (WK other s.sent s.limit s.shut s.writer_stage) ⊛ ‵ (RK other s.head s.seen s.reader_stage) ⊛ ‵ (Rest s)))) (writer_opens q sent limit shut i le) $ pick ! (λ s. learn ! (λ so. split3 ! $
@@ -283,7 +284,7 @@ module _ {M : Type 1} {𝓤 : Ura M} (𝓛 : Logic 𝓤) (w p : Ptr) (z : Names)
     abbrev pub Published : Log → ℕ → Fml
     Published k = TailNoted (λ _. new) (λ x. x ++ xs) (λ _ _. Then) k (λ _. stored_tail xs)
 
-    pub publishes : (k : Log) → k.keeps ≡ true → k.names ≡ z → ⟦ C ⟧ ∗ (⟦ WK half sent limit shut i ⟧ ∗ ⟦ Gift ⟧) ∗ ⟦ Kept k k.did ⟧ ⊢ access 208 (λ _. new) (Published k)
+    pub publishes : (k : Log) → k.keeps ≡ true → k.names ≡ z → ⟦ C ⟧ ∗ (⟦ WK half sent limit shut i ⟧ ∗ ⟦ Gift ⟧) ∗ ⟦ Kept k (accesses_in k.lines) ⟧ ⊢ access 208 (λ _. new) (Published k)
     publishes k kept own = let At : List ℕ → Pr = TailAt (λ _. new) (λ x. x ++ xs) (λ _ _. Then) in let Z : Pr = ex 𝓤 At in let O : Order Stream = streams in
         tail_noted (λ _. new) (λ x. x ++ xs) (λ _ _. Then) (⟦ WK half sent limit shut i ⟧ ∗ ⟦ Gift ⟧) (λ _. stored_tail xs) (qed 𝓛 (‵ I ∷ ‵ (WK half sent limit shut i) ∷ ‵ Gift ∷ []) ∵
         use2 𝓛 (some (λ (s : State). given (WriterSees sent limit shut i s) (‵ (WK half sent limit shut i) ⊛ ‵ (WK other s.sent s.limit s.shut s.writer_stage) ⊛ ‵ (RK other s.head s.seen s.reader_stage) ⊛ ‵ (Rest s)))) (writer_opens half sent limit shut i le) $ pick ! (λ s. learn ! (λ so. split3 ! $
@@ -329,13 +330,13 @@ module _ {M : Type 1} {𝓤 : Ura M} (𝓛 : Logic 𝓤) (w p : Ptr) (z : Names)
 
   -- it was loaded, as what the list says
   closed_loaded_noted : {B : Type 0} (is : B → Bool) (then : B → ℕ → Fml) (X : Pr) → ⟦ I ⟧ ∗ X ⊢ upd 𝓤 (ex 𝓤 (ClosedAt is (λ n. n) is then))
-      → (k : Log) → (k.keeps ≡ true → k.names ≡ z) → ⟦ C ⟧ ∗ X ∗ ⟦ Kept k k.did ⟧ ⊢ access 136 (λ n. n) (ClosedNoted is (λ n. n) is then k (λ x. loaded_closed (is x)))
+      → (k : Log) → (k.keeps ≡ true → k.names ≡ z) → ⟦ C ⟧ ∗ X ∗ ⟦ Kept k (accesses_in k.lines) ⟧ ⊢ access 136 (λ n. n) (ClosedNoted is (λ n. n) is then k (λ x. loaded_closed (is x)))
   closed_loaded_noted is then X can k own = access_noted coded_bool (closed_name z.traced) 136 (λ s. s.is_closed) (λ y s. record s { is_closed = y }) (takes_closed 𝓛 w z.traced I) (λ n. n) (λ x. flag (is x)) is is then X (λ x. loaded_closed (is x)) can
       (λ x t e. e) (λ x t e. ap (λ (y : Bool). record t { is_closed = y }) (sym e)) k own (λ _. same_number is)
 
   -- it was stored
   pub closed_stored_noted : (then : Fml) (X : Pr) → ⟦ I ⟧ ∗ X ⊢ upd 𝓤 (ex 𝓤 (ClosedAt (λ c. c) (λ _. 1) (λ _. true) (λ _ _. then)))
-      → (k : Log) → k.keeps ≡ true → k.names ≡ z → ⟦ C ⟧ ∗ X ∗ ⟦ Kept k k.did ⟧ ⊢ access 136 (λ _. 1) (ClosedNoted (λ c. c) (λ _. 1) (λ _. true) (λ _ _. then) k (λ _. stored_closed))
+      → (k : Log) → k.keeps ≡ true → k.names ≡ z → ⟦ C ⟧ ∗ X ∗ ⟦ Kept k (accesses_in k.lines) ⟧ ⊢ access 136 (λ _. 1) (ClosedNoted (λ c. c) (λ _. 1) (λ _. true) (λ _ _. then) k (λ _. stored_closed))
   closed_stored_noted then X can k kept own = access_noted coded_bool (closed_name z.traced) 136 (λ s. s.is_closed) (λ y s. record s { is_closed = y }) (takes_closed 𝓛 w z.traced I) (λ _. 1) flag (λ c. c) (λ _. true) (λ _ _. then) X (λ _. stored_closed) can
       (λ x t e. tt) (λ x t e. refl) k (λ _. own) (no_load kept)
 
@@ -392,7 +393,7 @@ module _ {M : Type 1} {𝓤 : Ura M} (𝓛 : Logic 𝓤) (w p : Ptr) (z : Names)
 
   -- a load of closed while the reader is there
   pub reader_looks : (q : Share) (head seen i : ℕ) → i ≡ 0 → (m b : Stream) → (k : Log) → (k.keeps ≡ true → k.names ≡ z)
-      → ⟦ C ⟧ ∗ (⟦ RK q head seen i ⟧ ∗ ⟦ E m ⟧ ∗ ⟦ E b ⟧) ∗ ⟦ Kept k k.did ⟧ ⊢ access 136 (λ n. n) (EndNoted (RK q head seen i) m b k)
+      → ⟦ C ⟧ ∗ (⟦ RK q head seen i ⟧ ∗ ⟦ E m ⟧ ∗ ⟦ E b ⟧) ∗ ⟦ Kept k (accesses_in k.lines) ⟧ ⊢ access 136 (λ n. n) (EndNoted (RK q head seen i) m b k)
   reader_looks q head seen i there m b k own = let K : Fml = RK q head seen i in let then : Stream → ℕ → Fml = AfterEnd K m b in let At : Stream → Pr = ClosedAt (λ r. r.1) (λ n. n) (λ r. r.1) then in let Z : Pr = ex 𝓤 At in
       closed_loaded_noted (λ (r : Stream). r.1) then (⟦ K ⟧ ∗ ⟦ E m ⟧ ∗ ⟦ E b ⟧) (qed 𝓛 (‵ I ∷ ‵ K ∷ ‵ (E m) ∷ ‵ (E b) ∷ []) ∵
       use2 𝓛 (some (λ (s : State). given (ReaderSees head seen i s) (‵ K ⊛ ‵ (RK other s.head s.seen s.reader_stage) ⊛ ‵ (WK other s.sent s.limit s.shut s.writer_stage) ⊛ ‵ (Rest s)))) (reader_opens q head seen i (omega arith)) $ pick ! (λ s. learn ! (λ so. split3 ! $
@@ -413,7 +414,7 @@ module _ {M : Type 1} {𝓤 : Ura M} (𝓛 : Logic 𝓤) (w p : Ptr) (z : Names)
   SawNoted K m b k = ClosedNoted (λ c. c) (λ n. n) (λ c. c) (AfterClosed K m b) k loaded_closed
 
   pub writer_looks : (q : Share) (sent : List ℕ) (limit : ℕ) (shut : Bool) (i : ℕ) → i ≤ 1 → (m : Bool) → (k : Log) → (k.keeps ≡ true → k.names ≡ z)
-      → ⟦ C ⟧ ∗ (⟦ WK q sent limit shut i ⟧ ∗ ⟦ S m ⟧) ∗ ⟦ Kept k k.did ⟧ ⊢ access 136 (λ n. n) (SawNoted (WK q sent limit shut i) m shut k)
+      → ⟦ C ⟧ ∗ (⟦ WK q sent limit shut i ⟧ ∗ ⟦ S m ⟧) ∗ ⟦ Kept k (accesses_in k.lines) ⟧ ⊢ access 136 (λ n. n) (SawNoted (WK q sent limit shut i) m shut k)
   writer_looks q sent limit shut i le m k own = closed_loaded_noted (λ (c : Bool). c) (AfterClosed (WK q sent limit shut i) m shut) (⟦ WK q sent limit shut i ⟧ ∗ ⟦ S m ⟧) (qed 𝓛 (‵ I ∷ ‵ (WK q sent limit shut i) ∷ ‵ (S m) ∷ []) ∵
       use2 𝓛 (some (λ (s : State). given (WriterSees sent limit shut i s) (‵ (WK q sent limit shut i) ⊛ ‵ (WK other s.sent s.limit s.shut s.writer_stage) ⊛ ‵ (RK other s.head s.seen s.reader_stage) ⊛ ‵ (Rest s)))) (writer_opens q sent limit shut i le) $ pick ! (λ s. learn ! (λ so. split3 ! $
       move ! (2 ∷ []) $ split ! $ let ei = so.4 in let same : flag shut ≡ flag s.shut = ap flag so.3 in let shutting = so.0.shutting in let top = so.0.stages.0 in move ! (3 ∷ 0 ∷ 1 ∷ 2 ∷ 4 ∷ []) $ by ! (shows_closed (WK q sent limit shut i) m shut s so.0 (omega arith) (omega arith))))) k own
@@ -423,7 +424,7 @@ module _ {M : Type 1} {𝓤 : Ura M} (𝓛 : Logic 𝓤) (w p : Ptr) (z : Names)
 
   -- the writer closes
   pub shuts : (sent : List ℕ) (limit : ℕ) (shut : Bool) (i : ℕ) → i ≤ 1 → (k : Log) → k.keeps ≡ true → k.names ≡ z
-      → ⟦ C ⟧ ∗ ⟦ WK half sent limit shut i ⟧ ∗ ⟦ Kept k k.did ⟧ ⊢ access 136 (λ _. 1) (Closed k (WK half sent limit true i))
+      → ⟦ C ⟧ ∗ ⟦ WK half sent limit shut i ⟧ ∗ ⟦ Kept k (accesses_in k.lines) ⟧ ⊢ access 136 (λ _. 1) (Closed k (WK half sent limit true i))
   shuts sent limit shut i le k kept own = let Then : Fml = WK half sent limit true i in let At : Bool → Pr = ClosedAt (λ c. c) (λ _. 1) (λ _. true) (λ _ _. Then) in let Z : Pr = ex 𝓤 At in
       closed_stored_noted Then ⟦ WK half sent limit shut i ⟧ (qed 𝓛 (‵ I ∷ ‵ (WK half sent limit shut i) ∷ []) ∵
       use2 𝓛 (some (λ (s : State). given (WriterSees sent limit shut i s) (‵ (WK half sent limit shut i) ⊛ ‵ (WK other s.sent s.limit s.shut s.writer_stage) ⊛ ‵ (RK other s.head s.seen s.reader_stage) ⊛ ‵ (Rest s)))) (writer_opens half sent limit shut i le) $ pick ! (λ s. learn ! (λ so. split3 ! $
@@ -442,7 +443,7 @@ module _ {M : Type 1} {𝓤 : Ura M} (𝓛 : Logic 𝓤) (w p : Ptr) (z : Names)
   Freed head seen i xs new k = HeadNoted (λ _. new) (λ x. x + length xs) (λ _ _. RK half (head + length xs) seen i) k (λ _. stored_head xs)
 
   pub frees : (head seen i : ℕ) → i ≤ 1 → (xs : List ℕ) (new : ℕ) → new ≡ position_of cap (head + length xs) → head + length xs ≤ seen
-      → (k : Log) → k.keeps ≡ true → k.names ≡ z → ⟦ C ⟧ ∗ (⟦ RK half head seen i ⟧ ∗ ⟦ run (byte p cap) head xs ⟧) ∗ ⟦ Kept k k.did ⟧ ⊢ access 8 (λ _. new) (Freed head seen i xs new k)
+      → (k : Log) → k.keeps ≡ true → k.names ≡ z → ⟦ C ⟧ ∗ (⟦ RK half head seen i ⟧ ∗ ⟦ run (byte p cap) head xs ⟧) ∗ ⟦ Kept k (accesses_in k.lines) ⟧ ⊢ access 8 (λ _. new) (Freed head seen i xs new k)
   frees head seen i le xs new is room k kept own = let top : ℕ = head + length xs in let Then : Fml = RK half top seen i in let At : ℕ → Pr = HeadAt (λ _. new) (λ x. x + length xs) (λ _ _. Then) in let Z : Pr = ex 𝓤 At in let B : ℕ → ℕ → Fml = byte p cap in
       head_noted (λ _. new) (λ x. x + length xs) (λ _ _. Then) (⟦ RK half head seen i ⟧ ∗ ⟦ run B head xs ⟧) (λ _. stored_head xs) (qed 𝓛 (‵ I ∷ ‵ (RK half head seen i) ∷ ‵ (run B head xs) ∷ []) ∵
       use2 𝓛 (some (λ (s : State). given (ReaderSees head seen i s) (‵ (RK half head seen i) ⊛ ‵ (RK other s.head s.seen s.reader_stage) ⊛ ‵ (WK other s.sent s.limit s.shut s.writer_stage) ⊛ ‵ (Rest s)))) (reader_opens half head seen i le) $ pick ! (λ s. learn ! (λ so. split3 ! $

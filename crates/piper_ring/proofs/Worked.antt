@@ -1,6 +1,6 @@
 -- Logs that no call makes, evaluated: a line that the table doesn't have where it stands is the end of
 -- the run.
-use Rattle.std.proofs.Common.{◌≡◌, Bool, true, false, List, ◌∷◌, None, Some, ap, sym, ◌∙◌, refl}
+use Rattle.std.proofs.Common.{◌≡◌, Bool, true, false, List, [], ◌∷◌, None, Some, ap, sym, ◌∙◌, refl}
 use Rattle.std.proofs.lemmas.Option.{none-some}
 use Rattle.piper_protocol.specs.Table.{Next, goes_on}
 use Rattle.piper_protocol.specs.declared.answer.Answer.{Answer}
@@ -8,14 +8,16 @@ use Rattle.piper_protocol.specs.declared.answer.Answer.TheVariants as answers
 use Rattle.piper_protocol.specs.declared.answer.Polled.TheVariants.{Ready}
 use Rattle.piper_protocol.specs.declared.table.Form.TheVariants.{Try}
 use Rattle.piper_protocol.specs.declared.table.Found.{Found}
-use Rattle.piper_protocol.specs.declared.table.Found.TheVariants.{Failed, Flag as flag, Moved, Nothing, Waker as waker}
+use Rattle.piper_protocol.specs.declared.table.Found.TheVariants.{Flag as flag, Moved, Nothing, Waker as waker}
 use Rattle.piper_protocol.specs.declared.table.Point.{Point}
 use Rattle.piper_protocol.specs.declared.table.Point.TheVariants.{Reader, Writer}
 use Rattle.piper_protocol.specs.declared.table.Purpose.TheVariants.{Copy, Poll}
 use Rattle.piper_protocol.specs.declared.table.WritePoint.TheVariants as on
+use Rattle.piper_protocol.specs.declared.table.Side.TheVariants as sides
+use Rattle.piper_protocol.specs.OneList.{loaded_closed, loaded_slot, stored_tail}
+use Rattle.piper_ring.specs.Line.{Line, access, note}
 use Rattle.piper_ring.specs.Log.{Log, Ran, comes_to, drawn, idle, looks, step}
-use Rattle.piper_ring.specs.declared.log.Line.{Line}
-use Rattle.piper_ring.specs.declared.log.Line.TheVariants.{Began, ClosedLoaded, Drew, Made}
+use Rattle.piper_ring.specs.declared.log.Note.TheVariants.{Began, ClosedLoaded, Made, Told}
 
 -- where no call is open no line leads on but the beginning of one
 found_idle : (side : Point) (found : Found) → step (idle side) found ≡ goes_on (idle side)
@@ -34,28 +36,41 @@ drawn_idle (Writer point) is_drawn = refl
 -- so lines that lead nowhere are no run, whatever is added to them
 no_run : (start : Point) (answer : Answer) (a b : Log) (lines : List Line) → b.lines ≡ lines
     → (comes_to lines).answer ≡ None → Ran start answer a b → ⊥
+unfolding Ran
 no_run start answer a b lines same none ran =
     let now : (comes_to b.lines).answer ≡ Some answer =
     ap (λ (next : Next Point). next.answer) ran.now in
     none-some answer (sym none ∙ ap (λ ls. (comes_to ls).answer) (sym same) ∙ now)
 
--- a poll of the writer that loads closed twice, fails and draws before its first load
+-- a poll of the writer that loads closed once more before its first load
 stutters : (a b : Log)
-    → b.lines ≡ Made Nothing ∷ ClosedLoaded false false ∷ Made (flag true) ∷ Made Failed
-    ∷ Drew true ∷ Made (flag false) ∷ Began (Writer (on.LookClosed Poll)) ∷ a.lines
+    → b.lines ≡ note (Made Nothing) ∷ note (ClosedLoaded false false) ∷ access (loaded_closed false)
+    ∷ access (loaded_closed false) ∷ note (Began (Writer (on.LookClosed Poll))) ∷ a.lines
     → Ran (Writer (on.LookClosed Poll)) (answers.Poll (Ready true)) a b → ⊥
 stutters a b same ran = no_run _ _ a b _ same refl ran
 
--- and without these lines it is one
+-- one that notes a load that was not made
+skips : (a b : Log)
+    → b.lines ≡ note (Made Nothing) ∷ note (ClosedLoaded false false)
+    ∷ note (Began (Writer (on.LookClosed Poll))) ∷ a.lines
+    → Ran (Writer (on.LookClosed Poll)) (answers.Poll (Ready true)) a b → ⊥
+skips a b same ran = no_run _ _ a b _ same refl ran
+
+-- and one that does neither is a run
 polls : (a b : Log)
-    → b.lines ≡ Made Nothing ∷ ClosedLoaded false false ∷ Began (Writer (on.LookClosed Poll)) ∷ a.lines
+    → b.lines ≡ note (Made Nothing) ∷ note (ClosedLoaded false false) ∷ access (loaded_closed false)
+    ∷ note (Began (Writer (on.LookClosed Poll))) ∷ a.lines
     → Ran (Writer (on.LookClosed Poll)) (answers.Poll (Ready true)) a b
+unfolding Ran
 polls a b same = record { first = rw same refl; before = rw same refl; now = rw same refl }
 
--- a fill without a context that loads closed twice in its round
+-- a fill without a context that loads closed twice in its round, and tells both
 loads_twice : (a b : Log)
-    → b.lines ≡ Made (Moved 0) ∷ Made (waker false) ∷ Made Nothing ∷ Made (flag false)
-    ∷ ClosedLoaded false false ∷ Made (Moved 1) ∷ ClosedLoaded false false
-    ∷ Began (Writer (on.LookClosed (Copy Try))) ∷ a.lines
+    → b.lines ≡ note (Made (Moved 0)) ∷ note (Told (waker false)) ∷ access (loaded_slot sides.Reader false)
+    ∷ note (Told Nothing) ∷ access (stored_tail (0 ∷ []))
+    ∷ note (Told (flag false)) ∷ access (loaded_closed false)
+    ∷ note (ClosedLoaded false false) ∷ access (loaded_closed false) ∷ note (Made (Moved 1))
+    ∷ note (ClosedLoaded false false) ∷ access (loaded_closed false)
+    ∷ note (Began (Writer (on.LookClosed (Copy Try)))) ∷ a.lines
     → Ran (Writer (on.LookClosed (Copy Try))) (answers.Count 1) a b → ⊥
 loads_twice a b same ran = no_run _ _ a b _ same refl ran

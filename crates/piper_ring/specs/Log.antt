@@ -1,13 +1,14 @@
 -- What a log says: where its side's last call is, by the call table.
-use Rattle.std.specs.Prelude.{◌≡◌, ℕ, Bool, List, [], ◌∷◌, Option, None, is_some, Result, Ok, Err, true, false, not, ⊤}
-use Rattle.piper_protocol.specs.OneList.{Access, AreOneList, stored_closed, swapped}
+use Rattle.std.specs.Prelude.{◌≡◌, ℕ, Bool, List, [], ◌∷◌, length, Option, None, is_some, Result, Ok, Err, true, false, not, ⊤}
+use Rattle.piper_protocol.specs.OneList.{Access, AreOneList, loaded_closed, loaded_head, loaded_slot, loaded_tail, stored_closed, stored_head, stored_tail, swapped}
 use Rattle.piper_protocol.specs.Table.{Next, ends, goes_on, look_begun, read_action, read_row, write_action, write_row}
 use Rattle.piper_protocol.specs.declared.answer.Answer.{Answer}
 use Rattle.piper_protocol.specs.declared.answer.Answer.TheVariants.{Done}
 use Rattle.piper_protocol.specs.declared.table.Action.{Action}
 use Rattle.piper_protocol.specs.declared.table.Action.TheVariants as does
 use Rattle.piper_protocol.specs.declared.table.Found.{Found}
-use Rattle.piper_protocol.specs.declared.table.Found.TheVariants.{Failed, Moved, Nothing, Waker as waker}
+use Rattle.piper_protocol.specs.declared.table.Found.TheVariants.{Failed, Flag as flag, Granted as granted, IndexLoaded as index_loaded, Moved, Nothing, Waker as waker}
+use Rattle.piper_protocol.specs.declared.table.AfterWrite.TheVariants.{Drop}
 use Rattle.piper_protocol.specs.declared.table.Form.TheVariants.{Polling}
 use Rattle.piper_protocol.specs.declared.table.Point.{Point}
 use Rattle.piper_protocol.specs.declared.table.Point.TheVariants.{Reader, Writer}
@@ -15,10 +16,11 @@ use Rattle.piper_protocol.specs.declared.table.Purpose.TheVariants.{Copy}
 use Rattle.piper_protocol.specs.declared.table.ReadPoint.TheVariants as at
 use Rattle.piper_protocol.specs.declared.table.Side.{Side}
 use Rattle.piper_protocol.specs.declared.table.WritePoint.TheVariants as on
+use Rattle.piper_ring.specs.Line.{Line, access, accesses_in, note}
 use Rattle.piper_ring.specs.Shared.{Names}
 use Rattle.piper_ring.specs.Trace.{side_of}
-use Rattle.piper_ring.specs.declared.log.Line.{Line}
-use Rattle.piper_ring.specs.declared.log.Line.TheVariants.{Began, Made, ClosedLoaded, Drew}
+use Rattle.piper_ring.specs.declared.log.Note.{Note}
+use Rattle.piper_ring.specs.declared.log.Note.TheVariants.{Began, ClosedLoaded, Drew, Made, Passed, Told}
 use Rattle.piper_ring.specs.declared.log.Log.{Log as log}
 
 -- the call table of both sides
@@ -42,6 +44,11 @@ looks none is_closed (Reader point) = goes_on (Reader at.Idle)
 looks none is_closed (Writer point) =
     of_side Writer (look_begun (goes_on on.Idle) none point is_closed)
 
+-- where a side leaves: it closes, and its handle is dropped
+abbrev pub leaves_at : Bool → Point
+leaves_at true = Reader at.StoreClosed
+leaves_at false = Writer (on.StoreClosed Drop)
+
 -- where a side is between its calls
 abbrev pub idle : Point → Point
 idle (Reader point) = Reader at.Idle
@@ -57,32 +64,66 @@ drawn is_drawn point = idle point
 
 -- what a log says
 
--- two logs say the same of the calls
-abbrev pub AreAlike : log → log → Type 0
-AreAlike a b = a.lines ≡ b.lines
+-- where no call is open: only the beginning of another call leads on from there
+abbrev nowhere : Next Point
+nowhere = goes_on (Reader at.Idle)
 
--- where the last call is after these lines, and what it answered
+-- where the last call is after these lines, and what it answered. After an access only the note leads
+-- on that says what it was
 abbrev pub comes_to : List Line → Next Point
 comes_to [] = ends (Reader at.Idle) Done
-comes_to (Began first ∷ before) = goes_on first
-comes_to (Made found ∷ before) = step (comes_to before).point found
-comes_to (ClosedLoaded none is_closed ∷ before) = looks none is_closed (comes_to before).point
-comes_to (Drew is_drawn ∷ before) = goes_on (drawn is_drawn (comes_to before).point)
+comes_to (note (Began first) ∷ before) = goes_on first
+comes_to (note (Made found) ∷ before) = step (comes_to before).point found
+comes_to (note (Drew is_drawn) ∷ before) = goes_on (drawn is_drawn (comes_to before).point)
+comes_to (note (Told found) ∷ access a ∷ before) = step (comes_to before).point found
+comes_to (note Passed ∷ access a ∷ before) = comes_to before
+comes_to (note (ClosedLoaded none is_closed) ∷ access a ∷ before) =
+    looks none is_closed (comes_to before).point
+comes_to lines = nowhere
 
 -- where the last call began, and what was before it
 abbrev pub first_of : List Line → Point
 first_of [] = Reader at.Idle
-first_of (Began first ∷ before) = first
-first_of (Made found ∷ before) = first_of before
-first_of (ClosedLoaded none is_closed ∷ before) = first_of before
-first_of (Drew is_drawn ∷ before) = first_of before
+first_of (note (Began first) ∷ before) = first
+first_of (line ∷ before) = first_of before
 
 abbrev pub before_of : List Line → List Line
 before_of [] = []
-before_of (Began first ∷ before) = before
-before_of (Made found ∷ before) = before_of before
-before_of (ClosedLoaded none is_closed ∷ before) = before_of before
-before_of (Drew is_drawn ∷ before) = before_of before
+before_of (note (Began first) ∷ before) = before
+before_of (line ∷ before) = before_of before
+
+-- the access is this step of the table, and found this
+abbrev Fits : Action → Access → Found → Type 0
+Fits does.LoadIndex (loaded_head count) (index_loaded none) = ⊤
+Fits does.LoadIndex (loaded_tail count) (index_loaded none) = ⊤
+Fits does.LoadClosed (loaded_closed is_closed) (flag found) = is_closed ≡ found
+Fits (does.StoreHead n) (stored_head bytes) Nothing = length bytes ≡ n
+Fits (does.StoreTail n) (stored_tail bytes) Nothing = length bytes ≡ n
+Fits (does.StoreClosed is_shut) stored_closed Nothing = ⊤
+Fits does.Register (swapped side old left) (granted true) = is_some left ≡ true
+Fits (does.Take side) (loaded_slot there is_filled) (waker false) =
+    (there ≡ side) × (is_filled ≡ false)
+Fits (does.Take side) (loaded_slot there is_filled) Nothing = (there ≡ side) × (is_filled ≡ false)
+Fits (does.Take side) (swapped there old left) (waker found) =
+    (there ≡ side) × (left ≡ None) × (is_some old ≡ found)
+Fits (does.Take side) (swapped there old left) Nothing = (there ≡ side) × (left ≡ None)
+Fits it a found = ⊥
+
+-- the last line is an access, which is this step, and the table has it next
+abbrev pub IsTold : Action → Found → List Line → Type 0
+IsTold it found (access a ∷ before) = (action (comes_to before).point ≡ it) × Fits it a found
+IsTold it found lines = ⊥
+
+-- the access is none of the table's: a load that found the slot full which is to be emptied, or the
+-- swap by which a side takes its own waker back before it registers
+abbrev Passes : Action → Access → Type 0
+Passes (does.Take side) (loaded_slot there is_filled) = (there ≡ side) × (is_filled ≡ true)
+Passes does.Register (swapped side old left) = left ≡ None
+Passes it a = ⊥
+
+abbrev pub MayPass : Action → List Line → Type 0
+MayPass it (access a ∷ before) = (action (comes_to before).point ≡ it) × Passes it a
+MayPass it lines = ⊥
 
 -- a log, and with one line more
 abbrev pub Log : Type 0
@@ -94,7 +135,11 @@ IsLogOf names reads log = (log.keeps ≡ true) × (log.names ≡ names) × (log.
 
 -- of which nothing is noted yet
 abbrev pub IsNew : Names → Bool → Log → Type 0
-IsNew names reads log = IsLogOf names reads log × (log.did ≡ []) × (log.lines ≡ [])
+IsNew names reads log = IsLogOf names reads log × (log.lines ≡ [])
+
+-- all that the side did to what both share
+unfoldable pub accesses_of : Log → List Access
+accesses_of log = accesses_in log.lines
 
 -- the first has the accesses of the reader, if that is `true`, else those of the writer, and the second
 -- those of the other side: they are what is left of one list
@@ -106,22 +151,36 @@ AreSides false a b = AreOneList b a
 abbrev pub MayNote : Names → Bool → Log → Type 0
 MayNote names reads log = log.keeps ≡ true → (log.names ≡ names) × (log.reads ≡ reads)
 
-abbrev pub did : Access → Log → Log
-did access log = record log { did = access ∷ log.did }
-
--- the same, if the access was made
-abbrev pub did_if : Bool → Access → Log → Log
-did_if true access log = did access log
-did_if false access log = log
-
 abbrev pub with_line : Line → Log → Log
 with_line line log = record log { lines = line ∷ log.lines }
 
+abbrev pub did : Access → Log → Log
+did a = with_line (access a)
+
+abbrev pub with_note : Note → Log → Log
+with_note said = with_line (note said)
+
 abbrev pub began : Point → Log → Log
-began first = with_line (Began first)
+began first = with_note (Began first)
+
+abbrev pub told : Found → Log → Log
+told found = with_note (Told found)
+
+abbrev pub passed : Log → Log
+passed = with_note Passed
+
+-- the same, if this access was made and was none of the table's
+abbrev pub passed_if : Bool → Access → Log → Log
+passed_if true a log = passed (did a log)
+passed_if false a log = log
 
 abbrev pub made : Found → Log → Log
-made found = with_line (Made found)
+made found = with_note (Made found)
+
+-- the step was made, by this access or without one
+abbrev pub told_if : Bool → Found → Access → Log → Log
+told_if true found a log = told found (did a log)
+told_if false found a log = made found log
 
 -- what a call of a source or a destination found
 abbrev pub found_of : {F : Type 0} → Result ℕ F → Found
@@ -129,10 +188,10 @@ found_of (Ok n) = Moved n
 found_of (Err e) = Failed
 
 abbrev pub closed_loaded : Bool → Bool → Log → Log
-closed_loaded none is_closed = with_line (ClosedLoaded none is_closed)
+closed_loaded none is_closed = with_note (ClosedLoaded none is_closed)
 
 abbrev pub drew : Bool → Log → Log
-drew is_drawn = with_line (Drew is_drawn)
+drew is_drawn = with_note (Drew is_drawn)
 
 -- where the last call is, and what it answered
 abbrev pub now : Log → Next Point
@@ -160,7 +219,7 @@ pub record Comes (there : Next Point) (a b : Log) : Type 0 where
 
 -- since a, one call was made: it began at this point, and its lines, in their order, are a run of the
 -- table to this answer
-abbrev pub Ran : Point → Answer → Log → Log → Type 0
+unfoldable pub Ran : Point → Answer → Log → Log → Type 0
 Ran start answer a b = Opened start (ends (idle start) answer) a b
 
 -- since a these calls were made, one after the other, and nothing else: each is a run of the table from
@@ -182,12 +241,13 @@ own reads = side_of reads
 abbrev pub other : Bool → Side
 other reads = side_of (not reads)
 
--- the last accesses of a side that left: it closed, and then emptied the other's slot, in which it
--- found a waker or none
+-- the last lines of a side that left: it closed, and then emptied the other's slot, in which it found
+-- a waker or none
 abbrev pub HasLeft : Bool → Log → Log → Type 0
 HasLeft is_found a b =
     (found : Option ℕ) × (is_some found ≡ is_found)
-    × (b.did ≡ swapped (other a.reads) found None ∷ stored_closed ∷ a.did)
+    × (b.lines ≡ note (Told (waker is_found)) ∷ access (swapped (other a.reads) found None)
+    ∷ note (Told Nothing) ∷ access stored_closed ∷ a.lines)
 
 -- this step was made, which is no access of a ring. It is sealed: no proof looks into it, and only
 -- those of the functions that make the step use the lemma below
@@ -198,13 +258,13 @@ pub as_stepped : (action : Action) → WasMade action
 unfolding WasMade
 as_stepped action = tt
 
--- the step is no access of a ring: a call of the source or the destination of a copy, of a waker, or
--- for one that is to be registered. A waker was called before that is noted, and another poll asked
--- for
-abbrev pub IsOutside : Action → Type 0
-IsOutside does.Register = ⊤
-IsOutside does.Wake = WasMade does.Wake
-IsOutside does.Yield = WasMade does.Yield
-IsOutside does.CallDestination = ⊤
-IsOutside does.CallSource = ⊤
-IsOutside action = ⊥
+-- the step is no access of a ring, and found this: a call of the source or the destination of a copy,
+-- of a waker, or for one that is to be registered, which is refused. A waker was called before that
+-- is noted, and another poll asked for
+abbrev pub IsOutside : Action → Found → Type 0
+IsOutside does.CallDestination found = ⊤
+IsOutside does.CallSource found = ⊤
+IsOutside does.Register (granted false) = ⊤
+IsOutside does.Wake Nothing = WasMade does.Wake
+IsOutside does.Yield (granted true) = WasMade does.Yield
+IsOutside action found = ⊥

@@ -119,7 +119,7 @@ impl<'a> SlotWords<'a> {
     ghost use Rattle.std.specs.Prelude.{None, not};
     ghost use Rattle.piper_protocol.specs.OneList.{loaded_slot, swapped};
     ghost use Rattle.piper_ring.specs.Loads.{FoundOwn, FoundWaiter};
-    ghost use Rattle.piper_ring.specs.Log.{AreSides, IsLogOf, MayNote, did};
+    ghost use Rattle.piper_ring.specs.Log.{AreSides, IsLogOf, MayNote, accesses_of, did};
     ghost use Rattle.piper_ring.specs.Trace.{side_of};
     ghost use Rattle.piper_ring.specs.Shared.{slot_word};
     ghost use Rattle.piper_ring.specs.Slot.{Exchanges, IsRemembered, IsTicket, is_odd, ticket_if};
@@ -232,7 +232,7 @@ impl<'a> SlotWords<'a> {
     pub(crate) fn meet_logs(self, log: &mut Log, other: &mut Log)
         requires { IsLogOf self.names log.old.reads log.old
             × IsLogOf self.names (not log.old.reads) other.old }
-        ensures list { AreSides log.old.reads log.old.did other.old.did }
+        ensures list { AreSides log.old.reads (accesses_of log.old) (accesses_of other.old) }
         ensures kept { (log.new ≡ log.old) × (other.new ≡ other.old) }
     {
         let SlotWords { words: _, mark: _ } = self;

@@ -2,13 +2,14 @@
 use Rattle.std.proofs.Common.{ap, rules}
 use Rattle.piper_ring.specs.SlotsView.{SlotsView}
 use Rattle.piper.proofs.Calling.{calls_then}
+use Rattle.piper.proofs.Rounds.{round_out}
 use Rattle.piper.proofs.RoundsOut.{drained_more}
 use Rattle.piper.proofs.handles.Reader.drain_rounds.Goals as goal
 
 pub rounds-preserved : goal.rounds-preserved
 rounds-preserved g c =
     let before = c.rounds.invariant in record {
-      ran = search rules;
+      ran = round_out _ _ c.in-Ok.n _ _ _ _ _ _ before.ran c.in-Ok.ensures.log (search rules) c.store_head.ensures.log c.wake_other.ensures.log;
       drained = search (rules, drained_more);
       failures = search rules;
       rest = search rules;

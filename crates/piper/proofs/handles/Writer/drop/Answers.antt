@@ -25,7 +25,6 @@ dropped c = record {
   taken = c.finish-side.result.taken;
   after = c.finish-side.result.side.log;
   leaves = rw c.begin.ensures.log at c.finish-side.ensures.leaves;
-  ran = record { first = search rules; before = search rules; now = search rules };
   called = is_called c;
   left = c.finish-side.result.left;
   gets = rw c.begin.ensures.end at c.finish-side.ensures.left;

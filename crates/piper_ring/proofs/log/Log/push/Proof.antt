@@ -1,18 +1,18 @@
--- `push` adds a line. Assumes `Logic`.
+-- `push` adds a note. Assumes `Logic`.
 use Rattle.piper_ring.proofs.Kit.{◌≡◌, ℕ, List, [], ◌∷◌, refl, named, Val, vptr, SProp, emp, ftrue, flft, ‵, raw, ◌⊛◌, ◌$◌, ◌∵◌, !, qed, by, move, keep, split, split3, join, fsplit3, fjoin, fjoin3, use0, feq_i, of_opd, returns, enter, alloc_all, pass_all, free_all, look_at, sets, env, mut_vals, mut_Tells, opens, closes, stay_ref, Goes-ref, vunit, unit_lit, fact, fact_i, tables, yes, RattleType, owns, types_at, plain, RefOf, shr_vals, shr_Tells, nothing, Stays, stay_dropped, walk_of, Goes-dropped, proved, leaves}
-use Rattle.piper_ring.specs.Log.{with_line}
-use Rattle.piper_ring.specs.contracts.log.Line as Line
+use Rattle.piper_ring.specs.Log.{with_note}
+use Rattle.piper_ring.specs.contracts.log.Note as Note
 use Rattle.piper_ring.specs.contracts.log.Log as Log
 use Rattle.piper_ring.proofs.log.Log.push as own
 
 pub push_spec : {M : Type 1} → own.Statement.statement M
 push_spec 𝓤 𝓛 𝓜 𝓡 wired =
     let H = 𝓛.H in let 𝓣 = tables 𝓤 H 𝓜 𝓡 𝓡.env in let En = Log.push.ended in let fn = own.Code.function in let c = Log.push.clauses 𝓛 𝓜.mem 𝓡.returns in
-    let Row : RattleType = Log.the_row in let self = plain (λ _. Row) in let line = RefOf (1 ∷ []) tt (plain (λ _. Line.the_row)) (λ _. tt) in
+    let Row : RattleType = Log.the_row in let self = plain (λ _. Row) in let line = RefOf (1 ∷ []) tt (plain (λ _. Note.the_row)) (λ _. tt) in
     let hs : Stays En.signature.params En.kept = (stay_ref (0 ∷ []) tt self, (stay_dropped line yes, tt)) in
     proved 𝓛 En hs c 𝓜 𝓡 (Goes-ref 𝓛 2 0 tt self, (Goes-dropped 𝓛 2 line yes (λ κs x f. refl), tt)) Log.push.Key.name fn (own.Code.unfolded 𝓤 H 𝓜 𝓡 wired)
-    (λ κs. (mut_vals, (shr_vals, tt))) (λ κs. (mut_Tells (named 0) κs.0 Row, (shr_Tells (named 1) κs.1.0 Line.the_row, tt))) (λ κs qs bounds a gh are.
-    let b : ℕ = a.0.ref_ptr.0 in let o : ℕ = a.0.ref_ptr.1 in let h = a.0.now in let b' : ℕ = a.1.0.ref_ptr.0 in let o' : ℕ = a.1.0.ref_ptr.1 in let h' : Row.Denot = with_line a.1.0.now h in
+    (λ κs. (mut_vals, (shr_vals, tt))) (λ κs. (mut_Tells (named 0) κs.0 Row, (shr_Tells (named 1) κs.1.0 Note.the_row, tt))) (λ κs qs bounds a gh are.
+    let b : ℕ = a.0.ref_ptr.0 in let o : ℕ = a.0.ref_ptr.1 in let h = a.0.now in let b' : ℕ = a.1.0.ref_ptr.0 in let o' : ℕ = a.1.0.ref_ptr.1 in let h' : Row.Denot = with_note a.1.0.now h in
     let y : (walk_of 𝓛 En hs c).Ghost = ((κs, qs, bounds, a, (vptr b o ∷ [], (vptr b' o' ∷ [], tt))), gh) in let Post : Val → SProp 𝓤 = (walk_of 𝓛 En hs c).post y in
     qed 𝓛 (((‵ (flft κs.0 qs.0) ⊛ ‵ (flft κs.1.0 qs.1.0) ⊛ ‵ ftrue) ⊛ ‵ (owns (types_at En.signature.params κs) a y.0.4)) ∷ ‵ ftrue ∷ []) ∵
     keep ! (0 ∷ []) $ split ! $ split3 ! $ move ! (3 ∷ []) $ fsplit3 ! $ fsplit3 ! $ keep ! (1 ∷ 2 ∷ 5 ∷ 6 ∷ []) $

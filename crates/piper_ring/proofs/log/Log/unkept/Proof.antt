@@ -7,7 +7,7 @@ use Rattle.piper_ring.proofs.log.Log.unkept as own
 pub unkept_spec : {M : Type 1} → own.Statement.statement M
 unkept_spec 𝓤 𝓛 𝓜 𝓡 wired =
     let H = 𝓛.H in let 𝓣 = tables 𝓤 H 𝓜 𝓡 𝓡.env in let En = Log.unkept.ended in let fn = own.Code.function in let c = Log.unkept.clauses 𝓛 𝓜.mem 𝓡.returns in
-    let hs : Stays En.signature.params En.kept = tt in let empty : Log.the_row.Denot = record { mark = record {}; names = names_of 0 0 0 0 0 0 0 0 0 0 0 0 [] 0 []; reads = false; keeps = false; did = []; lines = [] } in
+    let hs : Stays En.signature.params En.kept = tt in let empty : Log.the_row.Denot = record { mark = record {}; names = names_of 0 0 0 0 0 0 0 0 0 0 0 0 [] 0 []; reads = false; keeps = false; lines = [] } in
     proved 𝓛 En hs c 𝓜 𝓡 tt Log.unkept.Key.name fn (own.Code.unfolded 𝓤 H 𝓜 𝓡 wired) (λ κs. tt) (λ κs. tt) (λ κs qs bounds a gh are.
     let y : (walk_of 𝓛 En hs c).Ghost = ((κs, qs, bounds, a, tt), gh) in let Post : Val → SProp 𝓤 = (walk_of 𝓛 En hs c).post y in
     qed 𝓛 ((raw (alive 𝓛 En.signature κs qs) ⊛ ‵ (owns (types_at En.signature.params κs) a y.0.4)) ∷ raw ((c κs a).requires gh) ∷ []) ∵

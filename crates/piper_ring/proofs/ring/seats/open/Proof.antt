@@ -52,7 +52,7 @@ open_spec 𝓤 𝓛 𝓜 𝓡 wired =
     move ! (1 ∷ []) $ use0 𝓛 (‵ (GhostData.own_val (record {}, tt) (ghost_val ∷ []))) (ghost_made 𝓛) $ fjoin ! $ move ! (2 ∷ []) $ use0 𝓛 (‵ (GhostData.own_val (record {}, tt) (ghost_val ∷ []))) (ghost_made 𝓛) $ fjoin ! $ move ! (1 ∷ 0 ∷ []) $ join ! $ move ! (2 ∷ 3 ∷ 1 ∷ []) $
     let one : ReadSeat.the_row.Denot = record { words = w; at = p; names = z; head = 0; seen = 0; have = []; leaving = false } in let two : WriteSeat.the_row.Denot = record { words = w; at = p; names = z; sent = []; limit = cap; shut = false } in
     let three : Blank.the_row.Denot = record { mark = record {}; at = p; capacity = cap; first = 0; count = cap } in let v : Val = pointer_val w in let small_cap : cap < 2 ^ 63 = omega arith in
-    let waits : Bool → Waits.the_row.Denot = λ r. record { mark = record {}; names = z; for_reader = r; waits = false; tickets = 0; heard = nothing_stored } in let wakes : Bool → Wakes.the_row.Denot = λ r. record { mark = record {}; names = z; for_reader = r; taken = 0; stored = nothing_stored } in let log : Bool → Log.the_row.Denot = λ r. record { mark = record {}; names = z; reads = r; keeps = true; did = []; lines = [] } in let g : Val = ghost_val in
+    let waits : Bool → Waits.the_row.Denot = λ r. record { mark = record {}; names = z; for_reader = r; waits = false; tickets = 0; heard = nothing_stored } in let wakes : Bool → Wakes.the_row.Denot = λ r. record { mark = record {}; names = z; for_reader = r; taken = 0; stored = nothing_stored } in let log : Bool → Log.the_row.Denot = λ r. record { mark = record {}; names = z; reads = r; keeps = true; lines = [] } in let g : Val = ghost_val in
     use0 𝓛 (‵ (PointerData.own_val (w, tt) (v ∷ []))) (pointer_made 𝓛 w) $ fjoin ! $ move ! (1 ∷ []) $ use0 𝓛 (‵ (PointerData.own_val (w, tt) (v ∷ []))) (pointer_made 𝓛 w) $ fjoin ! $ move ! (4 ∷ []) $
     use1 𝓛 (‵ (span (unset p cap) 0 cap)) (as_places 𝓛 w p cap) $ nothing ! $ fpack ! (P.Placed p cap) (λ _. ftrue) (tt, small_cap) $ fjoin ! $ use0 𝓛 (‵ (GhostData.own_val (record {}, tt) (ghost_val ∷ []))) (ghost_made 𝓛) $ fjoin ! $
     move ! (3 ∷ []) $ fsplit ! $ fsplit ! $ move ! (2 ∷ []) $ fsplit ! $
@@ -72,7 +72,7 @@ open_spec 𝓤 𝓛 𝓜 𝓡 wired =
     sets ! (of_opd ! (get ! refl)) refl (tt, (tt, tt)) $ sets ! (of_opd ! (get ! refl)) refl (tt, (tt, tt)) $ sets ! (of_opd ! (get ! refl)) refl (tt, (tt, tt)) $ sets ! (of_opd ! (get ! refl)) refl (tt, (tt, tt)) $ sets ! (of_opd ! (get ! refl)) refl (tt, (tt, tt)) $ sets ! (of_opd ! (get ! refl)) refl (tt, (tt, tt)) $
     sets ! (of_opd ! (get ! refl)) refl (tt, (tt, tt)) $ sets ! (of_opd ! (get ! refl)) refl (tt, (tt, tt)) $ sets ! (of_opd ! (get ! refl)) refl (tt, (tt, tt)) $
     sets ! (agg ! (and_then ! (get ! refl) (and_then ! (get ! refl) (and_then ! (get ! refl) (and_then ! (get ! refl) (and_then ! (get ! refl) (and_then ! (get ! refl) (and_then ! (get ! refl) (and_then ! (get ! refl) (and_then ! (get ! refl) (no_more !))))))))))) refl (tt, ((tt, tt), ((tt, tt), ((tt, tt), ((tt, tt), ((tt, tt), ((tt, tt), ((tt, tt), ((tt, tt), ((tt, tt), tt)))))))))) $
-    let Logs : Type 0 = IsNew z true (log true) × IsNew z false (log false) in use0 𝓛 (raw (fact 𝓤 Logs)) (fact_i 𝓤 Logs (emp 𝓤) (((refl, refl, refl), refl, refl), ((refl, refl, refl), refl, refl))) $
+    let Logs : Type 0 = IsNew z true (log true) × IsNew z false (log false) in use0 𝓛 (raw (fact 𝓤 Logs)) (fact_i 𝓤 Logs (emp 𝓤) (((refl, refl, refl), refl), ((refl, refl, refl), refl))) $
     use0 𝓛 (raw (fact 𝓤 (LooksFirst z false (wakes false)))) (fact_i 𝓤 (LooksFirst z false (wakes false)) (emp 𝓤) (refl, refl, refl, refl)) $ join ! $
     use0 𝓛 (raw (fact 𝓤 (IsUnused z false (waits false)))) (fact_i 𝓤 (IsUnused z false (waits false)) (emp 𝓤) (refl, refl, refl, refl, refl)) $ join ! $
     use0 𝓛 (raw (fact 𝓤 (LooksFirst z true (wakes true)))) (fact_i 𝓤 (LooksFirst z true (wakes true)) (emp 𝓤) (refl, refl, refl, refl)) $ join ! $

@@ -1,6 +1,7 @@
 -- `empty_other` is one swap, beside a share of what the end knows that lends the words, and evidence of
 -- what it stored: the own right goes in, and the one of the cell that lay there comes out. Assumes
 -- `Logic`.
+use Rattle.piper_ring.specs.Line.{accesses_in}
 use Rattle.piper_ring.proofs.Kit.{◌≡◌, ℕ, ◌+◌, ◌*◌, ◌<◌, ◌^◌, List, [], ◌∷◌, sym, refl, ap, subst, w64, lit<, named, Val, vint, vptr, SProp, emp, via, Share, Fml, ftrue, flft, ‵, raw, ◌⊛◌, given, mean, at_ret, ◌$◌, ◌∵◌, !, qed, by, move, keep, drop, split, split3, join, fsplit, fsplit3, fjoin, fjoin3, fpick, fpack, learn, use0, use3, rewrite, feq_i, flt_i, stop, fld, lit, of_opd, bin, no_more, and_then, first, blocks, exec, Calls-last, returns, enter, alloc_all, pass_all, free_all, look_at, get, get_in, sub, whole, is, sets, lands_last, env, agg, shr_bor-open, obor_close, fact, fact_i, tables, yes, no, RattleType, owns, types_at, plain, named_lft, Ptr, block_ptr, ptr_val, block_of, count_of, at_block, usize, uint_vals, uint_Tells, mut_vals, mut_Tells, nothing, opens, closes, Stays, stay_dropped, stay_ref, walk_of, Goes-dropped, Goes-ref, after as from_on, guard_good, proved, leaves, seq_cst, fm, Names, RingIsPlaced, Bool, true, false, Stored, slot_word, found, finds, lent_val, lent_told, u64, swaps, right, number, ◌∙◌, Wakes, IsTicket, evidence, wakes_in, of_wakes}
 use Rattle.std.proofs.Common.{slice_index}
 use Rattle.piper_protocol.specs.OneList.{swapped}
@@ -48,7 +49,7 @@ empty_other_spec 𝓤 𝓛 𝓜 𝓡 wired =
     fpick ! (λ came. fsplit ! $ fsplit3 ! $ move ! (1 ∷ []) $ fpick ! (λ there. drop ! $ move ! (1 ∷ []) $ fsplit ! $ move ! (1 ∷ []) $ fpick ! (λ v. fsplit ! $ fpick ! (λ so. drop ! $ move ! (4 ∷ 2 ∷ []) $ obor_close ! tt $ drop ! $
     let k' : SRow.Denot = record k { taken = v.0; stored = v.1 } in let t' : TRow.Denot = record { mark = record {}; name = slice_index z.cells came.0; there = true; filled = is_some came.1 } in
     let l' : LRow.Denot = did (swapped (side_of r) (ticket_if (is_some came.1) v.0) None) lg in
-    rewrite ! 3 (λ (u : Option ℕ). ‵ (Kept 𝓛 w p z lg (swapped (side_of r) u None ∷ lg.did))) {x = ticket_if (is_some came.1) v.0} {y = came.1} so.0.1 refl $
+    rewrite ! 3 (λ (u : Option ℕ). ‵ (Kept 𝓛 w p z lg (swapped (side_of r) u None ∷ (accesses_in lg.lines)))) {x = ticket_if (is_some came.1) v.0} {y = came.1} so.0.1 refl $
     rewrite ! 1 (λ (m : Names). ‵ (wakes_in m r v.0 v.1)) {x = k.names} {y = z} (sym asked.0) refl $
     move ! (5 ∷ 2 ∷ []) $ fjoin ! $ move ! (5 ∷ 0 ∷ 6 ∷ 7 ∷ 8 ∷ []) $ closes ! tt TRow t' vs2 b2 o2 $ feq_i ! (List Val) (vptr b2 o2 ∷ []) (vptr b2 o2 ∷ []) refl $ fjoin3 ! $
     move ! (5 ∷ 3 ∷ []) $ fjoin ! $ move ! (5 ∷ 0 ∷ 6 ∷ 7 ∷ 8 ∷ []) $ closes ! tt SRow k' vs b o $ feq_i ! (List Val) (vptr b o ∷ []) (vptr b o ∷ []) refl $ fjoin3 ! $

@@ -1,5 +1,6 @@
 -- `load_own` is one load, beside a share of what the end knows that lends the words. Assumes
 -- `Logic`.
+use Rattle.piper_ring.specs.Line.{accesses_in}
 use Rattle.piper_ring.proofs.Kit.{flt_i, lit<, ◌≡◌, ℕ, ◌+◌, ◌*◌, ◌<◌, ◌^◌, List, [], ◌∷◌, sym, refl, ap, subst, w64, named, Val, vint, vptr, SProp, emp, via, Share, Fml, ftrue, flft, ‵, raw, ◌⊛◌, given, mean, at_ret, ◌$◌, ◌∵◌, !, qed, by, move, keep, drop, split, split3, join, fsplit, fsplit3, fjoin, fjoin3, fpick, fpack, learn, use0, rewrite, feq_i, stop, fld, lit, of_opd, bin, no_more, and_then, first, blocks, exec, Calls-last, returns, enter, alloc_all, pass_all, free_all, look_at, get, get_in, sub, whole, is, sets, lands_last, env, agg, shr_bor-open, obor_close, fact, fact_i, tables, yes, no, RattleType, owns, types_at, plain, named_lft, Ptr, block_ptr, ptr_val, block_of, count_of, at_block, usize, uint_vals, uint_Tells, mut_vals, mut_Tells, nothing, opens, closes, Stays, stay_dropped, stay_ref, walk_of, Goes-dropped, Goes-ref, after as from_on, guard_good, proved, leaves, seq_cst, fm, Names, RingIsPlaced, Bool, true, false, Stored, slot_word, is_odd, ◌∙◌, use3, found, finds, loads, Waits, waits_in, of_waits, lent_val, lent_told}
 use Rattle.piper_protocol.specs.OneList.{loaded_slot}
 use Rattle.piper_ring.specs.Log.{MayNote, did}
@@ -38,7 +39,7 @@ load_own_spec 𝓤 𝓛 𝓜 𝓡 wired =
     lands_last ! refl (tt, record { fits = fits }) $ exec ! 𝓣.C 𝓣.Λ Ev (from_on 2 fn.body) (at_ret Ev Post) $ sets ! (of_opd ! (get ! refl)) refl (tt, record { fits = fits }) $
     fpick ! (λ lay. fsplit ! $ fsplit3 ! $ move ! (1 ∷ []) $ fpick ! (λ is. drop ! $ move ! (1 ∷ []) $ fpick ! (λ v. fsplit ! $ fpick ! (λ so. drop ! $ move ! (3 ∷ 1 ∷ []) $ obor_close ! tt $ drop ! $ move ! (1 ∷ 0 ∷ []) $
     let k' : SRow.Denot = record k { waits = v.0; tickets = v.1.0; heard = v.1.1 } in let full : is_odd n ≡ is_some lay.1 = ap is_odd is ∙ odd_number (filled lay) in let l' : LRow.Denot = did (loaded_slot (side_of r) (is_odd n)) lg in
-    rewrite ! 0 (λ (m : Names). ‵ (waits_in m r v.0 v.1.0 v.1.1)) {x = k.names} {y = z} (sym asked.0) refl $ rewrite ! 2 (λ (u : Bool). ‵ (Kept 𝓛 w p z lg (loaded_slot (side_of r) u ∷ lg.did))) {x = is_odd n} {y = is_some lay.1} (sym full) refl $
+    rewrite ! 0 (λ (m : Names). ‵ (waits_in m r v.0 v.1.0 v.1.1)) {x = k.names} {y = z} (sym asked.0) refl $ rewrite ! 2 (λ (u : Bool). ‵ (Kept 𝓛 w p z lg (loaded_slot (side_of r) u ∷ (accesses_in lg.lines)))) {x = is_odd n} {y = is_some lay.1} (sym full) refl $
     move ! (3 ∷ 0 ∷ []) $ fjoin ! $ move ! (8 ∷ 0 ∷ 9 ∷ 10 ∷ 11 ∷ []) $ closes ! tt SRow k' vs b o $ feq_i ! (List Val) (vptr b o ∷ []) (vptr b o ∷ []) refl $ fjoin3 ! $
     move ! (4 ∷ 3 ∷ []) $ fjoin ! $ move ! (4 ∷ 0 ∷ 5 ∷ 6 ∷ 7 ∷ []) $ closes ! tt LRow l' vs2 b2 o2 $ feq_i ! (List Val) (vptr b2 o2 ∷ []) (vptr b2 o2 ∷ []) refl $ fjoin3 ! $
     nothing ! $ nothing ! $ fjoin ! $ move ! (1 ∷ 0 ∷ []) $ fjoin ! $ move ! (2 ∷ 0 ∷ []) $ fjoin ! $ nothing ! $ fjoin ! $ nothing ! $ move ! (2 ∷ 0 ∷ []) $ join ! $ move ! (2 ∷ 0 ∷ []) $ join ! $ move ! (2 ∷ 0 ∷ []) $ join ! $

@@ -1,13 +1,15 @@
 -- `meet_logs` is no step of the program. Assumes `Logic`.
+use Rattle.piper_ring.specs.Line.{accesses_in}
 use Rattle.piper_ring.proofs.Kit.{use3, ◌≡◌, ℕ, List, [], ◌∷◌, refl, named, Val, vptr, vunit, SProp, emp, Share, ftrue, flft, ‵, raw, ◌⊛◌, given, ◌$◌, ◌∵◌, !, qed, by, move, keep, drop, split, split3, join, fsplit, fsplit3, fjoin, fjoin3, fpick, fpack, learn, use0, feq_i, unit_lit, of_opd, returns, enter, alloc_all, pass_all, free_all, look_at, sets, env, fact, fact_i, tables, no, RattleType, owns, types_at, plain, named_lft, Ptr, mut_vals, mut_Tells, nothing, opens, closes, Stays, stay_dropped, stay_ref, walk_of, Goes-dropped, Goes-ref, guard_good, proved, leaves, later, await, Bool, Names, RingIsPlaced, lent_val, lent_told}
 use Rattle.std.proofs.Common.{not}
-use Rattle.piper_ring.specs.Log.{AreSides, IsLogOf}
+use Rattle.piper_ring.specs.Log.{accesses_of, AreSides, IsLogOf}
 use Rattle.piper_ring.proofs.Steps.{Kept, logs_meet}
 use Rattle.piper_ring.specs.contracts.log.Log as One
 use Rattle.piper_ring.specs.contracts.ring.slots.SlotWords as SlotWords
 use Rattle.piper_ring.proofs.ring.slots.SlotWords.meet_logs as own
 
 pub meet_logs_spec : {M : Type 1} → own.Statement.statement M
+unfolding accesses_of
 meet_logs_spec 𝓤 𝓛 𝓜 𝓡 wired =
     let H = 𝓛.H in let 𝓣 = tables 𝓤 H 𝓜 𝓡 𝓡.env in let En = SlotWords.meet_logs.ended in let fn = own.Code.function in let c = SlotWords.meet_logs.clauses 𝓛 𝓜.mem 𝓡.returns in
     let self = plain (λ κs. SlotWords.the_row (named_lft 3 0 tt κs)) in let ORow : RattleType = One.the_row in let one_ref = plain (λ _. ORow) in let TRow : RattleType = One.the_row in let two_ref = plain (λ _. TRow) in
@@ -23,10 +25,10 @@ meet_logs_spec 𝓤 𝓛 𝓜 𝓡 wired =
     enter ! 𝓣.C 𝓣.Λ fn (lent_val w ∷ vptr b o ∷ vptr b2 o2 ∷ []) Post $ alloc_all ! (λ l. pass_all ! refl (guard_good [] [] w, ((tt, tt), ((tt, tt), tt))) $ let Ev = env fn.locals l in
     opens ! tt ORow b o (λ vs. move ! (5 ∷ 6 ∷ 7 ∷ []) $ opens ! tt TRow b2 o2 (λ vs2. move ! (1 ∷ []) $ fsplit ! $ move ! (7 ∷ []) $ fsplit ! $
     -- [the own list; what it has; the other's list; what it has; its cell, 4 parts; the own cell, 4 parts; what the end knows; what both share; a token]
-    move ! (13 ∷ 1 ∷ 3 ∷ []) $ use3 𝓛 (later (given (AreSides r k.did m.did) (‵ (Kept 𝓛 w p z k k.did) ⊛ ‵ (Kept 𝓛 w p z m m.did)))) (logs_meet 𝓛 w p z r k m asked.0 asked.1) $ await ! tt $ learn ! (λ list. split ! $
+    move ! (13 ∷ 1 ∷ 3 ∷ []) $ use3 𝓛 (later (given (AreSides r (accesses_in k.lines) (accesses_in m.lines)) (‵ (Kept 𝓛 w p z k (accesses_in k.lines)) ⊛ ‵ (Kept 𝓛 w p z m (accesses_in m.lines))))) (logs_meet 𝓛 w p z r k m asked.0 asked.1) $ await ! tt $ learn ! (λ list. split ! $
     move ! (3 ∷ 1 ∷ []) $ fjoin ! $ move ! (3 ∷ 0 ∷ 4 ∷ 5 ∷ 6 ∷ []) $ closes ! tt TRow m vs2 b2 o2 $ feq_i ! (List Val) (vptr b2 o2 ∷ []) (vptr b2 o2 ∷ []) refl $ fjoin3 ! $
     move ! (3 ∷ 2 ∷ []) $ fjoin ! $ move ! (3 ∷ 0 ∷ 4 ∷ 5 ∷ 6 ∷ []) $ closes ! tt ORow k vs b o $ feq_i ! (List Val) (vptr b o ∷ []) (vptr b o ∷ []) refl $ fjoin3 ! $
     sets ! (of_opd ! (unit_lit !)) refl (tt, tt) $
     nothing ! $ move ! (3 ∷ 0 ∷ []) $ fjoin ! $ move ! (1 ∷ 0 ∷ []) $ fjoin ! $ nothing ! $ fjoin ! $ nothing ! $ move ! (3 ∷ 0 ∷ []) $ join ! $ move ! (2 ∷ 0 ∷ []) $ join ! $ move ! (3 ∷ 0 ∷ []) $ join ! $
-    use0 𝓛 (raw (fact 𝓤 ((k ≡ k) × (m ≡ m)))) (fact_i 𝓤 ((k ≡ k) × (m ≡ m)) (emp 𝓤) (refl, refl)) $ use0 𝓛 (raw (fact 𝓤 (AreSides r k.did m.did))) (fact_i 𝓤 (AreSides r k.did m.did) (emp 𝓤) list) $ join ! $
+    use0 𝓛 (raw (fact 𝓤 ((k ≡ k) × (m ≡ m)))) (fact_i 𝓤 ((k ≡ k) × (m ≡ m)) (emp 𝓤) (refl, refl)) $ use0 𝓛 (raw (fact 𝓤 (AreSides r (accesses_in k.lines) (accesses_in m.lines)))) (fact_i 𝓤 (AreSides r (accesses_in k.lines) (accesses_in m.lines)) (emp 𝓤) list) $ join ! $
     feq_i ! (List Val) (vunit ∷ []) (vunit ∷ []) refl $ returns ! (look_at ! 0 refl) $ free_all ! refl $ keep ! (2 ∷ 3 ∷ 0 ∷ 1 ∷ []) $ by ! (leaves 𝓛 En hs c y vunit tt (tt, (k, (m, tt))) (tt, (tt, (tt, tt))))))))))))

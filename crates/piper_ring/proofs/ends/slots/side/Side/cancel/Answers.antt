@@ -1,10 +1,7 @@
--- What was taken back is what this function says.
+-- That nothing was taken back by a side that doesn't wait is what this function says.
 use Rattle.std.proofs.Common.{rules}
 use Rattle.piper_ring.specs.Loads.{as_taken_back}
 use Rattle.piper_ring.proofs.ends.slots.side.Side.cancel.Goals as goal
 
-pub returns-clause-out : goal.returns-clause-out
-returns-clause-out g c = record { some = search rules; none = search rules; taken = as_taken_back _ _ _ _ }
-
-pub returns-then-not-parts-clause-out : goal.returns-then-not-parts-clause-out
-returns-then-not-parts-clause-out g c = record { some = search rules; none = search rules; taken = as_taken_back _ _ _ _ }
+pub returns-then-not-is_waiting-clause-out : goal.returns-then-not-is_waiting-clause-out
+returns-then-not-is_waiting-clause-out g c = record { some = search rules; none = search rules; taken = as_taken_back _ _ _ _ }
