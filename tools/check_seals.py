@@ -46,16 +46,8 @@ SEALS = {
         "piper_ring/specs/Loads",
         [f"piper_ring/proofs/ring/seats/{seat}/load_closed" for seat in ("ReadSeat", "WriteSeat")],
     ),
-    "as_own": (
-        "piper_ring/specs/Loads",
-        [f"piper_ring/proofs/ring/slots/SlotWords/{access}" for access in ("load_own", "exchange_own")],
-    ),
-    "as_waiter": (
-        "piper_ring/specs/Loads",
-        [f"piper_ring/proofs/ring/slots/SlotWords/{access}" for access in ("load_other", "empty_other")],
-    ),
     "as_put": ("piper_ring/specs/Loads", of_sides("register")),
-    "as_taken_back": ("piper_ring/specs/Loads", of_sides("cancel", "register")),
+    "as_taken_back": ("piper_ring/specs/Loads", of_sides("cancel", "register", "take_back", "take_own")),
     "as_taken": ("piper_ring/specs/Loads", of_sides("take") + FINISHES),
     "as_gone": (
         "piper_ring/specs/Loads",

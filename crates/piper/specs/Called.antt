@@ -1,14 +1,14 @@
 -- What became of the wakers that a side took out of a slot.
-use Rattle.std.specs.Prelude.{⊤, ◌≡◌, ℕ, ◌⊎◌, true, List, [], ◌∷◌, Option, Some, None, IfSome, is_some}
+use Rattle.std.specs.Prelude.{⊤, ◌≡◌, ℕ, ◌⊎◌, Bool, true, false, List, [], ◌∷◌, Option, Some, None, IfSome, is_some}
 use Rattle.futures.specs.Task.{Wakes}
 use Rattle.futures.specs.declared.task.context.Context.{Context}
 use Rattle.futures.specs.declared.task.waker.Waker.{Waker}
 use Rattle.piper_protocol.specs.declared.table.Point.{Point}
 use Rattle.piper_ring.specs.Cells.{GetsLeft}
-use Rattle.piper_ring.specs.Loads.{IsUnregistered, WasPut, WasTaken, WasTakenBack}
-use Rattle.piper_ring.specs.Log.{HasLeft, Log, began}
+use Rattle.piper_ring.specs.Loads.{WasPut, WasTaken, WasTakenBack}
+use Rattle.piper_ring.specs.Log.{HasLeft, IsUnregistered, Log, began}
 use Rattle.piper_ring.specs.Shared.{Names}
-use Rattle.piper_ring.specs.SlotsView.{SlotsView}
+use Rattle.piper_ring.specs.SlotsView.{Registers, SlotsView}
 use Rattle.piper.specs.Contexts.{WasAsked}
 use Rattle.piper_ring.specs.declared.ends.cells.LeftWakers.{LeftWakers}
 
@@ -44,17 +44,18 @@ AreCalled names (waker ∷ wakers) old new =
 abbrev pub CallsTaken : SlotsView → SlotsView → Type 0
 CallsTaken a b = (wakers : List Waker) × AreCalled a.names wakers a.taken b.taken
 
--- the side's own waker came out of its slot, and was called; or none was registered there
-abbrev pub CallsOwn : SlotsView → Type 0
-CallsOwn a =
-    ((waker : Waker) × WasTakenBack a.names a.waits a.tickets (Some waker) × WasCalled waker)
-    ⊎ IsUnregistered a.names a.waits
+-- the side's own waker came out of its slot, and this became of it; or none was registered there
+abbrev pub TakesOwn : (Waker → Type 0) → Bool → SlotsView → Log → Type 0
+TakesOwn became reads a after =
+    ((waker : Waker) × WasTakenBack a.names a.waits a.tickets (Some waker) × became waker)
+    ⊎ IsUnregistered reads a.waits after
 
--- the side's own waker came out of its slot, and was dropped; or none was registered there
-abbrev pub LetsOwnGo : SlotsView → Type 0
-LetsOwnGo a =
-    ((waker : Waker) × WasTakenBack a.names a.waits a.tickets (Some waker) × WasLetGo waker)
-    ⊎ IsUnregistered a.names a.waits
+-- a side that waited as in a, or has registered since, waits no more: its own waker came out of its
+-- slot, and was dropped; or none was registered there
+abbrev pub EmptiesOwn : Bool → SlotsView → SlotsView → Log → Type 0
+EmptiesOwn reads a b after =
+    (held : SlotsView) × ((held ≡ a) ⊎ Registers a held) × (b ≡ record held { waits = false })
+    × TakesOwn WasLetGo reads held after
 
 -- a side registered with a waker of the polled task: it asked the context for one, with what its slot
 -- still held in hand, and for nothing else; and it put what it got into the slot. If none of the task

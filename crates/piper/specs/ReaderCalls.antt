@@ -11,7 +11,7 @@ use Rattle.piper_protocol.specs.declared.table.Purpose.TheVariants as purpose
 use Rattle.piper_ring.specs.Loads.{FoundClosed}
 use Rattle.piper_ring.specs.ReadView.{Agree, KeepsAll, KnowsEnd, ReadEndMayHave}
 use Rattle.piper_ring.specs.SlotsView.{IsReaderPending, IsWriterPending, OnlyWaits, WaitsAsBefore}
-use Rattle.piper.specs.Called.{CallsTaken}
+use Rattle.piper.specs.Called.{CallsTaken, EmptiesOwn}
 use Rattle.piper.specs.Contexts.{AsksAgain}
 use Rattle.piper.specs.Copies.{ReaderCopied}
 use Rattle.piper.specs.CopyAnswers.{CountsFailure, OnMemory, of_std}
@@ -66,6 +66,8 @@ pub record ReaderPolled {E : Type 0} (r : Poll (Result Bool E))
   pub found : ReaderFound r b.side.end
   pub looked : ReaderLooked a.side.end b.side.end
   pub leaves : IfReadyOk r (λ some. some ≡ true → ReaderLeavesNone b)
+  pub emptied : IfReadyOk r (λ some. some ≡ true →
+    EmptiesOwn true a.side.slots b.side.slots b.side.log)
   pub end : PollsEnd r a b
   pub pending : OnPending r (ReaderPends a b old left)
   pub memory : OnRefused r (ReaderIsRefused b old left)
@@ -77,6 +79,8 @@ pub record PollsPiece (r : Poll (Result (Bor (List ℕ)) PipeError)) (a b : Read
     (old left : Context) : Type 0 where
   pub looked : ReaderLooked a.side.end b.side.end
   pub leaves : IfReadyOk r (λ lent. 0 < length lent.now → ReaderLeavesNone b)
+  pub emptied : IfReadyOk r (λ lent. 0 < length lent.now →
+    EmptiesOwn true a.side.slots b.side.slots b.side.log)
   pub pending : OnPending r (ReaderPends a b old left)
   pub memory : OnRefused r (ReaderIsRefused b old left)
   pub all : KeepsAll a.side.end b.side.end

@@ -1,11 +1,11 @@
 -- What the calls of the traits say of a handle, besides what the traits say. A `&mut` to the handle,
 -- its owner, and an end of two pipes say the same, by their rows.
-use Rattle.std.specs.Prelude.{◌≡◌, ℕ, Result, Ok, Err}
+use Rattle.std.specs.Prelude.{◌≡◌, ℕ, false, Result, Ok, Err}
 use Rattle.futures.specs.declared.task.context.Context.{Context}
 use Rattle.futures.specs.declared.task.Poll.{Poll}
 use Rattle.futures.specs.declared.task.Poll.TheVariants.{Ready, Pending}
 use Rattle.piper_ring.specs.SlotsView.{WaitsAsBefore}
-use Rattle.piper.specs.Called.{CallsTaken}
+use Rattle.piper.specs.Called.{CallsTaken, TakesOwn, WasCalled}
 use Rattle.piper.specs.Handles.{NotifiesReader, NotifiesWriter, SameReader}
 use Rattle.piper.specs.ReaderCalls.{AtEnd}
 use Rattle.piper.specs.Polls.{Done}
@@ -42,13 +42,14 @@ pub record Flushes (a b : Writer) (r : Done) (old left : Context) : Type 0 where
   pub context : left ≡ old
 
 -- a close is ready at once, doesn't fail, and asks nothing of the context: it checked the reader's
--- slot, called each waker that it took, and leaves none of its own
+-- slot, called each waker that it took, and its own, if that was registered, and leaves none
 pub record Closes {E : Type 0} (a b : Writer) (r : Poll (Result (Unit {0}) E)) (old left : Context)
     : Type 0 where
   pub answer : r ≡ Ready (Ok (record {}))
   pub woken : NotifiesReader b
   pub called : CallsTaken a.side.slots b.side.slots
   pub leaves : WriterLeavesNone b
+  pub own : TakesOwn WasCalled false a.side.slots b.side.log
   pub context : left ≡ old
   pub rest : SameWriterButShut a b
   pub ran : CloseRan a b

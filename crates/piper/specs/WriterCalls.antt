@@ -10,7 +10,7 @@ use Rattle.piper_protocol.specs.declared.table.Form.TheVariants.{Polling}
 use Rattle.piper_ring.specs.Loads.{FoundClosed}
 use Rattle.piper_ring.specs.SlotsView.{IsWriterPending, OnlyWaits, WaitsAsBefore}
 use Rattle.piper_ring.specs.WriteView.{Lendable, WriteEndMayHave}
-use Rattle.piper.specs.Called.{CallsTaken}
+use Rattle.piper.specs.Called.{CallsTaken, EmptiesOwn}
 use Rattle.piper.specs.Contexts.{AsksAgain}
 use Rattle.piper.specs.Copies.{IsReplaced, WriterCopied}
 use Rattle.piper.specs.CopyAnswers.{CountsFailure, OnMemory, of_std}
@@ -68,6 +68,8 @@ pub record WriterPolled {E : Type 0} (r : Poll (Result Bool E))
   pub found : WriterFound r b.side.end
   pub looked : WriterLooked a.side.end b.side.end
   pub leaves : IfReadyOk r (λ some. some ≡ true → WriterLeavesNone b)
+  pub emptied : IfReadyOk r (λ some. some ≡ true →
+    EmptiesOwn false a.side.slots b.side.slots b.side.log)
   pub pending : OnPending r (WriterPends a b old left)
   pub memory : OnRefused r (WriterIsRefused b old left)
   pub context : Keeps old left

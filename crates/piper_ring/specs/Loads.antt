@@ -1,8 +1,8 @@
 -- What a load of one of the ring's words found, and what lay in a side's slot. Of these definitions
 -- those with a lemma below are sealed: no proof looks into them, and only those of the loads in
--- src/ring/seats.rt, slots.rt and remains.rt, and of the calls in src/ends/slots, use the lemmas.
+-- src/ring/seats.rt and remains.rt, and of the calls in src/ends/slots, use the lemmas.
 -- So what a clause says of one of them came from such a call.
-use Rattle.std.specs.Prelude.{◌≡◌, ◌⊎◌, ⊤, ℕ, Bool, true, false, IsSome, Option, None}
+use Rattle.std.specs.Prelude.{◌≡◌, ⊤, ℕ, Bool, true, IsSome, Option}
 use Rattle.piper_ring.specs.Shared.{Names}
 
 -- the tail, which was loaded, was that of so many published bytes
@@ -17,18 +17,6 @@ FoundConsumed names count = ⊤
 pub FoundClosed : Names → Bool → Type 0
 FoundClosed names closed = ⊤
 
--- a side's own slot, which that side loaded, held a waker, or none
-pub FoundOwn : Names → Bool → Type 0
-FoundOwn names is_found = ⊤
-
--- the other side's slot, which was loaded, held a waker, or none
-pub FoundWaiter : Names → Bool → Type 0
-FoundWaiter names is_found = ⊤
-
--- no waker of a side is registered in its slot: the side waits no more, or found the slot empty
-abbrev pub IsUnregistered : Names → Bool → Type 0
-IsUnregistered names waits = (waits ≡ false) ⊎ FoundOwn names false
-
 -- a side of this ring registered under this ticket, and this waker lay in its slot then
 pub WasPut : {T : Type 0} → Names → ℕ → T → Type 0
 WasPut names ticket waker = ⊤
@@ -38,11 +26,10 @@ WasPut names ticket waker = ⊤
 pub WasTakenBack : {T : Type 0} → Names → Bool → ℕ → Option T → Type 0
 WasTakenBack names waits tickets waker = ⊤
 
--- a side of this ring got its waker back, which lay in its slot; or none was registered there
+-- a side of this ring got its waker back, which lay in its slot, or none
 pub record TookBack {T : Type 0} (names : Names) (waits : Bool) (tickets : ℕ) (waker : Option T)
     : Type 0 where
   pub some : IsSome waker → waits ≡ true
-  pub none : waker ≡ None → IsUnregistered names waits
   pub taken : WasTakenBack names waits tickets waker
 
 -- a check of the other side's slot of this ring took the ticket `new`, where the last one was `old`,
@@ -91,11 +78,3 @@ as_gone names gone = tt
 pub as_lying : (names : Names) (for_reader is_found : Bool) → FoundLeft names for_reader is_found
 unfolding FoundLeft
 as_lying names for_reader is_found = tt
-
-pub as_own : (names : Names) (is_found : Bool) → FoundOwn names is_found
-unfolding FoundOwn
-as_own names is_found = tt
-
-pub as_waiter : (names : Names) (is_found : Bool) → FoundWaiter names is_found
-unfolding FoundWaiter
-as_waiter names is_found = tt

@@ -1,5 +1,5 @@
 -- What a log says: where its side's last call is, by the call table.
-use Rattle.std.specs.Prelude.{◌≡◌, ℕ, Bool, List, [], ◌∷◌, length, Option, None, is_some, Result, Ok, Err, true, false, not, ⊤}
+use Rattle.std.specs.Prelude.{◌≡◌, ◌⊎◌, ℕ, Bool, List, [], ◌∷◌, length, Option, None, is_some, Result, Ok, Err, true, false, not, ⊤}
 use Rattle.piper_protocol.specs.OneList.{Access, AreOneList, loaded_closed, loaded_head, loaded_slot, loaded_tail, stored_closed, stored_head, stored_tail, swapped}
 use Rattle.piper_protocol.specs.Table.{Next, ends, goes_on, look_begun, read_action, read_row, write_action, write_row}
 use Rattle.piper_protocol.specs.declared.answer.Answer.{Answer}
@@ -240,6 +240,18 @@ own reads = side_of reads
 
 abbrev pub other : Bool → Side
 other reads = side_of (not reads)
+
+-- the last access found this slot empty
+abbrev FoundEmpty : Side → List Line → Type 0
+FoundEmpty side (note said ∷ access (loaded_slot there is_filled) ∷ before) =
+    (there ≡ side) × (is_filled ≡ false)
+FoundEmpty side (note said ∷ access (swapped there old left) ∷ before) =
+    (there ≡ side) × (old ≡ None)
+FoundEmpty side lines = ⊥
+
+-- no waker of this side is registered in its slot: it did not wait, or has found the slot empty
+abbrev pub IsUnregistered : Bool → Bool → Log → Type 0
+IsUnregistered reads waits log = (waits ≡ false) ⊎ FoundEmpty (own reads) log.lines
 
 -- the last lines of a side that left: it closed, and then emptied the other's slot, in which it found
 -- a waker or none

@@ -1,8 +1,8 @@
 -- What a contract sees of what a side has of the slots, and how the side keeps it.
-use Rattle.std.specs.Prelude.{◌≡◌, ℕ, ◌+◌, ◌<◌, ◌≤◌, ◌⊎◌, Bool, true, false, not, [], length, refl, is_some, IsSome, Option, None}
+use Rattle.std.specs.Prelude.{◌≡◌, ℕ, ◌+◌, ◌<◌, ◌≤◌, ◌⊎◌, Bool, true, false, not, [], length, refl, IsSome, Option, None}
 use Rattle.std.specs.Coded.{Coded, code_by, coded×, coded_ℕ, coded_bool}
 use Rattle.piper_ring.specs.Shared.{Names, names_code}
-use Rattle.piper_ring.specs.Loads.{FoundWaiter, WasTaken}
+use Rattle.piper_ring.specs.Loads.{WasTaken}
 use Rattle.piper_ring.specs.Slot.{Stored, as_stored, stored_code}
 use Rattle.piper_ring.specs.SlotValues.{IsTokenOf}
 use Rattle.piper_ring.specs.ReadView.{ReadView}
@@ -68,7 +68,6 @@ WaitsAsBefore a b = b ≡ record a { taken = b.taken; stored = b.stored }
 pub record TakesTicket {T : Type 0} (a b : SlotsView) (got : Option T) : Type 0 where
   pub none : got ≡ None → b.taken ≡ a.taken
   pub some : IsSome got → a.taken < b.taken
-  pub found : FoundWaiter a.names (is_some got)
   pub waker : WasTaken a.names a.taken b.taken got
 
 -- the side has not checked the other's slot since a: it waits as it did, or otherwise

@@ -3,7 +3,7 @@ ghost use Rattle.std.specs.Prelude.{◌≡◌, ◌⊎◌, IsTrue, IsFalse, IfNon
 ghost use Rattle.futures.specs.Task.{Covers, Keeps, Wakes};
 ghost use Rattle.piper_ring.specs.Log.{Comes, WakesNext, WasMade, next, now, other, own, then};
 ghost use Rattle.piper_ring.specs.SlotsView.{OnlyWaits, Registers, WaitsAsBefore};
-ghost use Rattle.piper.specs.Called.{CallsOwn, CallsTaken, LetsOwnGo, RegistersTask, WasCalled, WasLetGo};
+ghost use Rattle.piper.specs.Called.{CallsTaken, RegistersTask, TakesOwn, WasCalled, WasLetGo};
 ghost use Rattle.piper.specs.Contexts.{LacksWaker, WasAsked};
 
 use futures::task::{Context, Poll, Source, Waker};
@@ -61,8 +61,8 @@ fn ask(source: &Source, waker: &mut Option<Waker>, cx: &mut Context<'_>)
 pub(crate) fn take_own<E: SlotEnd>(side: &mut Side<E, Waker>)
     requires turn { next side.old.log ≡ Action.Take (own E.READS) }
     ensures log { Comes (then (now side.old.log) Found.Nothing) side.old.log side.new.log }
-    ensures leaves { side.new.slots.waits ≡ false }
-    ensures waits { OnlyWaits side.old.slots side.new.slots }
+    ensures leaves { side.new.slots ≡ record side.old.slots { waits = false } }
+    ensures dropped { TakesOwn WasLetGo E.READS side.old.slots side.new.log }
     ensures rest { (side.new.end ≡ side.old.end) × (side.new.cells ≡ side.old.cells) }
 {
     if side.is_waiting() {
@@ -80,9 +80,8 @@ fn let_own_go<E: SlotEnd>(side: &mut Side<E, Waker>)
     requires turn { next side.old.log ≡ Action.Take (own E.READS) }
     requires waits { side.old.slots.waits ≡ true }
     ensures log { Comes (then (now side.old.log) Found.Nothing) side.old.log side.new.log }
-    ensures leaves { side.new.slots.waits ≡ false }
-    ensures dropped { LetsOwnGo side.old.slots }
-    ensures waits { OnlyWaits side.old.slots side.new.slots }
+    ensures leaves { side.new.slots ≡ record side.old.slots { waits = false } }
+    ensures dropped { TakesOwn WasLetGo E.READS side.old.slots side.new.log }
     ensures rest { (side.new.end ≡ side.old.end) × (side.new.cells ≡ side.old.cells) }
 {
     if side.is_registered() {
@@ -95,7 +94,7 @@ pub(crate) fn wake_own<E: SlotEnd>(side: &mut Side<E, Waker>)
     requires turn { next side.old.log ≡ Action.Take (own E.READS) }
     requires on { WakesNext (now side.old.log) }
     ensures log { Comes (then (now side.old.log) (Found.Waker false)) side.old.log side.new.log }
-    ensures called { CallsOwn side.old.slots }
+    ensures called { TakesOwn WasCalled E.READS side.old.slots side.new.log }
     ensures leaves { side.new.slots ≡ record side.old.slots { waits = false } }
     ensures rest { (side.new.end ≡ side.old.end) × (side.new.cells ≡ side.old.cells) }
 {

@@ -1,10 +1,10 @@
 //! The look of a call that waits: it registers if there is nothing to do, and looks once more.
-/* ghost use Rattle.std.specs.Prelude.{◌≡◌, OnErr, length}; */
+/* ghost use Rattle.std.specs.Prelude.{◌≡◌, IfOk, OnErr, length}; */
 /* ghost use Rattle.futures.specs.Task.{Keeps}; */
 /* ghost use Rattle.piper_protocol.specs.Table.{goes_on, reader_found, writer_found}; */
 /* ghost use Rattle.piper_ring.specs.Log.{Comes, now}; */
 /* ghost use Rattle.piper_ring.specs.Looks.{ReaderIsUpToDate, ReaderLooked, WriterIsUpToDate, WriterLooked, WriterSees}; */
-/* ghost use Rattle.piper_ring.specs.SlotsView.{OnlyWaits}; */
+/* ghost use Rattle.piper_ring.specs.SlotsView.{OnlyWaits, Registers}; */
 /* ghost use Rattle.piper.specs.Looks.{IfPending, ReaderWaited, WriterWaited}; */
 /* ghost use Rattle.piper.specs.Runs.{wait_next}; */
 
@@ -34,6 +34,7 @@ impl Reader {
         ensures answer { ReaderWaited result self.new.side.end }
         ensures pending { IfPending result (ReaderPends self.old self.new cx.old cx.new) }
         ensures refused { OnErr result (ReaderIsRefused self.new cx.old cx.new) }
+        ensures registered { IfOk result (λ _. Registers self.old.side.slots self.new.side.slots) }
         ensures looked { ReaderLooked self.old.side.end self.new.side.end }
         ensures rest { SameReader OnlyWaits self.old self.new }
         ensures kept { Keeps cx.old cx.new } */
@@ -65,6 +66,7 @@ impl Writer {
         ensures answer { WriterWaited result self.new.side.end }
         ensures pending { IfPending result (WriterPends self.old self.new cx.old cx.new) }
         ensures refused { OnErr result (WriterIsRefused self.new cx.old cx.new) }
+        ensures registered { IfOk result (λ _. Registers self.old.side.slots self.new.side.slots) }
         ensures looked { WriterLooked self.old.side.end self.new.side.end }
         ensures rest { SameWriter OnlyWaits self.old self.new }
         ensures kept { Keeps cx.old cx.new } */

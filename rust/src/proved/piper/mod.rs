@@ -1,5 +1,5 @@
 //! A bounded pipe of bytes between one reader and one writer, for threads and for polled tasks.
-/* #![tactic(auto)] */
+/* #![tactic(auto, unfolding(piper_ring::specs::Log::Ran))] */
 
 mod calls;
 mod copies;

@@ -1,42 +1,53 @@
 //! What a side did, call by call, in the words of the call table. It has no bytes: an access of a
-//! side adds what it found, and clauses read it.
+//! side adds itself, and clauses read it.
 /* ghost use Rattle.std.specs.Borrow.{ftrue}; */
 /* ghost use Rattle.std.specs.Prelude.{◌≡◌, Bool, List, false}; */
-/* ghost use Rattle.piper_protocol.specs.OneList.{Access}; */
+/* ghost use Rattle.piper_ring.specs.Line.{Line, accesses_in}; */
 /* ghost use Rattle.piper_ring.specs.Shared.{Names, names_code}; */
-/* ghost use Rattle.piper_ring.specs.Trace.{access_code, did_owns}; */
-/* ghost use Rattle.piper_ring.specs.declared.log.Line.{Line}; */
+/* ghost use Rattle.piper_ring.specs.Trace.{did_owns, side_of}; */
 
-use crate::proved::piper_protocol::table::{Action, Found, Point};
+use crate::proved::piper_protocol::table::{Action, Found, Point, Side};
 use crate::shim::std::marker::{/* Model, */ PhantomData, Send, Sync};
 
-/// What a side did.
+/// What a side says of what it did.
 #[derive(/* Drop */)]
-pub enum Line {
+pub enum Note {
     /// A call began at this point of the table.
     Began(Point),
-    /// The step that the table has next was made, and found this.
-    Made(Found),
-    /// The load of closed that a look of the writer begins with, when no room was known or some.
+    /// The access before it was the step that the table has next, and found this.
+    Told(Found),
+    /// The access before it was none of the table's: the step that the table has next is to come.
+    Passed,
+    /// The access before it was the load of closed that a look of the writer begins with, when no
+    /// room was known or some.
     ClosedLoaded { none: bool, is_closed: bool },
+    /// The step that the table has next was made, is no access, and found this.
+    Made(Found),
     /// A copy drew whether it yields.
     Drew(bool),
 }
 
-/// All that a side of a ring did, the last first: the reader if `reads`, else the writer. `did` has
-/// each access of what both sides share, with what it found and left: the access itself adds it, and
-/// nothing else can. A query keeps no log.
+/// All that a side of a ring did, the last first: the reader if `reads`, else the writer. `lines`
+/// has each access of what both sides share, with what it found and left: the access itself adds
+/// it, and nothing else can. A query keeps no log.
 pub struct Log {
     pub(crate) mark: PhantomData<*mut u8>,
     /* pub(crate) ghost names: { Names } by { names_code }, */
     /* pub(crate) ghost reads: { Bool }, */
     /* pub(crate) ghost keeps: { Bool }, */
-    /* pub(crate) ghost did: { List Access } by { access_code }, */
-    /* ghost lines: { List Line }, */
+    /* pub(crate) ghost lines: { List Line }, */
+}
+
+/// Which side it is: the reader if `reads`, else the writer.
+#[inline(always)]
+pub(crate) fn side_of(reads: bool) -> Side
+    /* ensures { result ≡ side_of reads } */
+{
+    if reads { Side::Reader } else { Side::Writer }
 }
 
 /* impl Model for Log {
-    ghost also_owns = { λ l. did_owns l.names.traced l.keeps l.reads l.did };
+    ghost also_owns = { λ l. did_owns l.names.traced l.keeps l.reads (accesses_in l.lines) };
 
     ghost also_shares = { λ _ _ _. ftrue };
 } */
@@ -54,7 +65,7 @@ unsafe impl Sync for Log {}
 } */
 
 impl Log {
-    /* ghost use Rattle.piper_ring.specs.Log.{WasMade, began, closed_loaded, drew, made, next, with_line}; */
+    /* ghost use Rattle.piper_ring.specs.Log.{IsTold, MayPass, WasMade, began, closed_loaded, drew, made, next, passed, told, with_note}; */
 
     /// A log that nobody keeps, for a query.
     #[inline(always)]
@@ -69,15 +80,36 @@ impl Log {
     pub(crate) fn begin(&mut self, first: Point)
         /* ensures { self.new ≡ began first self.old } */
     {
-        self.push(&Line::Began(first));
+        self.push(&Note::Began(first));
+    }
+
+    /// The last access was this step of the table, and found this.
+    #[inline(always)]
+    pub(crate) fn tell(&mut self, action: Action, found: Found)
+        /* requires { IsTold action found self.old.lines }
+        ensures { self.new ≡ told found self.old } */
+    {
+        let _ = action;
+        self.push(&Note::Told(found));
+    }
+
+    /// The last access was no step of the table, which has this one next.
+    #[inline(always)]
+    pub(crate) fn pass(&mut self, action: Action)
+        /* requires { MayPass action self.old.lines }
+        ensures { self.new ≡ passed self.old } */
+    {
+        let _ = action;
+        self.push(&Note::Passed);
     }
 
     /// Closed was loaded as a look of the writer begins.
     #[inline(always)]
     pub(crate) fn closed_loaded_first(&mut self, none: bool, is_closed: bool)
-        /* ensures { self.new ≡ closed_loaded none is_closed self.old } */
+        /* requires { IsTold Action.LoadClosed (Found.Flag is_closed) self.old.lines }
+        ensures { self.new ≡ closed_loaded none is_closed self.old } */
     {
-        self.push(&Line::ClosedLoaded { none, is_closed });
+        self.push(&Note::ClosedLoaded { none, is_closed });
     }
 
     /// A copy drew.
@@ -85,7 +117,7 @@ impl Log {
     pub(crate) fn drew(&mut self, is_drawn: bool)
         /* ensures { self.new ≡ drew is_drawn self.old } */
     {
-        self.push(&Line::Drew(is_drawn));
+        self.push(&Note::Drew(is_drawn));
     }
 
     /// The waker that was taken was called, by a side that has left.
@@ -98,16 +130,16 @@ impl Log {
         self.note(Found::Nothing);
     }
 
-    /// The step that the table has next was made, and found this.
+    /// The step that the table has next was made, is no access, and found this.
     #[inline(always)]
     pub(crate) fn note(&mut self, found: Found)
         /* ensures { self.new ≡ made found self.old } */
     {
-        self.push(&Line::Made(found));
+        self.push(&Note::Made(found));
     }
 
     #[inline(always)]
-    fn push(&mut self, line: &Line)
-        /* ensures { self.new ≡ with_line line.now self.old } */
+    fn push(&mut self, note: &Note)
+        /* ensures { self.new ≡ with_note note.now self.old } */
     {}
 }

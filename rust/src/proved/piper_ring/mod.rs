@@ -17,6 +17,6 @@ pub use ends::slots::side::Side;
 pub use ends::slots::writer::{WriteRegistrations, WriteSide};
 pub use ends::slots::{Registrations, SlotEnd};
 pub use ends::writer::WriteEnd;
-pub use log::{Line, Log};
+pub use log::{Log, Note};
 pub use crate::proved::piper_protocol::memory::OutOfMemory;
 pub use ring::marks::{LastReadMark, ReadMark, WriteMark};

@@ -30,7 +30,7 @@ pub struct Side<E: SlotEnd, T> {
 
 impl<E: SlotEnd, T> Side<E, T> {
     ghost use Rattle.piper_ring.specs.Becomes.{Becomes};
-    ghost use Rattle.piper_ring.specs.Loads.{FoundOwn, FoundWaiter, TookBack, WasPut};
+    ghost use Rattle.piper_ring.specs.Loads.{TookBack, WasPut};
     ghost use Rattle.piper_ring.specs.SlotsView.{TakesTicket};
 
     /// Its end of the ring.
@@ -110,11 +110,11 @@ impl<E: SlotEnd, T> Side<E, T> {
     pub fn is_registered(&mut self) -> bool
         requires turn { next self.old.log ≡ Action.Take (own E.READS) }
         requires waits { self.old.slots.waits ≡ true }
-        ensures some { IsTrue result → FoundOwn self.old.slots.names true
-            × Becomes self.old self.new self.old.end self.old.slots
+        ensures some { IsTrue result →
+            Becomes self.old self.new self.old.end self.old.slots
             (passed (did (loaded_slot (own E.READS) true) self.old.log)) }
-        ensures none { IsFalse result → FoundOwn self.old.slots.names false
-            × Becomes self.old self.new self.old.end (record self.old.slots { waits = false })
+        ensures none { IsFalse result →
+            Becomes self.old self.new self.old.end (record self.old.slots { waits = false })
             (told Found.Nothing (did (loaded_slot (own E.READS) false) self.old.log)) }
     {
         let parts = &mut self.slots.parts;
@@ -257,8 +257,7 @@ impl<E: SlotEnd, T> Side<E, T> {
             (record self.old.slots { stored = E.stored_of self.old.end })
             (told (Found.Waker false)
             (did (loaded_slot (other E.READS) false) self.old.log)) }
-        ensures some { IsFalse result → FoundWaiter self.old.slots.names true
-            × Becomes self.old self.new self.old.end self.old.slots
+        ensures some { IsFalse result → Becomes self.old self.new self.old.end self.old.slots
             (passed (did (loaded_slot (other E.READS) true) self.old.log)) }
     {
         let wakes = &mut self.slots.parts.wakes;

@@ -132,19 +132,6 @@ impl<T> Side<WriteEnd, T> {
         is_closed
     }
 
-    /// Loads closed, as `load_closed` of its end, for a call that asks for nothing else.
-    pub fn check_closed(&mut self) -> bool
-        requires turn { next self.old.log ≡ Action.LoadClosed }
-        ensures found { WriterLoadsClosed self.old.end result }
-        ensures side { Becomes self.old self.new (record self.old.end { saw = result })
-            self.old.slots (told (Found.Flag result)
-            (did (loaded_closed result) self.old.log)) }
-    {
-        let is_closed = self.end.load_closed(&mut self.log);
-        self.log.tell(Action::LoadClosed, Found::Flag(is_closed));
-        is_closed
-    }
-
     /// `write_buf` of its end: a part of the end can't be lent out of a side by other means.
     #[inline(always)]
     pub fn write_buf(&mut self, max: usize) -> &mut [u8]

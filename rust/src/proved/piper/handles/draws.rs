@@ -1,7 +1,7 @@
 //! The draw of a polling copy, which makes it yield once in a hundred calls.
 /* ghost use Rattle.std.specs.Prelude.{◌≡◌, ◌↔◌, Bool, IsTrue, IsFalse, true, false}; */
 /* ghost use Rattle.futures.specs.Task.{Keeps}; */
-/* ghost use Rattle.piper_ring.specs.Log.{AreAlike, WasMade, drew, made, next, own}; */
+/* ghost use Rattle.piper_ring.specs.Log.{Comes, WasMade, drew, made, next, now, own, then}; */
 /* ghost use Rattle.piper_ring.specs.SlotsView.{OnlyWaits}; */
 /* ghost use Rattle.piper.specs.Contexts.{AsksAgain}; */
 /* ghost use Rattle.piper.specs.Draws.{DrawsYield, drawn_from}; */
@@ -28,10 +28,10 @@ pub(crate) fn draw_yield<E: SlotEnd>(
         next (drew is_drawn side.old.log) ≡ Action.Take (own E.READS) }
     requires drawn { next (made Found.Nothing (drew true side.old.log)) ≡ Action.Yield }
     ensures yields { IsTrue result → AsksAgain cx.new
-        × AreAlike side.new.log
-        (made (Found.Granted true) (made Found.Nothing (drew true side.old.log))) }
+        × Comes (then (then (now (drew true side.old.log)) Found.Nothing) (Found.Granted true))
+        side.old.log side.new.log }
     ensures goes_on { IsFalse result → (cx.new ≡ cx.old)
-        × AreAlike side.new.log (made Found.Nothing (drew false side.old.log)) }
+        × Comes (then (now (drew false side.old.log)) Found.Nothing) side.old.log side.new.log }
     ensures draw { (IsTrue result ↔ DrawsYield rng.old) × (rng.new ≡ drawn_from rng.old) }
     ensures kept { Keeps cx.old cx.new }
     ensures leaves { side.new.slots.waits ≡ false }

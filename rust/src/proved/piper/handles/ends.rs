@@ -9,6 +9,7 @@ use crate::proved::piper_ring::{
 
 impl Reader {
     /* ghost use Rattle.piper_protocol.specs.OneList.{AreOneList}; */
+    /* ghost use Rattle.piper_ring.specs.Log.{accesses_of}; */
     /* ghost use Rattle.piper.specs.OfReader.{accesses, end_of, ring}; */
     /* ghost use Rattle.piper.specs.OfWriter as of_writer; */
     /* ghost use Rattle.piper.specs.ReaderCalls.{MeetWoken, Meets, ReaderObserves, ReaderWasWoken}; */
@@ -67,7 +68,7 @@ impl Reader {
     /// Requires: the mark is of the same pipe.
     #[inline] pub fn meet_finished(&mut self, left: &mut FinishedWriter)
         /* requires { left.old.mark.names ≡ (ring self.old).names }
-        ensures list { AreOneList (accesses self.old) left.old.log.did }
+        ensures list { AreOneList (accesses self.old) (accesses_of left.old.log) }
         ensures woken { ReaderWasWoken self.old left.old }
         ensures observes { ReaderObserves left.old.mark self.old self.new }
         ensures last { left.old.mark.shut ≡ true }
@@ -82,6 +83,7 @@ impl Reader {
 impl Writer {
     /* ghost use Rattle.piper.specs.Handles.{lends_room}; */
     /* ghost use Rattle.piper_protocol.specs.OneList.{AreOneList}; */
+    /* ghost use Rattle.piper_ring.specs.Log.{accesses_of}; */
     /* ghost use Rattle.piper.specs.OfWriter.{accesses, end_of, ring, saw}; */
     /* ghost use Rattle.piper.specs.WriterCalls.{MayLend, MustLend, WriterObserves, WriterWasWoken}; */
 
@@ -123,7 +125,7 @@ impl Writer {
     /// Requires: the mark is of the same pipe.
     #[inline] pub fn meet_finished(&mut self, left: &mut FinishedReader)
         /* requires { left.old.mark.consumed.names ≡ (ring self.old).names }
-        ensures list { AreOneList left.old.log.did (accesses self.old) }
+        ensures list { AreOneList (accesses_of left.old.log) (accesses self.old) }
         ensures woken { WriterWasWoken self.old left.old }
         ensures observes { WriterObserves left.old.mark.consumed.count true self.old self.new }
         ensures rest { left.new ≡ left.old } */

@@ -1,9 +1,9 @@
 //! What both handles do at the slots: in their own a task waits, in the other's they wake one.
 /* ghost use Rattle.std.specs.Prelude.{◌≡◌, ◌⊎◌, IsTrue, IsFalse, IfNone, IfSome, true, false}; */
 /* ghost use Rattle.futures.specs.Task.{Covers, Keeps, Wakes}; */
-/* ghost use Rattle.piper_ring.specs.Log.{AreAlike, Comes, WakesNext, WasMade, made, next, now, other, own, then}; */
+/* ghost use Rattle.piper_ring.specs.Log.{Comes, WakesNext, WasMade, next, now, other, own, then}; */
 /* ghost use Rattle.piper_ring.specs.SlotsView.{OnlyWaits, Registers, WaitsAsBefore}; */
-/* ghost use Rattle.piper.specs.Called.{CallsOwn, CallsTaken, LetsOwnGo, RegistersTask, WasCalled, WasLetGo}; */
+/* ghost use Rattle.piper.specs.Called.{CallsTaken, RegistersTask, TakesOwn, WasCalled, WasLetGo}; */
 /* ghost use Rattle.piper.specs.Contexts.{LacksWaker, WasAsked}; */
 
 use crate::shim::futures::task::{Context, Poll, Source, Waker};
@@ -18,7 +18,7 @@ pub(crate) fn register<E: SlotEnd>(
     cx: &mut Context<'_>,
 ) -> bool
     /* requires turn { next side.old.log ≡ Action.Register }
-    ensures log { AreAlike side.new.log (made (Found.Granted result) side.old.log) }
+    ensures log { Comes (then (now side.old.log) (Found.Granted result)) side.old.log side.new.log }
     ensures covered { Covers cx.new (λ s. s ≡ source.now.id) }
     ensures registered { IsTrue result → Registers side.old.slots side.new.slots
         × RegistersTask side.old.slots side.new.slots cx.old cx.new }
@@ -39,7 +39,6 @@ pub(crate) fn register<E: SlotEnd>(
     let None = side.register(waker) else {
         unreachable!()
     };
-    side.note(Action::Register, Found::Granted(true));
     true
 }
 
@@ -61,15 +60,16 @@ pub(crate) fn register<E: SlotEnd>(
 #[inline(always)]
 pub(crate) fn take_own<E: SlotEnd>(side: &mut Side<E, Waker>)
     /* requires turn { next side.old.log ≡ Action.Take (own E.READS) }
-    ensures log { AreAlike side.new.log (made Found.Nothing side.old.log) }
-    ensures leaves { side.new.slots.waits ≡ false }
-    ensures waits { OnlyWaits side.old.slots side.new.slots }
+    ensures log { Comes (then (now side.old.log) Found.Nothing) side.old.log side.new.log }
+    ensures leaves { side.new.slots ≡ record side.old.slots { waits = false } }
+    ensures dropped { TakesOwn WasLetGo E.READS side.old.slots side.new.log }
     ensures rest { (side.new.end ≡ side.old.end) × (side.new.cells ≡ side.old.cells) } */
 {
     if side.is_waiting() {
         let_own_go(side);
+    } else {
+        side.own_is_empty();
     }
-    side.own_emptied();
 }
 
 /// Drops a waker that is still registered in the side's slot. That wakes its task, too: it polls
@@ -77,14 +77,15 @@ pub(crate) fn take_own<E: SlotEnd>(side: &mut Side<E, Waker>)
 #[cold]
 #[inline(never)]
 fn let_own_go<E: SlotEnd>(side: &mut Side<E, Waker>)
-    /* ensures leaves { side.new.slots.waits ≡ false }
-    ensures dropped { LetsOwnGo side.old.slots }
-    ensures waits { OnlyWaits side.old.slots side.new.slots }
-    ensures rest { (side.new.end ≡ side.old.end) × (side.new.cells ≡ side.old.cells)
-        × AreAlike side.new.log side.old.log } */
+    /* requires turn { next side.old.log ≡ Action.Take (own E.READS) }
+    requires waits { side.old.slots.waits ≡ true }
+    ensures log { Comes (then (now side.old.log) Found.Nothing) side.old.log side.new.log }
+    ensures leaves { side.new.slots ≡ record side.old.slots { waits = false } }
+    ensures dropped { TakesOwn WasLetGo E.READS side.old.slots side.new.log }
+    ensures rest { (side.new.end ≡ side.old.end) × (side.new.cells ≡ side.old.cells) } */
 {
     if side.is_registered() {
-        let_go(side.cancel());
+        let_go(side.take_registered());
     }
 }
 
@@ -93,7 +94,7 @@ fn let_own_go<E: SlotEnd>(side: &mut Side<E, Waker>)
     /* requires turn { next side.old.log ≡ Action.Take (own E.READS) }
     requires on { WakesNext (now side.old.log) }
     ensures log { Comes (then (now side.old.log) (Found.Waker false)) side.old.log side.new.log }
-    ensures called { CallsOwn side.old.slots }
+    ensures called { TakesOwn WasCalled E.READS side.old.slots side.new.log }
     ensures leaves { side.new.slots ≡ record side.old.slots { waits = false } }
     ensures rest { (side.new.end ≡ side.old.end) × (side.new.cells ≡ side.old.cells) } */
 {

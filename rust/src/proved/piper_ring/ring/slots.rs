@@ -118,8 +118,7 @@ pub struct SlotWords<'a> {
 impl<'a> SlotWords<'a> {
     /* ghost use Rattle.std.specs.Prelude.{None, not}; */
     /* ghost use Rattle.piper_protocol.specs.OneList.{loaded_slot, swapped}; */
-    /* ghost use Rattle.piper_ring.specs.Loads.{FoundOwn, FoundWaiter}; */
-    /* ghost use Rattle.piper_ring.specs.Log.{AreSides, IsLogOf, MayNote, did}; */
+    /* ghost use Rattle.piper_ring.specs.Log.{AreSides, IsLogOf, MayNote, accesses_of, did}; */
     /* ghost use Rattle.piper_ring.specs.Trace.{side_of}; */
     /* ghost use Rattle.piper_ring.specs.Shared.{slot_word}; */
     /* ghost use Rattle.piper_ring.specs.Slot.{Exchanges, IsRemembered, IsTicket, is_odd, ticket_if}; */
@@ -132,7 +131,6 @@ impl<'a> SlotWords<'a> {
         ensures odd { is_odd result ≡ true → slot.new ≡ slot.old }
         ensures even { is_odd result ≡ false → slot.new ≡ record slot.old { waits = false } }
         ensures waits { is_odd result ≡ true → slot.old.waits ≡ true }
-        ensures found { FoundOwn slot.old.names (is_odd result) }
         ensures noted { log.new
             ≡ did (loaded_slot (side_of slot.old.for_reader) (is_odd result)) log.old } */
     {
@@ -160,7 +158,6 @@ impl<'a> SlotWords<'a> {
         ensures waits { Exchanges Stored right.old.filled (of_waits slot.old) (of_waits slot.new) }
         ensures right { IsTokenAt self.entry.names.cells result right.new }
         ensures waited { right.new.filled ≡ true → slot.old.waits ≡ true }
-        ensures found { FoundOwn slot.old.names right.new.filled }
         ensures noted { log.new ≡ did (swapped (side_of slot.old.for_reader)
             (ticket_if right.new.filled slot.old.tickets)
             (ticket_if right.old.filled slot.new.tickets)) log.old } */
@@ -179,7 +176,6 @@ impl<'a> SlotWords<'a> {
         ensures odd { is_odd result ≡ true → slot.new ≡ slot.old }
         ensures even { is_odd result ≡ false →
             slot.new ≡ record slot.old { stored = self.entry.stored } }
-        ensures found { FoundWaiter slot.old.names (is_odd result) }
         ensures noted { log.new
             ≡ did (loaded_slot (side_of slot.old.for_reader) (is_odd result)) log.old } */
     {
@@ -207,7 +203,6 @@ impl<'a> SlotWords<'a> {
             { taken = slot.new.taken; stored = self.entry.stored } }
         ensures ticket { IsTicket right.new.filled slot.old.taken slot.new.taken }
         ensures right { IsTokenAt self.entry.names.cells result right.new }
-        ensures found { FoundWaiter slot.old.names right.new.filled }
         ensures noted { log.new ≡ did (swapped (side_of slot.old.for_reader)
             (ticket_if right.new.filled slot.new.taken) None) log.old } */
     {
@@ -232,7 +227,7 @@ impl<'a> SlotWords<'a> {
     #[inline] pub(crate) fn meet_logs(self, log: &mut Log, other: &mut Log)
         /* requires { IsLogOf self.names log.old.reads log.old
             × IsLogOf self.names (not log.old.reads) other.old }
-        ensures list { AreSides log.old.reads log.old.did other.old.did }
+        ensures list { AreSides log.old.reads (accesses_of log.old) (accesses_of other.old) }
         ensures kept { (log.new ≡ log.old) × (other.new ≡ other.old) } */
     {
         let SlotWords { words: _, mark: _ } = self;

@@ -1,7 +1,8 @@
 //! The reader's side: how it waits in its slot, and wakes whoever waits in the writer's.
 /* ghost use Rattle.std.specs.Prelude.{◌≡◌, ◌+◌, ◌<◌, ◌≤◌, ◌++◌, [], length, take, drop, None, true, false, is_some, IsTrue, IsFalse}; */
 /* ghost use Rattle.piper_protocol.specs.OneList.{AreOneList, loaded_closed, loaded_tail, stored_head}; */
-/* ghost use Rattle.piper_ring.specs.Log.{Comes, HasLeft, did, made, next, now, then}; */
+/* ghost use Rattle.piper_protocol.specs.Table.{goes_on}; */
+/* ghost use Rattle.piper_ring.specs.Log.{Comes, HasLeft, accesses_of, did, leaves_at, next, now, then, told}; */
 
 use crate::proved::piper_ring::ends::finished::{Finished, FinishedReader};
 use crate::proved::piper_ring::ends::reader::ReadEnd;
@@ -13,7 +14,7 @@ use crate::proved::piper_ring::ring::marks::{LastReadMark, WriteMark};
 use crate::proved::piper_ring::ring::memory::WRITER_SLOT;
 use crate::proved::piper_ring::ring::slots::{SlotWords, WaiterState};
 use crate::proved::piper_cells::lent_space::Lease;
-use crate::proved::piper_protocol::table::{Action, Found};
+use crate::proved::piper_protocol::table::{self, Action, Found};
 
 /// The reader's side of a ring whose sides can wait.
 pub type ReadSide<T> = Side<ReadEnd, T>;
@@ -78,13 +79,13 @@ impl<T> Side<ReadEnd, T> {
             × (IsFalse result → HasBytes self.new.end) }
         ensures end { LoadsTail self.old.slots.heard.bytes self.old.end self.new.end }
         ensures side { Becomes self.old self.new self.new.end self.old.slots
-            (made (Found.IndexLoaded result) (did (loaded_tail
+            (told (Found.IndexLoaded result) (did (loaded_tail
             (length self.new.end.taken + length self.new.end.known)) self.old.log)) } */
     {
         self.end.observe_stored(&self.slots.parts.heard);
         self.end.load_tail(&mut self.log);
         let none = self.end.knows_none();
-        self.log.note(Found::IndexLoaded { none });
+        self.log.tell(Action::LoadIndex, Found::IndexLoaded { none });
         none
     }
 
@@ -96,12 +97,12 @@ impl<T> Side<ReadEnd, T> {
         ensures end { ReaderLoadsClosed self.old.slots.heard.closed result
             self.old.end self.new.end }
         ensures side { Becomes self.old self.new self.new.end self.old.slots
-            (made (Found.Flag result) (did (loaded_closed result) self.old.log)) } */
+            (told (Found.Flag result) (did (loaded_closed result) self.old.log)) } */
     {
         let is_closed = self
             .end
             .load_closed_knowing(&self.slots.parts.heard, &mut self.log);
-        self.log.note(Found::Flag(is_closed));
+        self.log.tell(Action::LoadClosed, Found::Flag(is_closed));
         is_closed
     }
 
@@ -114,17 +115,17 @@ impl<T> Side<ReadEnd, T> {
         ensures { Becomes self.old self.new (record self.old.end {
           taken = self.old.end.taken ++ take n self.old.end.known;
           known = drop n self.old.end.known;
-        }) self.old.slots (made Found.Nothing
+        }) self.old.slots (told Found.Nothing
             (did (stored_head (take n self.old.end.known)) self.old.log)) } */
     {
         self.end.store_head(n, &mut self.log);
-        self.log.note(Found::Nothing);
+        self.log.tell(Action::StoreHead(n), Found::Nothing);
     }
 
     /// `finish` of its end, and `take` after its close. With it comes what was left in the slots, if
     /// the other side has left.
     #[inline] pub fn finish(self) -> Finished<FinishedReader, T>
-        /* requires turn { next self.log ≡ Action.StoreClosed false }
+        /* requires turn { now self.log ≡ goes_on (leaves_at true) }
         ensures log { Comes (then (then (now self.log) Found.Nothing)
             (Found.Waker (is_some result.taken))) self.log result.side.log }
         ensures last { (result.side.mark.consumed.names ≡ self.end.ring.names)
@@ -143,7 +144,7 @@ impl<T> Side<ReadEnd, T> {
         } = self;
         let consumed = end.mark();
         let (leaving, closed) = end.close(&mut log);
-        log.note(Found::Nothing);
+        log.tell(Action::StoreClosed { is_shut: false }, Found::Nothing);
         let parts = &mut slots.parts;
         let word = 2 * parts.own.index;
         let words = leaving.seat.slot_words(&closed);
@@ -155,7 +156,7 @@ impl<T> Side<ReadEnd, T> {
             WRITER_SLOT,
         );
         let taken = parts.own.take_out(cells.get(&leaving.lease), found);
-        log.note(Found::Waker(taken.is_some()));
+        log.tell(Action::Take(table::Side::Writer), Found::Waker(taken.is_some()));
         let left = leaving.leave(Some(&cells));
         let mark = LastReadMark { consumed, closed };
         let side = FinishedReader { mark, slots, log };
@@ -183,7 +184,7 @@ impl<T> Side<ReadEnd, T> {
         ensures writer { IsWriterPending writer.old.end writer.old.slots →
             WriterHasNews writer.old.end self.old.slots →
             self.old.slots.taken ≡ writer.old.slots.tickets }
-        ensures list { AreOneList self.old.log.did writer.old.log.did }
+        ensures list { AreOneList (accesses_of self.old.log) (accesses_of writer.old.log) }
         ensures capacity { (writer.old.end.capacity ≡ self.old.end.capacity)
             × (0 < self.old.end.capacity) }
         ensures rest { Becomes self.old self.new self.new.end self.old.slots self.old.log

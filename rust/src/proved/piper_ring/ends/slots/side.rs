@@ -3,19 +3,19 @@
 /* ghost use Rattle.piper_ring.specs.Cells.{AreCellsOf}; */
 /* ghost use Rattle.piper_protocol.specs.OneList.{loaded_slot, swapped}; */
 /* ghost use Rattle.piper_ring.specs.Slot.{ticket_if}; */
-/* ghost use Rattle.piper_ring.specs.Log.{AreSides, IsLogOf, IsOutside, began, did, did_if, drew, found_of, made, next, other, own}; */
+/* ghost use Rattle.piper_ring.specs.Log.{AreSides, Comes, IsLogOf, IsOutside, accesses_of, began, did, drew, found_of, made, next, now, other, own, passed, passed_if, then, told, told_if}; */
 
 use crate::proved::piper_ring::ends::cells::WakerCells;
 use crate::proved::piper_ring::ends::slots::{Registrations, SlotEnd};
-use crate::proved::piper_ring::log::Log;
+use crate::proved::piper_ring::log::{Log, side_of};
 use crate::proved::piper_ring::ring::memory::slot_of;
 use crate::proved::piper_cells::lent_space::Placed;
 use crate::proved::piper_protocol::table::{Action, Found, Point};
 
 /// A side of a ring whose sides can wait.
 ///
-/// Its log says what it did. An access that the call table knows asks that it is its turn there, by
-/// a clause named `turn`, and adds what it found, as `Becomes` says.
+/// Its log says what it did. A call that makes an access asks that it is its turn in the call table,
+/// by a clause named `turn`, and says what the access was there, as `Becomes` says.
 #[derive(/* Drop */)]
 pub struct Side<E: SlotEnd, T> {
     pub(crate) end: E,
@@ -30,7 +30,7 @@ pub struct Side<E: SlotEnd, T> {
 
 impl<E: SlotEnd, T> Side<E, T> {
     /* ghost use Rattle.piper_ring.specs.Becomes.{Becomes}; */
-    /* ghost use Rattle.piper_ring.specs.Loads.{FoundOwn, FoundWaiter, IsUnregistered, TookBack, WasPut}; */
+    /* ghost use Rattle.piper_ring.specs.Loads.{TookBack, WasPut}; */
     /* ghost use Rattle.piper_ring.specs.SlotsView.{TakesTicket}; */
 
     /// Its end of the ring.
@@ -71,7 +71,7 @@ impl<E: SlotEnd, T> Side<E, T> {
     #[inline(always)]
     pub fn note(&mut self, action: Action, found: Found)
         /* requires turn { next self.old.log ≡ action }
-        requires outside { IsOutside action }
+        requires outside { IsOutside action found }
         ensures { Becomes self.old self.new self.old.end self.old.slots (made found self.old.log) } */
     {
         let _ = action;
@@ -82,7 +82,7 @@ impl<E: SlotEnd, T> Side<E, T> {
     #[inline(always)]
     pub fn note_moved<F>(&mut self, action: Action, moved: &Result<usize, F>)
         /* requires turn { next self.old.log ≡ action }
-        requires outside { IsOutside action }
+        requires outside { IsOutside action (found_of moved.now) }
         ensures { Becomes self.old self.new self.old.end self.old.slots
             (made (found_of moved.now) self.old.log) } */
     {
@@ -93,10 +93,10 @@ impl<E: SlotEnd, T> Side<E, T> {
         });
     }
 
-    /// The side's own slot is empty, as far as the side knows, after a look that found something:
-    /// that is a step of the table.
+    /// The side's own slot is to be emptied, and the side knows that no waker is there: that is a
+    /// step of the table without an access.
     #[inline(always)]
-    pub fn own_emptied(&mut self)
+    pub fn own_is_empty(&mut self)
         /* requires turn { next self.old.log ≡ Action.Take (own E.READS) }
         requires none { self.old.slots.waits ≡ false }
         ensures { Becomes self.old self.new self.old.end self.old.slots
@@ -105,35 +105,101 @@ impl<E: SlotEnd, T> Side<E, T> {
         self.log.note(Found::Nothing);
     }
 
-    /// `cancel`, as the step of the table that empties the own slot in a close.
-    #[inline] pub fn take_own(&mut self) -> Option<T>
+    /// Checks whether this side's waker is still registered in its slot. Returns `true` if it is:
+    /// then the table still has `take_registered` next.
+    #[inline] pub fn is_registered(&mut self) -> bool
         /* requires turn { next self.old.log ≡ Action.Take (own E.READS) }
+        requires waits { self.old.slots.waits ≡ true }
+        ensures some { IsTrue result →
+            Becomes self.old self.new self.old.end self.old.slots
+            (passed (did (loaded_slot (own E.READS) true) self.old.log)) }
+        ensures none { IsFalse result →
+            Becomes self.old self.new self.old.end (record self.old.slots { waits = false })
+            (told Found.Nothing (did (loaded_slot (own E.READS) false) self.old.log)) } */
+    {
+        let parts = &mut self.slots.parts;
+        let words = self.end.slot_words();
+        let word = words.load_own(&mut parts.waits, &mut self.log, slot_of(E::READS));
+        let action = Action::Take(side_of(E::READS));
+        parts.is_waiting = word % 2 == 1;
+        if parts.is_waiting {
+            self.log.pass(action);
+            return true;
+        }
+        self.log.tell(action, Found::Nothing);
+        false
+    }
+
+    /// Takes its waker out of this side's slot after a look that found something, if it is still
+    /// registered there.
+    #[inline] pub fn take_registered(&mut self) -> Option<T>
+        /* requires turn { next self.old.log ≡ Action.Take (own E.READS) }
+        requires waits { self.old.slots.waits ≡ true }
         ensures side { Becomes self.old self.new self.old.end
-            (record self.old.slots { waits = false })
-            (made (Found.Waker (is_some result)) (did_if self.old.slots.waits
-            (swapped (own E.READS) (ticket_if (is_some result) self.old.slots.tickets) None)
+            (record self.old.slots { waits = false }) (told Found.Nothing
+            (did (swapped (own E.READS) (ticket_if (is_some result) self.old.slots.tickets) None)
             self.old.log)) }
         ensures out { TookBack self.old.slots.names
             self.old.slots.waits self.old.slots.tickets result } */
     {
-        let waker = self.cancel();
-        self.log.note(Found::Waker(waker.is_some()));
+        let waker = self.take_back();
+        self.log.tell(Action::Take(side_of(E::READS)), Found::Nothing);
         waker
     }
 
-    /// Takes its waker back, if it is still registered in this side's slot.
-    #[inline] pub fn cancel(&mut self) -> Option<T>
-        /* ensures side { Becomes self.old self.new self.old.end
-            (record self.old.slots { waits = false }) (did_if self.old.slots.waits
+    /// Takes its waker out of this side's slot, if it is still registered there, as the step of the
+    /// table that empties the own slot in a close.
+    #[inline] pub fn take_own(&mut self) -> Option<T>
+        /* requires turn { next self.old.log ≡ Action.Take (own E.READS) }
+        ensures side { Becomes self.old self.new self.old.end
+            (record self.old.slots { waits = false })
+            (told_if self.old.slots.waits (Found.Waker (is_some result))
             (swapped (own E.READS) (ticket_if (is_some result) self.old.slots.tickets) None)
+            self.old.log) }
+        ensures log { Comes (then (now self.old.log) (Found.Waker (is_some result)))
+            self.old.log self.new.log }
+        ensures out { TookBack self.old.slots.names
+            self.old.slots.waits self.old.slots.tickets result } */
+    {
+        if !self.is_waiting() {
+            self.log.note(Found::Waker(false));
+            return None;
+        }
+        let waker = self.take_back();
+        self.log.tell(Action::Take(side_of(E::READS)), Found::Waker(waker.is_some()));
+        waker
+    }
+
+    /// Takes its waker back before it registers, if it is still registered in this side's slot.
+    #[inline] pub fn cancel(&mut self) -> Option<T>
+        /* requires turn { next self.old.log ≡ Action.Register }
+        ensures side { Becomes self.old self.new self.old.end
+            (record self.old.slots { waits = false }) (passed_if self.old.slots.waits
+            (swapped (own E.READS) (ticket_if (is_some result) self.old.slots.tickets) None)
+            self.old.log) }
+        ensures log { Comes (now self.old.log) self.old.log self.new.log }
+        ensures out { TookBack self.old.slots.names
+            self.old.slots.waits self.old.slots.tickets result } */
+    {
+        if !self.is_waiting() {
+            return None;
+        }
+        let waker = self.take_back();
+        self.log.pass(Action::Register);
+        waker
+    }
+
+    // Empties this side's own slot, in which its waker may be.
+    #[inline] fn take_back(&mut self) -> Option<T>
+        /* requires { self.old.slots.waits ≡ true }
+        ensures side { Becomes self.old self.new self.old.end
+            (record self.old.slots { waits = false })
+            (did (swapped (own E.READS) (ticket_if (is_some result) self.old.slots.tickets) None)
             self.old.log) }
         ensures out { TookBack self.old.slots.names
             self.old.slots.waits self.old.slots.tickets result } */
     {
         let parts = &mut self.slots.parts;
-        if !parts.is_waiting {
-            return None;
-        }
         let word = 2 * parts.own.index;
         let words = self.end.slot_words();
         let slot = slot_of(E::READS);
@@ -148,27 +214,6 @@ impl<E: SlotEnd, T> Side<E, T> {
         parts.own.take_out(self.cells.get(self.end.lease()), found)
     }
 
-    /// Whether this side's waker is still registered in its slot.
-    #[inline] pub fn is_registered(&mut self) -> bool
-        /* ensures registered { IsTrue result →
-            (self.old.slots.waits ≡ true) × FoundOwn self.old.slots.names true }
-        ensures none { IsFalse result → IsUnregistered self.old.slots.names self.old.slots.waits }
-        ensures side { Becomes self.old self.new self.old.end
-            (record self.old.slots { waits = result }) (did_if self.old.slots.waits
-            (loaded_slot (own E.READS) result) self.old.log) } */
-    {
-        let parts = &mut self.slots.parts;
-        if !parts.is_waiting {
-            return false;
-        }
-        let word = self
-            .end
-            .slot_words()
-            .load_own(&mut parts.waits, &mut self.log, slot_of(E::READS));
-        parts.is_waiting = word % 2 == 1;
-        parts.is_waiting
-    }
-
     /// Registers: puts `waker` into this side's slot, where the other side's next look finds it.
     /// Returns the waker that was still registered there.
     #[inline] pub fn register(&mut self, waker: T) -> Option<T>
@@ -178,8 +223,9 @@ impl<E: SlotEnd, T> Side<E, T> {
           waits = true;
           tickets = self.old.slots.tickets + 1;
           heard = self.new.slots.heard;
-        }) (did (swapped (own E.READS) (ticket_if (is_some result) self.old.slots.tickets)
-            (Some (self.old.slots.tickets + 1))) self.old.log) }
+        }) (told (Found.Granted true)
+            (did (swapped (own E.READS) (ticket_if (is_some result) self.old.slots.tickets)
+            (Some (self.old.slots.tickets + 1))) self.old.log)) }
         ensures out { TookBack self.old.slots.names
             self.old.slots.waits self.old.slots.tickets result } */
     {
@@ -196,6 +242,7 @@ impl<E: SlotEnd, T> Side<E, T> {
             word,
             slot,
         );
+        self.log.tell(Action::Register, Found::Granted(true));
         parts.is_waiting = true;
         parts.heard = E::hear(&mut parts.waits);
         parts.own.take_out(cells, found)
@@ -208,18 +255,20 @@ impl<E: SlotEnd, T> Side<E, T> {
         /* requires turn { next self.old.log ≡ Action.Take (other E.READS) }
         ensures none { IsTrue result → Becomes self.old self.new self.old.end
             (record self.old.slots { stored = E.stored_of self.old.end })
-            (made (Found.Waker false)
+            (told (Found.Waker false)
             (did (loaded_slot (other E.READS) false) self.old.log)) }
-        ensures some { IsFalse result → FoundWaiter self.old.slots.names true
-            × Becomes self.old self.new self.old.end self.old.slots
-            (did (loaded_slot (other E.READS) true) self.old.log) } */
+        ensures some { IsFalse result → Becomes self.old self.new self.old.end self.old.slots
+            (passed (did (loaded_slot (other E.READS) true) self.old.log)) } */
     {
         let wakes = &mut self.slots.parts.wakes;
         let words = self.end.slot_words();
-        if words.load_other(wakes, &mut self.log, slot_of(!E::READS)) % 2 == 1 {
+        let word = words.load_other(wakes, &mut self.log, slot_of(!E::READS));
+        let action = Action::Take(side_of(!E::READS));
+        if word % 2 == 1 {
+            self.log.pass(action);
             return false;
         }
-        self.log.note(Found::Waker(false));
+        self.log.tell(action, Found::Waker(false));
         true
     }
 
@@ -230,7 +279,7 @@ impl<E: SlotEnd, T> Side<E, T> {
         ensures ticket { TakesTicket self.old.slots self.new.slots result }
         ensures side { Becomes self.old self.new self.old.end (record self.old.slots
             { taken = self.new.slots.taken; stored = E.stored_of self.old.end })
-            (made (Found.Waker (is_some result)) (did (swapped (other E.READS)
+            (told (Found.Waker (is_some result)) (did (swapped (other E.READS)
             (ticket_if (is_some result) self.new.slots.taken) None) self.old.log)) } */
     {
         let parts = &mut self.slots.parts;
@@ -245,7 +294,7 @@ impl<E: SlotEnd, T> Side<E, T> {
             slot,
         );
         let waker = parts.own.take_out(self.cells.get(self.end.lease()), found);
-        self.log.note(Found::Waker(waker.is_some()));
+        self.log.tell(Action::Take(side_of(!E::READS)), Found::Waker(waker.is_some()));
         waker
     }
 
@@ -269,7 +318,7 @@ impl<E: SlotEnd, T> Side<E, T> {
     /// the last one before it left.
     #[inline] pub fn meet_log(&mut self, other: &mut Log)
         /* requires { IsLogOf (E.names_of self.old.end) (not E.READS) other.old }
-        ensures list { AreSides E.READS self.old.log.did other.old.did }
+        ensures list { AreSides E.READS (accesses_of self.old.log) (accesses_of other.old) }
         ensures rest { (other.new ≡ other.old)
             × Becomes self.old self.new self.old.end self.old.slots self.old.log } */
     {

@@ -2,7 +2,8 @@
 /* ghost use Rattle.std.specs.Prelude.{◌≡◌, ◌+◌, ◌-◌, ◌<◌, ◌≤◌, ◌++◌, ◌==◌, [], length, take, drop, max, None, true, false, is_some, IsTrue, IsFalse}; */
 /* ghost use Rattle.std.specs.Borrow.{sem}; */
 /* ghost use Rattle.piper_protocol.specs.OneList.{loaded_closed, loaded_head, stored_closed, stored_tail}; */
-/* ghost use Rattle.piper_ring.specs.Log.{Comes, HasLeft, closed_loaded, did, made, next, now, then}; */
+/* ghost use Rattle.piper_protocol.specs.Table.{goes_on}; */
+/* ghost use Rattle.piper_ring.specs.Log.{Comes, HasLeft, closed_loaded, did, leaves_at, next, now, then, told}; */
 
 use crate::proved::piper_ring::ends::finished::{Finished, FinishedWriter};
 use crate::proved::piper_ring::ends::slots::side::Side;
@@ -13,7 +14,7 @@ use crate::proved::piper_ring::ring::marks::{ClosedMark, LastReadMark, ReadMark}
 use crate::proved::piper_ring::ring::memory::READER_SLOT;
 use crate::proved::piper_ring::ring::slots::{SlotWords, WaiterState};
 use crate::proved::piper_cells::lent_space::Lease;
-use crate::proved::piper_protocol::table::{Action, Found};
+use crate::proved::piper_protocol::table::{self, Action, Found};
 
 /// The writer's side of a ring whose sides can wait.
 pub type WriteSide<T> = Side<WriteEnd, T>;
@@ -86,13 +87,13 @@ impl<T> Side<WriteEnd, T> {
             × (IsFalse result → HasRoom self.new.end) }
         ensures end { LoadsHead self.old.slots.heard.count self.old.end self.new.end }
         ensures side { Becomes self.old self.new self.new.end self.old.slots
-            (made (Found.IndexLoaded result) (did (loaded_head (length self.new.end.sent
+            (told (Found.IndexLoaded result) (did (loaded_head (length self.new.end.sent
             + self.new.end.room - self.new.end.capacity)) self.old.log)) } */
     {
         self.end
             .load_head_knowing(&self.slots.parts.heard.count, &mut self.log);
         let none = self.end.knows_none();
-        self.log.note(Found::IndexLoaded { none });
+        self.log.tell(Action::LoadIndex, Found::IndexLoaded { none });
         none
     }
 
@@ -121,26 +122,13 @@ impl<T> Side<WriteEnd, T> {
         ensures after { self.old.slots.heard.closed ≡ true → result ≡ true }
         ensures shut { self.old.end.shut ≡ false }
         ensures side { Becomes self.old self.new (record self.old.end { saw = result })
-            self.old.slots (made (Found.Flag result)
+            self.old.slots (told (Found.Flag result)
             (did (loaded_closed result) self.old.log)) } */
     {
         let is_closed = self
             .end
             .load_closed_knowing(&self.slots.parts.heard.closed, &mut self.log);
-        self.log.note(Found::Flag(is_closed));
-        is_closed
-    }
-
-    /// Loads closed, as `load_closed` of its end, for a call that asks for nothing else.
-    #[inline] pub fn check_closed(&mut self) -> bool
-        /* requires turn { next self.old.log ≡ Action.LoadClosed }
-        ensures found { WriterLoadsClosed self.old.end result }
-        ensures side { Becomes self.old self.new (record self.old.end { saw = result })
-            self.old.slots (made (Found.Flag result)
-            (did (loaded_closed result) self.old.log)) } */
-    {
-        let is_closed = self.end.load_closed(&mut self.log);
-        self.log.note(Found::Flag(is_closed));
+        self.log.tell(Action::LoadClosed, Found::Flag(is_closed));
         is_closed
     }
 
@@ -175,11 +163,11 @@ impl<T> Side<WriteEnd, T> {
           sent = self.old.end.sent ++ take n self.old.end.lent;
           lent = drop n self.old.end.lent;
           room = self.old.end.room - n;
-        }) self.old.slots (made Found.Nothing
+        }) self.old.slots (told Found.Nothing
             (did (stored_tail (take n self.old.end.lent)) self.old.log)) } */
     {
         self.end.store_tail(n, &mut self.log);
-        self.log.note(Found::Nothing);
+        self.log.tell(Action::StoreTail(n), Found::Nothing);
     }
 
     /// Stores closed, for good: nothing is lent any more.
@@ -187,16 +175,16 @@ impl<T> Side<WriteEnd, T> {
         /* requires turn { next self.old.log ≡ Action.StoreClosed true }
         ensures side { Becomes self.old self.new
             (record self.old.end { shut = true; saw = true; lent = [] })
-            self.old.slots (made Found.Nothing (did stored_closed self.old.log)) } */
+            self.old.slots (told Found.Nothing (did stored_closed self.old.log)) } */
     {
         self.end.store_closed(&mut self.log);
-        self.log.note(Found::Nothing);
+        self.log.tell(Action::StoreClosed { is_shut: true }, Found::Nothing);
     }
 
     /// `finish` of its end, and `take` after its close. With it comes what was left in the slots, if
     /// the other side has left.
     #[inline] pub fn finish(self) -> Finished<FinishedWriter, T>
-        /* requires turn { next self.log ≡ Action.StoreClosed false }
+        /* requires turn { now self.log ≡ goes_on (leaves_at false) }
         ensures log { Comes (then (then (now self.log) Found.Nothing)
             (Found.Waker (is_some result.taken))) self.log result.side.log }
         ensures last { (result.side.mark.names ≡ self.end.ring.names)
@@ -214,7 +202,7 @@ impl<T> Side<WriteEnd, T> {
             mut log,
         } = self;
         let leaving = end.close(&mut log);
-        log.note(Found::Nothing);
+        log.tell(Action::StoreClosed { is_shut: false }, Found::Nothing);
         let mark = leaving.seat.mark();
         let parts = &mut slots.parts;
         let word = 2 * parts.own.index;
@@ -227,7 +215,7 @@ impl<T> Side<WriteEnd, T> {
             READER_SLOT,
         );
         let taken = parts.own.take_out(cells.get(&leaving.lease), found);
-        log.note(Found::Waker(taken.is_some()));
+        log.tell(Action::Take(table::Side::Reader), Found::Waker(taken.is_some()));
         let left = leaving.leave(Some(&cells));
         let side = FinishedWriter { mark, slots, log };
         Finished { side, taken, left }

@@ -13,7 +13,6 @@ use Rattle.std.proofs.Common.{Option, is_some, None, not}
 use Rattle.piper_ring.proofs.Steps.{Kept}
 use Rattle.piper_ring.proofs.Rights.{known_halves}
 use Rattle.piper_ring.proofs.Slots.{word_fits, EmptiesOther, empty_other}
-use Rattle.piper_ring.specs.Loads.{FoundWaiter, as_waiter}
 use Rattle.piper_ring.specs.SlotValues.{IsTokenOf, IsTokenAt}
 use Rattle.piper_cells.specs.contracts.token_cell.Token as Token
 use Rattle.piper_ring.specs.contracts.ring.slots.WakerState as Slot
@@ -58,6 +57,6 @@ empty_other_spec 𝓤 𝓛 𝓜 𝓡 wired =
     nothing ! $ move ! (2 ∷ 0 ∷ []) $ join ! $ move ! (3 ∷ 0 ∷ []) $ join ! $ move ! (2 ∷ 0 ∷ []) $ join ! $ move ! (2 ∷ 0 ∷ []) $ join ! $
     let Same : Type 0 = k' ≡ record k { taken = k'.taken; stored = x } in let Ticket : Type 0 = IsTicket (is_some came.1) k.taken v.0 in let At : Type 0 = IsTokenAt z.cells n t' in
     let lies : IsTokenOf z.cells came.0 (is_some came.1) t' = record { small = there.0; name = refl; there = refl; filled = refl } in
-    use0 𝓛 (raw (fact 𝓤 (l' ≡ l'))) (fact_i 𝓤 (l' ≡ l') (emp 𝓤) refl) $ use0 𝓛 (raw (fact 𝓤 (FoundWaiter k.names (is_some came.1)))) (fact_i 𝓤 (FoundWaiter k.names (is_some came.1)) (emp 𝓤) (as_waiter k.names (is_some came.1))) $ join ! $ use0 𝓛 (raw (fact 𝓤 At)) (fact_i 𝓤 At (emp 𝓤) (came.0, lies, there.1)) $ join ! $
+    use0 𝓛 (raw (fact 𝓤 (l' ≡ l'))) (fact_i 𝓤 (l' ≡ l') (emp 𝓤) refl) $ use0 𝓛 (raw (fact 𝓤 At)) (fact_i 𝓤 At (emp 𝓤) (came.0, lies, there.1)) $ join ! $
     use0 𝓛 (raw (fact 𝓤 Ticket)) (fact_i 𝓤 Ticket (emp 𝓤) so.0.0) $ join ! $ use0 𝓛 (raw (fact 𝓤 Same)) (fact_i 𝓤 Same (emp 𝓤) (ap (λ (m : Stored). record k { taken = v.0; stored = m }) so.1)) $ join ! $
     flt_i ! n (2 ^ 64) fits $ feq_i ! (List Val) (vint w64 n ∷ []) (vint w64 n ∷ []) refl $ fjoin ! $ returns ! (look_at ! 0 refl) $ free_all ! refl $ keep ! (2 ∷ 3 ∷ 0 ∷ 1 ∷ []) $ by ! (leaves 𝓛 En hs c y (vint w64 n) n (tt, (k', (t', (l', (tt, (tt, tt)))))) (tt, (tt, (tt, (tt, (tt, (tt, tt))))))))))))))))))))))))

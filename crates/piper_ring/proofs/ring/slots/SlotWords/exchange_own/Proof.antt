@@ -12,7 +12,6 @@ use Rattle.std.proofs.Common.{is_some, Option}
 use Rattle.piper_ring.proofs.Steps.{Kept}
 use Rattle.piper_ring.proofs.Rights.{known_halves}
 use Rattle.piper_ring.proofs.Slots.{word_fits, SwapsOwn, exchange_own, put_in, put_ticket}
-use Rattle.piper_ring.specs.Loads.{FoundOwn, as_own}
 use Rattle.piper_ring.specs.SlotValues.{IsTokenOf, IsTokenAt}
 use Rattle.piper_cells.specs.contracts.token_cell.Token as Token
 use Rattle.piper_ring.specs.contracts.ring.slots.WaiterState as Slot
@@ -56,6 +55,6 @@ exchange_own_spec 𝓤 𝓛 𝓜 𝓡 wired =
     nothing ! $ move ! (2 ∷ 0 ∷ []) $ join ! $ move ! (3 ∷ 0 ∷ []) $ join ! $ move ! (2 ∷ 0 ∷ []) $ join ! $ move ! (2 ∷ 0 ∷ []) $ join ! $
     let Same : Type 0 = k' ≡ record k { waits = k'.waits; tickets = k'.tickets; heard = k'.heard } in let Waited : Type 0 = is_some came.1 ≡ true → k.waits ≡ true in let At : Type 0 = IsTokenAt z.cells n t' in
     let lies : IsTokenOf z.cells came.0 (is_some came.1) t' = record { small = there.0; name = refl; there = refl; filled = refl } in
-    use0 𝓛 (raw (fact 𝓤 (l' ≡ l'))) (fact_i 𝓤 (l' ≡ l') (emp 𝓤) refl) $ use0 𝓛 (raw (fact 𝓤 (FoundOwn k.names (is_some came.1)))) (fact_i 𝓤 (FoundOwn k.names (is_some came.1)) (emp 𝓤) (as_own k.names (is_some came.1))) $ join ! $ use0 𝓛 (raw (fact 𝓤 Waited)) (fact_i 𝓤 Waited (emp 𝓤) so.1) $ join ! $ use0 𝓛 (raw (fact 𝓤 At)) (fact_i 𝓤 At (emp 𝓤) (came.0, lies, there.1)) $ join ! $
+    use0 𝓛 (raw (fact 𝓤 (l' ≡ l'))) (fact_i 𝓤 (l' ≡ l') (emp 𝓤) refl) $ use0 𝓛 (raw (fact 𝓤 Waited)) (fact_i 𝓤 Waited (emp 𝓤) so.1) $ join ! $ use0 𝓛 (raw (fact 𝓤 At)) (fact_i 𝓤 At (emp 𝓤) (came.0, lies, there.1)) $ join ! $
     use0 𝓛 (raw (fact 𝓤 (Exchanges Stored t.filled view v))) (fact_i 𝓤 (Exchanges Stored t.filled view v) (emp 𝓤) so.0) $ join ! $ use0 𝓛 (raw (fact 𝓤 Same)) (fact_i 𝓤 Same (emp 𝓤) refl) $ join ! $
     flt_i ! n (2 ^ 64) fits $ feq_i ! (List Val) (vint w64 n ∷ []) (vint w64 n ∷ []) refl $ fjoin ! $ returns ! (look_at ! 0 refl) $ free_all ! refl $ keep ! (2 ∷ 3 ∷ 0 ∷ 1 ∷ []) $ by ! (leaves 𝓛 En hs c y (vint w64 n) n (tt, (k', (t', (l', (tt, (tt, tt)))))) (tt, (tt, (tt, (tt, (tt, (tt, tt))))))))))))))))))))))))

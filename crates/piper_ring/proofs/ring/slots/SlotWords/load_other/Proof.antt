@@ -11,7 +11,6 @@ use Rattle.std.proofs.Common.{is_some, not}
 use Rattle.piper_ring.proofs.Steps.{Kept}
 use Rattle.piper_ring.proofs.Rights.{known_halves}
 use Rattle.piper_ring.proofs.Slots.{word_fits, odd_number, other_stays, other_gone, LooksAtOther, load_other}
-use Rattle.piper_ring.specs.Loads.{FoundWaiter, as_waiter}
 use Rattle.piper_ring.specs.contracts.ring.slots.WakerState as Slot
 use Rattle.piper_ring.specs.contracts.ring.slots.SlotWords as SlotWords
 use Rattle.piper_ring.proofs.ring.slots.SlotWords.load_other as own
@@ -44,7 +43,7 @@ load_other_spec 𝓤 𝓛 𝓜 𝓡 wired =
     move ! (3 ∷ 0 ∷ []) $ fjoin ! $ move ! (8 ∷ 0 ∷ 9 ∷ 10 ∷ 11 ∷ []) $ closes ! tt SRow k' vs b o $ feq_i ! (List Val) (vptr b o ∷ []) (vptr b o ∷ []) refl $ fjoin3 ! $
     move ! (4 ∷ 3 ∷ []) $ fjoin ! $ move ! (4 ∷ 0 ∷ 5 ∷ 6 ∷ 7 ∷ []) $ closes ! tt LRow l' vs2 b2 o2 $ feq_i ! (List Val) (vptr b2 o2 ∷ []) (vptr b2 o2 ∷ []) refl $ fjoin3 ! $
     nothing ! $ nothing ! $ fjoin ! $ move ! (1 ∷ 0 ∷ []) $ fjoin ! $ move ! (2 ∷ 0 ∷ []) $ fjoin ! $ nothing ! $ fjoin ! $ nothing ! $ move ! (2 ∷ 0 ∷ []) $ join ! $ move ! (2 ∷ 0 ∷ []) $ join ! $ move ! (2 ∷ 0 ∷ []) $ join ! $
-    let Stays : Type 0 = is_odd n ≡ true → k' ≡ k in let Gone : Type 0 = is_odd n ≡ false → k' ≡ record k { stored = x } in let Told : Type 0 = FoundWaiter k.names (is_odd n) in
+    let Stays : Type 0 = is_odd n ≡ true → k' ≡ k in let Gone : Type 0 = is_odd n ≡ false → k' ≡ record k { stored = x } in
     let stays : Stays = λ e j. let u = other_stays (is_some lay.1) view v x so (sym full ∙ e) j in record k { taken = u.0; stored = u.1 } in let gone : Gone = λ e j. let u = other_gone (is_some lay.1) view v x so (sym full ∙ e) j in record k { taken = u.0; stored = u.1 } in
-    use0 𝓛 (raw (fact 𝓤 (l' ≡ l'))) (fact_i 𝓤 (l' ≡ l') (emp 𝓤) refl) $ use0 𝓛 (raw (fact 𝓤 Told)) (fact_i 𝓤 Told (emp 𝓤) (as_waiter k.names (is_odd n))) $ join ! $ use0 𝓛 (raw (fact 𝓤 Gone)) (fact_i 𝓤 Gone (emp 𝓤) gone) $ join ! $ use0 𝓛 (raw (fact 𝓤 Stays)) (fact_i 𝓤 Stays (emp 𝓤) stays) $ join ! $
+    use0 𝓛 (raw (fact 𝓤 (l' ≡ l'))) (fact_i 𝓤 (l' ≡ l') (emp 𝓤) refl) $ use0 𝓛 (raw (fact 𝓤 Gone)) (fact_i 𝓤 Gone (emp 𝓤) gone) $ join ! $ use0 𝓛 (raw (fact 𝓤 Stays)) (fact_i 𝓤 Stays (emp 𝓤) stays) $ join ! $
     flt_i ! n (2 ^ 64) fits $ feq_i ! (List Val) (vint w64 n ∷ []) (vint w64 n ∷ []) refl $ fjoin ! $ returns ! (look_at ! 0 refl) $ free_all ! refl $ keep ! (2 ∷ 3 ∷ 0 ∷ 1 ∷ []) $ by ! (leaves 𝓛 En hs c y (vint w64 n) n (tt, (k', (l', (tt, tt)))) (tt, (tt, (tt, (tt, tt))))))))))))))))))))

@@ -9,7 +9,7 @@ ticket_is true ticket = refl
 ticket_is false ticket = refl
 
 pub returns-clause-ticket : goal.returns-clause-ticket
-returns-clause-ticket g c = record { none = search rules; some = search rules; waker = as_taken _ _ _ _; found = search rules }
+returns-clause-ticket g c = record { none = search rules; some = search rules; waker = as_taken _ _ _ _ }
 
 pub returns-clause-leaves : goal.returns-clause-leaves
 returns-clause-leaves g c = let taken = c.empty_other-found.new in (ticket_if taken.right.filled taken.slot.taken, ticket_is taken.right.filled taken.slot.taken ∙ sym c.take_out-taken.ensures.some, search rules)

@@ -7,4 +7,4 @@ pub returns-clause-put : goal.returns-clause-put
 returns-clause-put g c = as_put _ _ _
 
 pub returns-clause-out : goal.returns-clause-out
-returns-clause-out g c = record { some = search rules; none = search rules; taken = as_taken_back _ _ _ _ }
+returns-clause-out g c = record { some = search rules; taken = as_taken_back _ _ _ _ }
