@@ -21,4 +21,5 @@ pub mod Taking
 pub mod ReaderFacts
 pub mod WriterFacts
 pub mod Loaded
+pub mod Told
 pub mod Worked

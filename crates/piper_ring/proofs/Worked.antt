@@ -1,5 +1,5 @@
 -- Logs that no call makes, evaluated: a line that the table doesn't have where it stands is the end of
--- the run.
+-- the run, and a note that is not true of its access is found.
 use Rattle.std.proofs.Common.{◌≡◌, Bool, true, false, List, [], ◌∷◌, None, Some, ap, sym, ◌∙◌, refl}
 use Rattle.std.proofs.lemmas.Option.{none-some}
 use Rattle.piper_protocol.specs.Table.{Next, goes_on}
@@ -8,15 +8,17 @@ use Rattle.piper_protocol.specs.declared.answer.Answer.TheVariants as answers
 use Rattle.piper_protocol.specs.declared.answer.Polled.TheVariants.{Ready}
 use Rattle.piper_protocol.specs.declared.table.Form.TheVariants.{Try}
 use Rattle.piper_protocol.specs.declared.table.Found.{Found}
-use Rattle.piper_protocol.specs.declared.table.Found.TheVariants.{Flag as flag, Moved, Nothing, Waker as waker}
+use Rattle.piper_protocol.specs.declared.table.Found.TheVariants.{Flag as flag, IndexLoaded as index_loaded, Moved, Nothing, Waker as waker}
 use Rattle.piper_protocol.specs.declared.table.Point.{Point}
 use Rattle.piper_protocol.specs.declared.table.Point.TheVariants.{Reader, Writer}
 use Rattle.piper_protocol.specs.declared.table.Purpose.TheVariants.{Copy, Poll}
+use Rattle.piper_protocol.specs.declared.table.ReadPoint.TheVariants as reads
 use Rattle.piper_protocol.specs.declared.table.WritePoint.TheVariants as on
 use Rattle.piper_protocol.specs.declared.table.Side.TheVariants as sides
-use Rattle.piper_protocol.specs.OneList.{loaded_closed, loaded_slot, stored_tail}
+use Rattle.piper_protocol.specs.OneList.{loaded_closed, loaded_slot, loaded_tail, stored_tail}
 use Rattle.piper_ring.specs.Line.{Line, access, note}
 use Rattle.piper_ring.specs.Log.{Log, Ran, comes_to, drawn, idle, looks, step}
+use Rattle.piper_ring.specs.Told.{are_told, moved_in}
 use Rattle.piper_ring.specs.declared.log.Note.TheVariants.{Began, ClosedLoaded, Made, Told}
 
 -- where no call is open no line leads on but the beginning of one
@@ -74,3 +76,15 @@ loads_twice : (a b : Log)
     ∷ note (Began (Writer (on.LookClosed (Copy Try)))) ∷ a.lines
     → Ran (Writer (on.LookClosed (Copy Try))) (answers.Count 1) a b → ⊥
 loads_twice a b same ran = no_run _ _ a b _ same refl ran
+
+-- a look that says of a tail past its head that nothing is there does not tell the truth, and one that
+-- says it of the tail at its head does
+lies : are_told 4 (note (Told (index_loaded true)) ∷ access (loaded_tail 3)
+    ∷ note (Began (Reader (reads.LookTail Poll))) ∷ []) ≡ false
+unfolding are_told moved_in
+lies = refl
+
+is_true : are_told 4 (note (Told (index_loaded true)) ∷ access (loaded_tail 0)
+    ∷ note (Began (Reader (reads.LookTail Poll))) ∷ []) ≡ true
+unfolding are_told moved_in
+is_true = refl

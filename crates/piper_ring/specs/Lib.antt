@@ -8,6 +8,7 @@ pub mod Shared
 pub mod Loads
 pub mod Line
 pub mod Log
+pub mod Told
 pub mod Lends
 pub mod ReadView
 pub mod RoomOrder

@@ -1,13 +1,13 @@
 -- What a log says: where its side's last call is, by the call table.
-use Rattle.std.specs.Prelude.{◌≡◌, ◌⊎◌, ℕ, Bool, List, [], ◌∷◌, length, Option, None, is_some, Result, Ok, Err, true, false, not, ⊤}
-use Rattle.piper_protocol.specs.OneList.{Access, AreOneList, loaded_closed, loaded_head, loaded_slot, loaded_tail, stored_closed, stored_head, stored_tail, swapped}
+use Rattle.std.specs.Prelude.{◌≡◌, ◌⊎◌, ℕ, Bool, List, [], ◌∷◌, Option, None, is_some, Result, Ok, Err, true, false, not, ⊤}
+use Rattle.piper_protocol.specs.OneList.{Access, AreOneList, loaded_slot, stored_closed, swapped}
 use Rattle.piper_protocol.specs.Table.{Next, ends, goes_on, look_begun, read_action, read_row, write_action, write_row}
 use Rattle.piper_protocol.specs.declared.answer.Answer.{Answer}
 use Rattle.piper_protocol.specs.declared.answer.Answer.TheVariants.{Done}
 use Rattle.piper_protocol.specs.declared.table.Action.{Action}
 use Rattle.piper_protocol.specs.declared.table.Action.TheVariants as does
 use Rattle.piper_protocol.specs.declared.table.Found.{Found}
-use Rattle.piper_protocol.specs.declared.table.Found.TheVariants.{Failed, Flag as flag, Granted as granted, IndexLoaded as index_loaded, Moved, Nothing, Waker as waker}
+use Rattle.piper_protocol.specs.declared.table.Found.TheVariants.{Failed, Granted as granted, Moved, Nothing, Waker as waker}
 use Rattle.piper_protocol.specs.declared.table.AfterWrite.TheVariants.{Drop}
 use Rattle.piper_protocol.specs.declared.table.Form.TheVariants.{Polling}
 use Rattle.piper_protocol.specs.declared.table.Point.{Point}
@@ -91,39 +91,6 @@ abbrev pub before_of : List Line → List Line
 before_of [] = []
 before_of (note (Began first) ∷ before) = before
 before_of (line ∷ before) = before_of before
-
--- the access is this step of the table, and found this
-abbrev Fits : Action → Access → Found → Type 0
-Fits does.LoadIndex (loaded_head count) (index_loaded none) = ⊤
-Fits does.LoadIndex (loaded_tail count) (index_loaded none) = ⊤
-Fits does.LoadClosed (loaded_closed is_closed) (flag found) = is_closed ≡ found
-Fits (does.StoreHead n) (stored_head bytes) Nothing = length bytes ≡ n
-Fits (does.StoreTail n) (stored_tail bytes) Nothing = length bytes ≡ n
-Fits (does.StoreClosed is_shut) stored_closed Nothing = ⊤
-Fits does.Register (swapped side old left) (granted true) = is_some left ≡ true
-Fits (does.Take side) (loaded_slot there is_filled) (waker false) =
-    (there ≡ side) × (is_filled ≡ false)
-Fits (does.Take side) (loaded_slot there is_filled) Nothing = (there ≡ side) × (is_filled ≡ false)
-Fits (does.Take side) (swapped there old left) (waker found) =
-    (there ≡ side) × (left ≡ None) × (is_some old ≡ found)
-Fits (does.Take side) (swapped there old left) Nothing = (there ≡ side) × (left ≡ None)
-Fits it a found = ⊥
-
--- the last line is an access, which is this step, and the table has it next
-abbrev pub IsTold : Action → Found → List Line → Type 0
-IsTold it found (access a ∷ before) = (action (comes_to before).point ≡ it) × Fits it a found
-IsTold it found lines = ⊥
-
--- the access is none of the table's: a load that found the slot full which is to be emptied, or the
--- swap by which a side takes its own waker back before it registers
-abbrev Passes : Action → Access → Type 0
-Passes (does.Take side) (loaded_slot there is_filled) = (there ≡ side) × (is_filled ≡ true)
-Passes does.Register (swapped side old left) = left ≡ None
-Passes it a = ⊥
-
-abbrev pub MayPass : Action → List Line → Type 0
-MayPass it (access a ∷ before) = (action (comes_to before).point ≡ it) × Passes it a
-MayPass it lines = ⊥
 
 -- a log, and with one line more
 abbrev pub Log : Type 0

@@ -1,6 +1,6 @@
 //! The ring that two threads share without a lock: the two ends of a bounded pipe of bytes; and its
 //! two sides, each an end that can wait for the other and wake it.
-#![tactic(auto)]
+#![tactic(auto, unfolding(crate::specs::Told::are_told, crate::specs::Told::moved_in))]
 
 mod ends;
 mod log;

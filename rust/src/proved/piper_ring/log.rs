@@ -65,7 +65,8 @@ unsafe impl Sync for Log {}
 } */
 
 impl Log {
-    /* ghost use Rattle.piper_ring.specs.Log.{IsTold, MayPass, WasMade, began, closed_loaded, drew, made, next, passed, told, with_note}; */
+    /* ghost use Rattle.piper_ring.specs.Log.{WasMade, began, closed_loaded, drew, made, next, passed, told, with_note}; */
+    /* ghost use Rattle.piper_ring.specs.Told.{IsTold, MayPass, tells_true}; */
 
     /// A log that nobody keeps, for a query.
     #[inline(always)]
@@ -78,36 +79,43 @@ impl Log {
     /// A call begins.
     #[inline(always)]
     pub(crate) fn begin(&mut self, first: Point)
-        /* ensures { self.new ≡ began first self.old } */
+        /* ensures line { self.new ≡ began first self.old }
+        ensures right { tells_true self.new ≡ tells_true self.old } */
     {
         self.push(&Note::Began(first));
     }
 
     /// The last access was this step of the table, and found this.
+    /* #[tactic(auto, using(crate::proofs::Told::told_true))] */
     #[inline(always)]
     pub(crate) fn tell(&mut self, action: Action, found: Found)
-        /* requires { IsTold action found self.old.lines }
-        ensures { self.new ≡ told found self.old } */
+        /* requires { IsTold action found self.old }
+        ensures line { self.new ≡ told found self.old }
+        ensures right { tells_true self.new ≡ tells_true self.old } */
     {
         let _ = action;
         self.push(&Note::Told(found));
     }
 
     /// The last access was no step of the table, which has this one next.
+    /* #[tactic(auto, using(crate::proofs::Told::passed_true))] */
     #[inline(always)]
     pub(crate) fn pass(&mut self, action: Action)
-        /* requires { MayPass action self.old.lines }
-        ensures { self.new ≡ passed self.old } */
+        /* requires { MayPass action self.old }
+        ensures line { self.new ≡ passed self.old }
+        ensures right { tells_true self.new ≡ tells_true self.old } */
     {
         let _ = action;
         self.push(&Note::Passed);
     }
 
     /// Closed was loaded as a look of the writer begins.
+    /* #[tactic(auto, using(crate::proofs::Told::closed_loaded_true))] */
     #[inline(always)]
     pub(crate) fn closed_loaded_first(&mut self, none: bool, is_closed: bool)
-        /* requires { IsTold Action.LoadClosed (Found.Flag is_closed) self.old.lines }
-        ensures { self.new ≡ closed_loaded none is_closed self.old } */
+        /* requires { IsTold Action.LoadClosed (Found.Flag is_closed) self.old }
+        ensures line { self.new ≡ closed_loaded none is_closed self.old }
+        ensures right { tells_true self.new ≡ tells_true self.old } */
     {
         self.push(&Note::ClosedLoaded { none, is_closed });
     }
@@ -115,7 +123,8 @@ impl Log {
     /// A copy drew.
     #[inline(always)]
     pub(crate) fn drew(&mut self, is_drawn: bool)
-        /* ensures { self.new ≡ drew is_drawn self.old } */
+        /* ensures line { self.new ≡ drew is_drawn self.old }
+        ensures right { tells_true self.new ≡ tells_true self.old } */
     {
         self.push(&Note::Drew(is_drawn));
     }
@@ -125,7 +134,8 @@ impl Log {
     pub fn woke(&mut self)
         /* requires turn { next self.old ≡ Action.Wake }
         requires called { WasMade Action.Wake }
-        ensures { self.new ≡ made Found.Nothing self.old } */
+        ensures line { self.new ≡ made Found.Nothing self.old }
+        ensures right { tells_true self.new ≡ tells_true self.old } */
     {
         self.note(Found::Nothing);
     }
@@ -133,7 +143,8 @@ impl Log {
     /// The step that the table has next was made, is no access, and found this.
     #[inline(always)]
     pub(crate) fn note(&mut self, found: Found)
-        /* ensures { self.new ≡ made found self.old } */
+        /* ensures line { self.new ≡ made found self.old }
+        ensures right { tells_true self.new ≡ tells_true self.old } */
     {
         self.push(&Note::Made(found));
     }

@@ -37,6 +37,8 @@ impl SlotEnd for ReadEnd {
 
     ghost stored_of = { λ e. as_stored [] (length e.taken) false };
 
+    ghost moved_of = { λ e. e.taken };
+
     ghost tells = { λ m z s. (m.names ≡ z) × (m.bytes ≡ s.bytes) × (m.shut ≡ s.closed) };
 
     #[inline(always)]

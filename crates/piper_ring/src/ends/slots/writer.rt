@@ -44,6 +44,8 @@ impl SlotEnd for WriteEnd {
 
     ghost stored_of = { λ e. as_stored e.sent 0 e.shut };
 
+    ghost moved_of = { λ e. e.sent };
+
     ghost tells = { λ m z s. (m.count.names ≡ z) × (m.closed.names ≡ z)
         × (m.count.count ≡ s.count) × (m.closed.seen ≡ s.closed) };
 

@@ -10,7 +10,8 @@ use crate::proved::piper_ring::{
 impl Reader {
     /* ghost use Rattle.piper_protocol.specs.OneList.{AreOneList}; */
     /* ghost use Rattle.piper_ring.specs.Log.{accesses_of}; */
-    /* ghost use Rattle.piper.specs.OfReader.{accesses, end_of, ring}; */
+    /* ghost use Rattle.piper_ring.specs.Told.{IsTrueLog, tells_true}; */
+    /* ghost use Rattle.piper.specs.OfReader.{accesses, end_of, log, ring, taken}; */
     /* ghost use Rattle.piper.specs.OfWriter as of_writer; */
     /* ghost use Rattle.piper.specs.ReaderCalls.{MeetWoken, Meets, ReaderObserves, ReaderWasWoken}; */
 
@@ -48,12 +49,14 @@ impl Reader {
     /// and called the other's waker: a pipe is not empty and full.
     ///
     /// All accesses of both to what they share are one list, in which each found what the last one
-    /// before it left.
+    /// before it left. What each log says of its accesses is true of them.
     ///
     /// Requires: both handles are of one pipe.
     #[inline] pub fn meet(&mut self, other: &mut Writer)
         /* requires { of_writer.ring other.old ≡ ring self.old }
         ensures list { AreOneList (accesses self.old) (of_writer.accesses other.old) }
+        ensures logs { IsTrueLog (log self.old) (taken self.old)
+            × IsTrueLog (of_writer.log other.old) (of_writer.sent other.old) }
         ensures met { Meets self.old self.new other.old other.new }
         ensures woken { MeetWoken self.old self.new other.old other.new } */
     {
@@ -69,6 +72,8 @@ impl Reader {
     #[inline] pub fn meet_finished(&mut self, left: &mut FinishedWriter)
         /* requires { left.old.mark.names ≡ (ring self.old).names }
         ensures list { AreOneList (accesses self.old) (accesses_of left.old.log) }
+        ensures logs { IsTrueLog (log self.old) (taken self.old)
+            × (tells_true left.old.log ≡ true) }
         ensures woken { ReaderWasWoken self.old left.old }
         ensures observes { ReaderObserves left.old.mark self.old self.new }
         ensures last { left.old.mark.shut ≡ true }
@@ -84,7 +89,8 @@ impl Writer {
     /* ghost use Rattle.piper.specs.Handles.{lends_room}; */
     /* ghost use Rattle.piper_protocol.specs.OneList.{AreOneList}; */
     /* ghost use Rattle.piper_ring.specs.Log.{accesses_of}; */
-    /* ghost use Rattle.piper.specs.OfWriter.{accesses, end_of, ring, saw}; */
+    /* ghost use Rattle.piper_ring.specs.Told.{IsTrueLog, tells_true}; */
+    /* ghost use Rattle.piper.specs.OfWriter.{accesses, end_of, log, ring, saw, sent}; */
     /* ghost use Rattle.piper.specs.WriterCalls.{MayLend, MustLend, WriterObserves, WriterWasWoken}; */
 
     /// Its end of the ring.
@@ -126,6 +132,8 @@ impl Writer {
     #[inline] pub fn meet_finished(&mut self, left: &mut FinishedReader)
         /* requires { left.old.mark.consumed.names ≡ (ring self.old).names }
         ensures list { AreOneList (accesses_of left.old.log) (accesses self.old) }
+        ensures logs { IsTrueLog (log self.old) (sent self.old)
+            × (tells_true left.old.log ≡ true) }
         ensures woken { WriterWasWoken self.old left.old }
         ensures observes { WriterObserves left.old.mark.consumed.count true self.old self.new }
         ensures rest { left.new ≡ left.old } */

@@ -1,6 +1,7 @@
 //! What is left of a side that has left.
 /* ghost use Rattle.std.specs.Prelude.{◌≡◌, true, false}; */
 /* ghost use Rattle.piper_ring.specs.Log.{IsLogOf}; */
+/* ghost use Rattle.piper_ring.specs.Told.{tells_true}; */
 
 use crate::proved::piper_ring::ends::cells::LeftWakers;
 use crate::proved::piper_ring::ends::slots::reader::ReadRegistrations;
@@ -29,6 +30,7 @@ pub struct FinishedReader {
     pub log: Log,
     /* ghost of_one_ring: { slots.names ≡ mark.consumed.names }, */
     /* ghost own_log: { IsLogOf slots.names true log }, */
+    /* ghost right: { tells_true log ≡ true }, */
     /* ghost after_its_close: { slots.stored.closed ≡ true }, */
 }
 
@@ -43,5 +45,6 @@ pub struct FinishedWriter {
     pub log: Log,
     /* ghost of_one_ring: { slots.names ≡ mark.names }, */
     /* ghost own_log: { IsLogOf slots.names false log }, */
+    /* ghost right: { tells_true log ≡ true }, */
     /* ghost after_its_close: { (mark.shut ≡ true) × (slots.stored.closed ≡ true) }, */
 }

@@ -1,6 +1,6 @@
 //! What each end has of the two slots, at which a side waits for the other. A side that waits puts
 //! its waker, of any type, into its slot, and whoever takes its ticket gets it out.
-/* ghost use Rattle.std.specs.Prelude.{◌≡◌, ℕ, Bool, true, not}; */
+/* ghost use Rattle.std.specs.Prelude.{◌≡◌, ℕ, Bool, true, not, List}; */
 /* ghost use Rattle.piper_ring.specs.Log.{IsLogOf}; */
 /* ghost use Rattle.piper_ring.specs.Shared.{Names}; */
 /* ghost use Rattle.piper_ring.specs.Slot.{Stored}; */
@@ -31,6 +31,8 @@ pub trait SlotEnd {
     /* ghost capacity_of: { Self → ℕ }; */
 
     /* ghost stored_of: { Self → Stored }; */
+
+    /* ghost moved_of: { Self → List ℕ }; */
 
     /* ghost tells: { Self.Heard → Names → Stored → Type 0 }; */
 

@@ -151,6 +151,7 @@ impl WriteEnd {
         requires ring { more.now.names ≡ self.old.ring.names }
         requires log { MayNote self.old.ring.names false log.old }
         ensures end { LoadsHead more.now.count self.old self.new }
+        ensures fits { self.new.capacity ≡ self.new.ring.names.capacity }
         ensures noted { log.new ≡ did (loaded_head
             (length self.new.sent + self.new.room - self.new.capacity)) log.old } */
     {

@@ -4,6 +4,7 @@
 /* ghost use Rattle.piper_protocol.specs.OneList.{loaded_slot, swapped}; */
 /* ghost use Rattle.piper_ring.specs.Slot.{ticket_if}; */
 /* ghost use Rattle.piper_ring.specs.Log.{AreSides, Comes, IsLogOf, IsOutside, accesses_of, began, did, drew, found_of, made, next, now, other, own, passed, passed_if, then, told, told_if}; */
+/* ghost use Rattle.piper_ring.specs.Told.{moved_in, tells_true}; */
 
 use crate::proved::piper_ring::ends::cells::WakerCells;
 use crate::proved::piper_ring::ends::slots::{Registrations, SlotEnd};
@@ -26,6 +27,8 @@ pub struct Side<E: SlotEnd, T> {
     /* ghost of_one_ring: { slots.names ≡ E.names_of end }, */
     /* ghost places: { AreCellsOf slots.names cells }, */
     /* ghost own_log: { IsLogOf slots.names E.READS log }, */
+    /* ghost right: { tells_true log ≡ true }, */
+    /* ghost moved: { moved_in log.lines ≡ E.moved_of end }, */
 }
 
 impl<E: SlotEnd, T> Side<E, T> {
