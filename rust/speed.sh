@@ -35,18 +35,8 @@ shift $((OPTIND - 1))
 
 # Builds the example over a package, in each layout.
 build() { # NUMBER FOLDER
-    mkdir "$room/$1"
-    cat > "$room/$1/Cargo.toml" <<MANIFEST
-[package]
-name = "speed"
-version = "0.1.0"
-edition = "2018"
-[dependencies]
-piper = { path = "$(cd "$2" && pwd)" }
-[[bin]]
-name = "speed"
-path = "$here/examples/speed.rs"
-MANIFEST
+    manifest "$room/$1" '[dependencies]' "piper = { path = \"$(cd "$2" && pwd)\" }" \
+        '[[bin]]' 'name = "speed"' "path = \"$here/examples/speed.rs\""
     local layout
     for layout in "${!layouts[@]}"; do
         (cd "$room/$1" && RUSTFLAGS="${RUSTFLAGS:-} ${layouts[layout]}" offline build --quiet --release --target-dir "$room/$1/$layout")

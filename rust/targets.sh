@@ -145,7 +145,7 @@ try() { # TARGET [LINKER [RUNNER..]]
     return "$status"
 }
 
-prepare || { echo 'targets.sh: cargo is missing, or packages are (check.sh --install gets them); nothing was tried' >&2; exit 2; }
+prepare || refuse 'cargo is missing, or packages are (check.sh --install gets them)'
 left=0
 while read -r target how; do
     [ $# -eq 0 ] || [[ " $* " == *" $target "* ]] || continue
