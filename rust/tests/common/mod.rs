@@ -47,6 +47,18 @@ impl Counter {
         let waker = Waker::from(Arc::clone(&self.0));
         poll(&mut Context::from_waker(&waker))
     }
+
+    /// Polls, and once more after each yield, which wakes the task itself and isn't counted.
+    pub fn poll<A>(&self, mut poll: impl FnMut(&mut Context<'_>) -> Poll<A>) -> Poll<A> {
+        loop {
+            let before = self.wakes();
+            let polled = self.with(&mut poll);
+            if polled.is_ready() || self.wakes() == before {
+                return polled;
+            }
+            self.0 .0.store(before, Ordering::SeqCst);
+        }
+    }
 }
 
 /// A call of a waker.
