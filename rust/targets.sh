@@ -4,10 +4,10 @@
 #
 #     rust/targets.sh FOLDER [TARGET..]
 #
-# The table below has the targets. It gets Debian's rustc-web and the sources of its std, which it unpacks in FOLDER and installs
-# nowhere (150 MB for each of two versions), and builds std for each target there, which takes four minutes of a processor once. It needs cargo, what
-# `rust/check.sh --install` gets, and for tests what the table names; a target whose tools are missing prints `not tried`. Tests
-# leave out programs and examples, for which Debian has the crates on its own processors alone. The last line is
+# The table below has the targets. It gets Debian's rustc-web, of two versions, and the sources of the newer one's std, which it
+# unpacks in FOLDER and installs nowhere (300 MB). It builds std for each target there, which takes four minutes of a processor once.
+# It needs cargo, what `rust/check.sh --install` gets, and for tests what the table names; a target whose tools are missing prints
+# `not tried`. Tests leave out programs and examples, for which Debian has the crates on its own processors alone. The last line is
 # 'targets: N passed, M failed, K not tried'. The status is 2 if nothing could be tried.
 set -uo pipefail
 . "$(dirname "$0")/common.sh"

@@ -18,7 +18,7 @@ Of docs/api only the sections that begin with "Example" are tried: `tools/write_
 the rest with the sources.
 
 The gate's own proofs are not made again: of `rt run` the stored output of the crate is compared. A
-section that begins with "From" needs no `rt`, and has a PATH without it. `~` is a new folder. The section SETUP of the guide
+section that begins with "From" needs no `rt`, and finds one that fails. `~` is a new folder. The section SETUP of the guide
 is tried first, and each other one of it and of docs/api in a copy of what it left, beside the
 others. With a WORD only sections whose heading has it are tried. A section whose tools are missing is left out,
 which is said. The last line is `N passed, M failed`.
