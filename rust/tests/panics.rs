@@ -135,14 +135,15 @@ fn a_yield_calls_by_reference() {
 }
 
 #[test]
-fn a_drop_that_panics_drops_its_own_waker() {
-    let (mut reader, mut writer) = full();
-    // The reader's waker is in the pipe once it has taken all.
-    assert_eq!(drained(&mut reader).len(), 8);
-    assert_eq!(with(|cx| reader.poll(cx)), Poll::Pending);
-    assert_eq!(writer.try_fill(b"12345678"), 8);
-    assert_eq!(with(|cx| writer.poll(cx)), Poll::Pending);
-    assert!(panics(Call::Wake, || drop(reader)));
-    assert_eq!(ALIVE.get(), 0);
+fn a_drop_that_panics_has_closed_the_pipe() {
+    let (reader, writer) = full();
+    assert!(panics(Call::Wake, || drop(reader)), "the writer's waker is called");
     assert!(writer.is_closed());
+    let (reader, writer) = awaited();
+    assert!(panics(Call::Wake, || drop(writer)), "the reader's waker is called");
+    assert!(reader.is_closed());
+    let (reader, writer) = awaited();
+    assert!(panics(Call::Drop, || drop(reader)), "its own waker is dropped");
+    assert!(writer.is_closed());
+    assert_eq!(ALIVE.get(), 0);
 }
