@@ -3,9 +3,9 @@
 
     rust/api.py FOLDER
 
-FOLDER has a package with the sources of 0.2.5. The items are those that rustdoc prints as JSON, which
-takes RUSTC_BOOTSTRAP: functions, structs, methods with their types, impls, and auto traits. CARGO_SOURCES is that of
-check.sh.
+FOLDER has a package with the sources of 0.2.5. The items are those that rustdoc prints as JSON, which takes
+RUSTC_BOOTSTRAP: functions, constants, structs, methods with their types, impls, and auto traits. CARGO_SOURCES
+is that of check.sh.
 """
 import json
 import os
@@ -80,6 +80,8 @@ def items(said):
         name, inner = item["name"], item["inner"]
         if "function" in inner:
             found[f"`{name}`"] = signature(inner["function"])
+        elif "constant" in inner:
+            found[f"`{name}`"] = type_(inner["constant"]["type"])
         for made in (index[str(it)] for it in inner.get("struct", {}).get("impls", [])):
             block = made["inner"]["impl"]
             trait = block["trait"]

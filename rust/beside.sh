@@ -10,9 +10,8 @@ set -euo pipefail
 [ $# -ge 1 ] || usage
 
 answers() { # NAME FOLDER CALLS [PIPE]
-    mkdir -p "$room/$1"
-    printf '%s\n' '[package]' 'name = "answers"' 'version = "0.1.0"' 'edition = "2021"' '[dependencies]' \
-        "piper = { path = \"$(cd "$2" && pwd)\" }" '[[bin]]' 'name = "answers"' "path = \"$here/examples/answers.rs\"" > "$room/$1/Cargo.toml"
+    manifest "$room/$1" '[dependencies]' "piper = { path = \"$(cd "$2" && pwd)\" }" \
+        '[[bin]]' 'name = "answers"' "path = \"$here/examples/answers.rs\""
     (cd "$room/$1" && offline run --quiet --release --target-dir "$room/$1/target" -- "${@:3}") > "$room/$1.answers"
 }
 

@@ -15,11 +15,6 @@ packages=(valgrind librust-futures-io-dev librust-fastrand-dev librust-futures-l
     librust-futures-util-dev librust-blocking-dev librust-async-fs-dev librust-async-process-dev librust-smol-dev
     librust-doc-comment-dev)
 
-refuse() { # MESSAGE
-    echo "check.sh: $1; nothing was tried" >&2
-    exit 2
-}
-
 # Adds up what cargo's tests print. A run that fails before a test does counts as one failure, and shows all it printed.
 tests() { # NAME, and how cargo is called
     local name=$1 log status counts
@@ -39,7 +34,7 @@ tests() { # NAME, and how cargo is called
 
 # The folder as whoever has no `rt` and no environment of ours gets it. Cargo warns of nothing but that there is no public address yet.
 packed() { # NAME
-    cmp LICENSE-MIT ../LICENSE-MIT && cmp LICENSE-APACHE ../LICENSE-APACHE || return
+    cmp LICENSE-MIT "$top/LICENSE-MIT" && cmp LICENSE-APACHE "$top/LICENSE-APACHE" || return
     offline package --allow-dirty --target-dir "$room/target" 2>&1 | tee "$room/packing"
     [ "${PIPESTATUS[0]}" -eq 0 ] || return
     ! grep '^warning' "$room/packing" | grep -v 'manifest has no documentation, homepage or repository' || return
@@ -50,8 +45,12 @@ packed() { # NAME
     done
 }
 
+# The manifest in `named` names sources of the folder above, and cargo packs none from outside of a package: so all is put in one.
 packed_under_its_own_name() {
-    named/gather.sh "$room/gathered/rust" && cp ../LICENSE-* "$room/gathered" && (cd "$room/gathered/rust" && packed piper-proved)
+    mkdir "$room/gathered"
+    cp -r src tests examples README.md LICENSE-* "$room/gathered"
+    { sed 's/^name = "piper"$/name = "piper-proved"/' Cargo.toml && printf '\n[lib]\nname = "piper"\n'; } > "$room/gathered/Cargo.toml"
+    (cd "$room/gathered" && packed piper-proved)
 }
 
 # A program takes the package by its own name, with no patch; that package has the same sources, version, features and dependencies.
@@ -60,23 +59,21 @@ has_a_name_of_its_own() {
     diff <(grep -E "$alike" Cargo.toml) <(grep -E "$alike" named/Cargo.toml) || return
     diff <(sed -n '/^\[features\]/,/^\[dev-dependencies\]/p' Cargo.toml | sed '/^\[dev-/d') \
         <(sed -n '/^\[features\]/,$p' named/Cargo.toml; echo) || return
-    mkdir -p "$room/own/src"
-    printf '%s\n' '[package]' 'name = "own"' 'version = "0.1.0"' 'edition = "2021"' \
-        '[dependencies]' "piper = { package = \"piper-proved\", path = \"$top/rust/named\" }" > "$room/own/Cargo.toml"
+    manifest "$room/own" '[dependencies]' "piper = { package = \"piper-proved\", path = \"$top/rust/named\" }"
     echo 'fn main() { assert!(piper::IS_PROVED && piper::pipe(4).1.try_fill(b"abc") == 3); }' > "$room/own/src/main.rs"
     (cd "$room/own" && offline run --target-dir "$room/target" && offline tree --invert piper-proved | grep -q "$top/rust/named")
 }
 
 # A lock that names a later version keeps it though there is a patch, and `cargo tree` shows that. One line mends it, as the page says.
 mends_a_lock() (
-    local later=$room/registry/piper-0.2.6 sources=$room/registry
-    mkdir -p "$later/src" "$room/locked/src"
-    ln -s "${CARGO_SOURCES:-/usr/share/cargo/registry}"/* "$sources"
-    printf '%s\n' '[package]' 'name = "piper"' 'version = "0.2.6"' 'edition = "2021"' > "$later/Cargo.toml"
+    local later=$room/registry/piper
+    manifest "$later"
+    sed -i 's/^version = .*/version = "0.2.6"/' "$later/Cargo.toml"
     echo 'pub const IS_PROVED: bool = false;' > "$later/src/lib.rs"
     printf '{"files":{},"package":"%064d"}' 0 > "$later/.cargo-checksum.json"
-    printf '%s\n' '[package]' 'name = "locked"' 'version = "0.1.0"' 'edition = "2021"' \
-        '[dependencies]' 'piper = "0.2"' > "$room/locked/Cargo.toml"
+    ln -s "$sources"/* "$room/registry"
+    sources=$room/registry
+    manifest "$room/locked" '[dependencies]' 'piper = "0.2"'
     echo 'fn main() { assert_eq!(std::env::args().len() > 1, piper::IS_PROVED); }' > "$room/locked/src/main.rs"
     cd "$room/locked" && offline generate-lockfile || return
     printf '%s\n' '[patch.crates-io]' "piper = { path = \"$top/rust\" }" >> Cargo.toml
@@ -97,9 +94,7 @@ page_is_exact() {
 
 # A shared library that is made with this crate shows none of it.
 shows_nothing() {
-    mkdir -p "$room/shared/src"
-    printf '%s\n' '[package]' 'name = "shared"' 'version = "0.1.0"' 'edition = "2021"' '[lib]' 'crate-type = ["cdylib"]' \
-        '[dependencies]' "piper = { path = \"$top/rust\" }" > "$room/shared/Cargo.toml"
+    manifest "$room/shared" '[lib]' 'crate-type = ["cdylib"]' '[dependencies]' "piper = { path = \"$here\" }"
     cat > "$room/shared/src/lib.rs" <<< '#[no_mangle]
 pub extern "C" fn sends(byte: u8) -> usize {
     let (mut reader, mut writer) = piper::pipe(4);

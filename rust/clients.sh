@@ -11,10 +11,6 @@
 set -uo pipefail
 . "$(dirname "$0")/common.sh"
 clients=(blocking async-fs async-process smol)
-refuse() { # MESSAGE
-    echo "clients.sh: $1; nothing was tried" >&2
-    exit 2
-}
 [ $# -gt 0 ] || usage
 command -v cargo > /dev/null || refuse 'cargo is missing'
 compgen -G "$sources/doc-comment-[0-9]*" > /dev/null || refuse "$sources has no package doc-comment"

@@ -12,6 +12,18 @@ offline() { # COMMAND, and what else it takes
     cargo "$1" --offline --config "source.crates-io.replace-with='here'" --config "source.here.directory='$sources'" "${@:2}"
 }
 
+# Writes the manifest of a package of its own, named as its folder, with the lines that are given.
+manifest() { # FOLDER LINE..
+    mkdir -p "$1/src"
+    printf '%s\n' '[package]' "name = \"${1##*/}\"" 'version = "0.1.0"' 'edition = "2021"' "${@:2}" > "$1/Cargo.toml"
+}
+
+# Ends a script that lacks something, before it has tried anything.
+refuse() { # MESSAGE
+    echo "${0##*/}: $1; nothing was tried" >&2
+    exit 2
+}
+
 # Prints the head of the script that calls it, which says how it is called.
 usage() {
     sed -n '2,/^[^#]/s/^# \?//p' "$0" >&2

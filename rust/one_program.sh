@@ -17,11 +17,6 @@ copy() { # FOLDER VERSION
     sed -i "s/^version = .*/version = \"$2\"/" "$1/Cargo.toml"
 }
 
-manifest() { # NAME LINE.. of its manifest
-    mkdir -p "$1/src"
-    printf '%s\n' '[package]' "name = \"$1\"" 'version = "0.1.0"' 'edition = "2021"' "${@:2}" > "$1/Cargo.toml"
-}
-
 # A crate with assembler's text of its own.
 with_text() {
     manifest text

@@ -35,26 +35,16 @@ shift $((OPTIND - 1))
 
 # Builds the example over a package, in each layout.
 build() { # NUMBER FOLDER
-    mkdir "$room/$1"
-    cat > "$room/$1/Cargo.toml" <<MANIFEST
-[package]
-name = "speed"
-version = "0.1.0"
-edition = "2018"
-[dependencies]
-piper = { path = "$(cd "$2" && pwd)" }
-[[bin]]
-name = "speed"
-path = "$here/examples/speed.rs"
-MANIFEST
+    manifest "$room/speed$1" '[dependencies]' "piper = { path = \"$(cd "$2" && pwd)\" }" \
+        '[[bin]]' 'name = "speed"' "path = \"$here/examples/speed.rs\""
     local layout
     for layout in "${!layouts[@]}"; do
-        (cd "$room/$1" && RUSTFLAGS="${RUSTFLAGS:-} ${layouts[layout]}" offline build --quiet --release --target-dir "$room/$1/$layout")
+        (cd "$room/speed$1" && RUSTFLAGS="${RUSTFLAGS:-} ${layouts[layout]}" offline build --quiet --release --target-dir "$room/speed$1/$layout")
     done
 }
 
 instructions() { # NUMBER WAY CAPACITY PIECE PIECES
-    valgrind --tool=callgrind --callgrind-out-file=/dev/null "$room/$1/0/release/speed" "$2" "$3" "$4" $(($4 * $5)) 2>&1 |
+    valgrind --tool=callgrind --callgrind-out-file=/dev/null "$room/speed$1/0/release/speed" "$2" "$3" "$4" $(($4 * $5)) 2>&1 |
         sed -n 's/^==[0-9]*== Collected : \([0-9]*\)$/\1/p'
 }
 
@@ -72,7 +62,7 @@ counts() { # WAY CAPACITY PIECE
 
 # A round has a layout of the code, and a shift of the pieces.
 nanoseconds() { # NUMBER ROUND WAY CAPACITY PIECE TOTAL
-    "$room/$1/$(($2 % ${#layouts[@]}))/release/speed" "${@:3}" $((${#layouts[@]} > 1 ? $2 * 304 % 4096 : 0)) | cut -d' ' -f4
+    "$room/speed$1/$(($2 % ${#layouts[@]}))/release/speed" "${@:3}" $((${#layouts[@]} > 1 ? $2 * 304 % 4096 : 0)) | cut -d' ' -f4
 }
 
 # One line: the number of each package, with its ratio to the first.
@@ -115,14 +105,14 @@ in_turn() { # WAY CAPACITY PIECE TOTAL
     local round which all=()
     for ((round = 0; round < rounds; round++)); do
         for ((which = 1; which <= number; which++)); do
-            nanoseconds "$which" "$round" "$@" >> "$room/$which/times"
+            nanoseconds "$which" "$round" "$@" >> "$room/speed$which/times"
         done
     done
     for ((which = 1; which <= number; which++)); do
-        all+=("$(median < "$room/$which/times")")
-        all+=("$(paste "$room/1/times" "$room/$which/times" | awk '{ print $2 / $1 }' | median)")
+        all+=("$(median < "$room/speed$which/times")")
+        all+=("$(paste "$room/speed1/times" "$room/speed$which/times" | awk '{ print $2 / $1 }' | median)")
     done
-    rm "$room"/*/times
+    rm "$room"/speed*/times
     line "$1" "$3" "${all[@]}"
 }
 

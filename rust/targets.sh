@@ -1,12 +1,13 @@
 #!/usr/bin/env bash
 # Tries the package for other targets than this machine's: it runs its tests where there is an emulator, and else checks that it builds.
+# It also runs them by the lowest Rust that the manifest names (`lowest`).
 #
 #     rust/targets.sh FOLDER [TARGET..]
 #
-# The table below has the targets. It gets Debian's rustc-web and the sources of its std, which it unpacks in FOLDER and installs
-# nowhere (150 MB), and builds std for each target there, which takes four minutes of a processor once. It needs cargo, what
-# `rust/check.sh --install` gets, and for tests what the table names; a target whose tools are missing prints `not tried`. Tests
-# leave out programs and examples, for which Debian has the crates on its own processors alone. The last line is
+# The table below has the targets. It gets Debian's rustc-web, of two versions, and the sources of the newer one's std, which it
+# unpacks in FOLDER and installs nowhere (300 MB). It builds std for each target there, which takes four minutes of a processor once.
+# It needs cargo, what `rust/check.sh --install` gets, and for tests what the table names; a target whose tools are missing prints
+# `not tried`. Tests leave out programs and examples, for which Debian has the crates on its own processors alone. The last line is
 # 'targets: N passed, M failed, K not tried'. The status is 2 if nothing could be tried.
 set -uo pipefail
 . "$(dirname "$0")/common.sh"
@@ -20,6 +21,7 @@ one="taskset -c $(taskset -pc $$ | sed 's/.*: //; s/[-,].*//')"
 # TARGET, the linker, and what runs a program: nothing, or an emulator. Without a linker it is checked, and not linked.
 table() {
     cat <<TABLE
+lowest
 x86_64-unknown-linux-musl musl-gcc
 i686-unknown-linux-gnu i686-linux-gnu-gcc
 aarch64-unknown-linux-gnu aarch64-linux-gnu-gcc $one qemu-aarch64 -L /usr/aarch64-linux-gnu
@@ -43,28 +45,30 @@ is_there() { # TOOL..
     done
 }
 
-# The compiler, as $root/rustc, and as $root/home a CARGO_HOME that finds the packages of std beside those of Debian.
-unpack() {
-    local version llvm
-    version=$(apt-cache policy rustc-web | sed -n 's/^ *Candidate: //p')
+# The newest of Debian's compilers whose version begins so, as rustc in a folder, with other packages of its version.
+unpack() { # FOLDER BEGINNING PACKAGE..
+    local version llvm more=("${@:3}")
+    version=$(apt-cache madison rustc-web | awk -v begins="$2" 'index($3, begins) == 1 { print $3; exit }')
+    [ -n "$version" ] && mkdir -p "$1" || return
     (
-        cd "$root" || exit
+        cd "$1" || exit
         apt-get download -qq "rustc-web=$version" "libstd-rust-web-${version%.*}=$version" "libstd-rust-web-dev=$version" \
-            "rust-web-src=$version" || exit
+            "${more[@]/%/=$version}" || exit
         llvm=$(dpkg -I libstd-rust-web-[0-9]*.deb | sed -n 's/.*\(libllvm[0-9]*\).*/\1/p' | head -n 1)
         apt-get download -qq "${llvm:-libllvm22}" || exit
         for package in *.deb; do
             dpkg -x "$package" . && rm "$package" || exit
         done
-    )
+    ) || return
+    printf '%s\n' '#!/bin/sh' "export LD_LIBRARY_PATH=$1/usr/lib/x86_64-linux-gnu:$(echo "$1"/usr/lib/llvm-*/lib)" \
+        "exec $1/usr/bin/rustc \"\$@\"" > "$1/rustc"
+    chmod +x "$1/rustc"
 }
 
+# The compiler, and as $root/home a CARGO_HOME that finds the packages of std beside those of Debian.
 prepare() {
     is_there cargo taskset && compgen -G "$sources/futures-lite-[0-9]*" > /dev/null || return
-    [ -e "$root/usr/lib/rustlib/src/rust/library" ] || unpack 2> /dev/null || return
-    printf '%s\n' '#!/bin/sh' "export LD_LIBRARY_PATH=$root/usr/lib/x86_64-linux-gnu:$(echo "$root"/usr/lib/llvm-*/lib)" \
-        "exec $root/usr/bin/rustc \"\$@\"" > "$root/rustc"
-    chmod +x "$root/rustc"
+    [ -e "$root/rustc" ] || unpack "$root" '' rust-web-src 2> /dev/null || return
     mkdir -p "$root/crates" "$root/home"
     ln -sfn "$sources"/* "$root/usr/lib/rustlib/src/rust/library/vendor"/* "$root/crates"
     printf '%s\n' '[source.crates-io]' 'replace-with = "here"' '[source.here]' "directory = \"$root/crates\"" > "$root/home/config.toml"
@@ -113,10 +117,31 @@ STUB
     for_c=("STATIC_LIBS=-L$root/musl -lunwind")
 }
 
+# Runs the tests, and counts them.
+tests() { # OPTION..
+    local status=0
+    cargo test --offline --tests --no-fail-fast "$@" > "$root/said" 2>&1 || { status=1; cat "$root/said"; }
+    awk '/^test result: / { passed += $4; failed += $6 } END { print passed + 0 " tests passed, " failed + 0 " failed" }' "$root/said"
+    return "$status"
+}
+
+# The tests by the lowest Rust, with its own std.
+by_the_lowest() {
+    [ -e "$root/lowest/rustc" ] || unpack "$root/lowest" "$(sed -n 's/^rust-version = "\(.*\)"/\1./p' Cargo.toml)" 2> /dev/null || return 2
+    export RUSTC=$root/lowest/rustc
+    unset RUSTC_BOOTSTRAP
+    "$RUSTC" --version
+    tests --target-dir "$root/lowest/target"
+}
+
 # The tests, or a check, of a target. The status is 2 if tools are missing.
 try() { # TARGET [LINKER [RUNNER..]]
     local target=$1 name=${1//-/_} for_c=()
     cd "$root/rust" || return
+    if [ "$target" = lowest ]; then
+        by_the_lowest
+        return
+    fi
     if [ $# -eq 1 ]; then
         local check=(cargo check --quiet --offline --target "$target" --target-dir "$root/target")
         case $target in
@@ -137,15 +162,13 @@ try() { # TARGET [LINKER [RUNNER..]]
     # One test starts itself anew, which qemu can't.
     local skip=() status=0
     [[ $* != *qemu* ]] || skip=(-- --skip a_refusal_ends_the_program)
-    cargo test --offline -Zbuild-std=std,panic_unwind,test --tests --no-fail-fast --target "$target" --target-dir "$root/target" \
-        "${skip[@]}" > "$root/said" 2>&1 || { status=1; cat "$root/said"; }
-    awk '/^test result: / { passed += $4; failed += $6 } END { print passed + 0 " tests passed, " failed + 0 " failed" }' "$root/said"
+    tests -Zbuild-std=std,panic_unwind,test --target "$target" --target-dir "$root/target" "${skip[@]}" || status=1
     CARGO_UNSTABLE_BUILD_STD=std,panic_abort make -s -C "$root/c" check B="$root/of_c/$target" TARGET="$target" CC="$2" RUN="${*:3}" \
         "${for_c[@]}" || status=1
     return "$status"
 }
 
-prepare || { echo 'targets.sh: cargo is missing, or packages are (check.sh --install gets them); nothing was tried' >&2; exit 2; }
+prepare || refuse 'cargo is missing, or packages are (check.sh --install gets them)'
 left=0
 while read -r target how; do
     [ $# -eq 0 ] || [[ " $* " == *" $target "* ]] || continue

@@ -18,7 +18,7 @@ Of docs/api only the sections that begin with "Example" are tried: `tools/write_
 the rest with the sources.
 
 The gate's own proofs are not made again: of `rt run` the stored output of the crate is compared. A
-section that begins with "From" needs no `rt`, and has a PATH without it. `~` is a new folder. The section SETUP of the guide
+section that begins with "From" needs no `rt`, and finds one that fails. `~` is a new folder. The section SETUP of the guide
 is tried first, and each other one of it and of docs/api in a copy of what it left, beside the
 others. With a WORD only sections whose heading has it are tried. A section whose tools are missing is left out,
 which is said. The last line is `N passed, M failed`.
@@ -150,11 +150,12 @@ def run_within(script, where, path):
 
 
 def path_of(section, room):
-    """The PATH for a section's commands."""
+    """The PATH for a section's commands. Those for a package find an `rt` that fails."""
     if not section.heading.startswith("From "):
         return os.environ["PATH"]
-    words = [TOP / "tools/path_without.sh", "rt", room / "bin"]
-    return subprocess.run(words, capture_output=True, text=True, check=True).stdout.strip()
+    (room / "bin").mkdir()
+    (room / "bin/rt").symlink_to(shutil.which("false"))
+    return f"{room / 'bin'}:{os.environ['PATH']}"
 
 
 def run_commands(block, home, room, path):

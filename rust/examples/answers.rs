@@ -5,70 +5,24 @@
 //!
 //! Of one pipe, by its number, it prints each answer. It leaves out what the page says to differ. A call that yields is made again.
 
+#[path = "../tests/common/mod.rs"]
+mod common;
+
+use common::{Counter, Numbers};
 use piper::{pipe, Reader, Writer};
 use std::collections::hash_map::DefaultHasher;
 use std::fmt::Debug;
 use std::hash::{Hash, Hasher};
-use std::sync::atomic::{AtomicUsize, Ordering};
-use std::sync::Arc;
-use std::task::{Context, Poll, Wake, Waker};
+use std::task::Poll;
 
 const CALLS_OF_A_PIPE: usize = 200;
 
-#[derive(Clone, Default)]
-struct Task(Arc<Wakes>);
-
-#[derive(Default)]
-struct Wakes(AtomicUsize);
-
-impl Wake for Wakes {
-    fn wake(self: Arc<Self>) {
-        self.wake_by_ref();
-    }
-
-    fn wake_by_ref(self: &Arc<Self>) {
-        self.0.fetch_add(1, Ordering::Relaxed);
-    }
-}
-
-impl Task {
-    fn wakes(&self) -> usize {
-        self.0 .0.load(Ordering::Relaxed)
-    }
-
-    fn wakers(&self) -> usize {
-        Arc::strong_count(&self.0) - 1
-    }
-
-    /// Polls, and once more after each yield, which wakes the task itself.
-    fn poll<A>(&self, mut poll: impl FnMut(&mut Context<'_>) -> Poll<A>) -> Poll<A> {
-        let waker = Waker::from(Arc::clone(&self.0));
-        loop {
-            let before = self.wakes();
-            let polled = poll(&mut Context::from_waker(&waker));
-            if polled.is_ready() || self.wakes() == before {
-                return polled;
-            }
-            self.0 .0.store(before, Ordering::Relaxed);
-        }
-    }
-}
-
-struct Draws(u64);
-
-impl Draws {
-    fn below(&mut self, end: usize) -> usize {
-        self.0 = self.0.wrapping_mul(6_364_136_223_846_793_005).wrapping_add(1_442_695_040_888_963_407);
-        (self.0 >> 33) as usize % end
-    }
-}
-
 struct Play {
-    draws: Draws,
+    draws: Numbers,
     answers: DefaultHasher,
     next_byte: u8,
-    of_reader: Task,
-    of_writer: Task,
+    of_reader: Counter,
+    of_writer: Counter,
     is_told: bool,
 }
 
@@ -156,12 +110,11 @@ impl Play {
 }
 
 /// One pipe, of which a side goes at some time.
-fn play(seed: u64, is_told: bool) -> u64 {
-    let mut draws = Draws(seed);
-    draws.below(2);
+fn play(seed: usize, is_told: bool) -> u64 {
+    let mut draws = Numbers::new(seed);
     let (reader, writer) = pipe(1 + draws.below(100));
     let (mut reader, mut writer) = (Some(reader), Some(writer));
-    let (of_reader, of_writer) = (Task::default(), Task::default());
+    let (of_reader, of_writer) = (Counter::new(), Counter::new());
     let mut play = Play { draws, answers: DefaultHasher::new(), next_byte: 0, of_reader, of_writer, is_told };
     let end = play.draws.below(2 * CALLS_OF_A_PIPE);
     for call in 0..CALLS_OF_A_PIPE {
@@ -188,10 +141,10 @@ fn main() {
     let mut words = std::env::args().skip(1).map(|it| it.parse().expect("a number"));
     let calls = words.next().unwrap_or(1_000_000);
     if let Some(pipe) = words.next() {
-        play(pipe as u64, true);
+        play(pipe, true);
         return;
     }
     for seed in 0..calls / CALLS_OF_A_PIPE {
-        println!("{seed} {:016x}", play(seed as u64, false));
+        println!("{seed} {:016x}", play(seed, false));
     }
 }

@@ -198,9 +198,9 @@ fn before_access() {
     }
 }
 
-/// Both handles can go to another thread, be shared, and outlive a caught panic, with and without `std`.
+/// Both handles can go to another thread, be shared, be moved, and outlive a caught panic, with and without `std`.
 const _: fn() = || {
-    fn is_shared<T: Send + Sync + core::panic::UnwindSafe + core::panic::RefUnwindSafe>() {}
+    fn is_shared<T: Send + Sync + Unpin + core::panic::UnwindSafe + core::panic::RefUnwindSafe>() {}
     is_shared::<Reader>();
     is_shared::<Writer>();
 };

@@ -322,14 +322,6 @@ fn a_handle_prints_counts() {
 }
 
 #[test]
-fn the_handles_can_be_sent_and_shared() {
-    fn can<T: Send + Sync + Unpin>(_: &T) {}
-    let (reader, writer) = pipe(1);
-    can(&reader);
-    can(&writer);
-}
-
-#[test]
 fn a_pipe_may_be_copied_into_itself() {
     let (mut reader, mut writer) = pipe(16);
     let mut place = [0; 16];

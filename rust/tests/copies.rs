@@ -4,75 +4,56 @@ mod common;
 
 use common::{panics, Counter};
 use futures_lite::future::{block_on, poll_fn};
-use piper::{pipe, Reader};
+use piper::pipe;
 use std::io::{self, Read, Write};
 
-/// Reads from it fail after the first.
-struct FailsAfter(usize);
+/// A source and a destination that answers of a slice of so many bytes what the function says.
+struct Says<F>(F);
 
-impl Read for FailsAfter {
+impl<F: FnMut(usize) -> io::Result<usize>> Read for Says<F> {
     fn read(&mut self, room: &mut [u8]) -> io::Result<usize> {
-        if self.0 == 0 {
-            return Err(io::ErrorKind::TimedOut.into());
-        }
-        self.0 -= 1;
-        room[0] = b'x';
-        Ok(1)
+        (self.0)(room.len())
     }
 }
 
-impl Write for FailsAfter {
+impl<F: FnMut(usize) -> io::Result<usize>> Write for Says<F> {
     fn write(&mut self, shown: &[u8]) -> io::Result<usize> {
-        if self.0 == 0 {
-            return Err(io::ErrorKind::TimedOut.into());
-        }
-        self.0 -= 1;
-        Ok(shown.len().min(2))
+        (self.0)(shown.len())
     }
 
     fn flush(&mut self) -> io::Result<()> {
         Ok(())
     }
+}
+
+/// Moves a byte at a time, and fails after so many.
+fn fails_after(mut moves: usize) -> Says<impl FnMut(usize) -> io::Result<usize>> {
+    Says(move |_| {
+        moves = moves.checked_sub(1).ok_or(io::ErrorKind::TimedOut)?;
+        Ok(1)
+    })
 }
 
 #[test]
 fn an_error_is_returned_and_what_was_moved_stays() {
     let (mut reader, mut writer) = pipe(8);
-    let failed = block_on(poll_fn(|cx| writer.poll_fill(cx, FailsAfter(3)))).unwrap_err();
+    let failed = block_on(poll_fn(|cx| writer.poll_fill(cx, fails_after(3)))).unwrap_err();
     assert_eq!(failed.kind(), io::ErrorKind::TimedOut);
     assert_eq!(reader.len(), 3);
     panics(|| writer.produced(1));
-    let failed = block_on(poll_fn(|cx| reader.poll_drain(cx, FailsAfter(1)))).unwrap_err();
+    let failed = block_on(poll_fn(|cx| reader.poll_drain(cx, fails_after(2)))).unwrap_err();
     assert_eq!(failed.kind(), io::ErrorKind::TimedOut);
     assert_eq!(reader.len(), 1);
 }
 
-/// Claims more bytes than it was handed.
-struct Lies;
-
-impl Read for Lies {
-    fn read(&mut self, room: &mut [u8]) -> io::Result<usize> {
-        Ok(room.len() + 1)
-    }
-}
-
-impl Write for Lies {
-    fn write(&mut self, shown: &[u8]) -> io::Result<usize> {
-        Ok(shown.len() + 1)
-    }
-
-    fn flush(&mut self) -> io::Result<()> {
-        Ok(())
-    }
-}
-
 #[test]
-fn a_lie_moves_nothing() {
+fn a_claim_of_too_many_bytes_moves_none() {
+    let lies = |length| Ok(length + 1);
     let (mut reader, mut writer) = pipe(8);
-    panics(|| block_on(poll_fn(|cx| writer.poll_fill(cx, Lies))));
+    panics(|| block_on(poll_fn(|cx| writer.poll_fill(cx, Says(lies)))));
     assert_eq!(writer.len(), 0);
     writer.try_fill(b"abc");
-    panics(|| block_on(poll_fn(|cx| reader.poll_drain(cx, Lies))));
+    panics(|| block_on(poll_fn(|cx| reader.poll_drain(cx, Says(lies)))));
     assert_eq!(reader.len(), 3);
 }
 
@@ -88,55 +69,31 @@ fn a_copy_goes_on_as_long_as_something_is_known() {
     assert!(all == bytes);
 }
 
-/// Notes the longest slice that it was handed, and uses it up.
-struct Notes(usize);
-
-impl Read for Notes {
-    fn read(&mut self, room: &mut [u8]) -> io::Result<usize> {
-        self.0 = self.0.max(room.len());
-        Ok(room.len())
-    }
-}
-
-impl Write for Notes {
-    fn write(&mut self, shown: &[u8]) -> io::Result<usize> {
-        self.0 = self.0.max(shown.len());
-        Ok(shown.len())
-    }
-
-    fn flush(&mut self) -> io::Result<()> {
-        Ok(())
-    }
-}
-
 #[test]
 fn a_copy_wakes_the_other_side_after_131_072_bytes_at_most() {
     let (mut reader, mut writer) = pipe(1_000_000);
-    let mut notes = Notes(0);
-    let wrote = block_on(poll_fn(|cx| writer.poll_fill(cx, &mut notes))).unwrap();
-    assert_eq!((wrote, notes.0), (1_000_000, 131_072));
-    let mut notes = Notes(0);
-    let read = block_on(poll_fn(|cx| reader.poll_drain(cx, &mut notes))).unwrap();
-    assert_eq!((read, notes.0), (1_000_000, 131_072));
-}
-
-/// Drops the reader of the pipe that it is read into, and counts the reads.
-struct DropsReader(Option<Reader>, usize);
-
-impl Read for DropsReader {
-    fn read(&mut self, room: &mut [u8]) -> io::Result<usize> {
-        self.0 = None;
-        self.1 += 1;
-        Ok(room.len().min(3))
-    }
+    let longest = |of: &mut usize, length: usize| {
+        *of = length.max(*of);
+        Ok(length)
+    };
+    let (mut room, mut shown) = (0, 0);
+    let wrote = block_on(poll_fn(|cx| writer.poll_fill(cx, Says(|length| longest(&mut room, length))))).unwrap();
+    let read = block_on(poll_fn(|cx| reader.poll_drain(cx, Says(|length| longest(&mut shown, length))))).unwrap();
+    assert_eq!((wrote, room), (1_000_000, 131_072));
+    assert_eq!((read, shown), (1_000_000, 131_072));
 }
 
 #[test]
 fn a_copy_ends_with_the_read_in_which_the_reader_goes() {
     let (reader, mut writer) = pipe(8);
-    let mut source = DropsReader(Some(reader), 0);
+    let (mut reader, mut reads) = (Some(reader), 0);
+    let mut source = Says(|length: usize| {
+        reader = None;
+        reads += 1;
+        Ok(length.min(3))
+    });
     let wrote = block_on(poll_fn(|cx| writer.poll_fill(cx, &mut source))).unwrap();
-    assert_eq!((wrote, source.1), (3, 1));
+    assert_eq!((wrote, reads), (3, 1));
 }
 
 #[test]

@@ -1,69 +1,29 @@
 //! Wakers that panic, at each of their four calls: what a handle counts stays true, and no waker is
 //! lost.
 
+mod common;
+
+use common::{waker_of, with_task, Call, ALIVE, AT_CALL};
+use piper::{pipe, Reader, Writer};
 use std::cell::Cell;
 use std::panic::{catch_unwind, AssertUnwindSafe};
-use std::ptr;
-use std::task::{Context, Poll, RawWaker, RawWakerVTable, Waker};
-
-use piper::{pipe, Reader, Writer};
-
-#[derive(Clone, Copy, Debug, PartialEq)]
-enum Call {
-    Clone,
-    Wake,
-    WakeByRef,
-    Drop,
-}
+use std::task::{Context, Poll};
 
 thread_local! {
     /// The call that panics next, if one is to.
     static PANICS: Cell<Option<Call>> = const { Cell::new(None) };
-    /// How many wakers there are.
-    static ALIVE: Cell<usize> = const { Cell::new(0) };
 }
 
-fn made(call: Call) {
+fn is_called(call: Call) {
     if PANICS.get() == Some(call) {
         PANICS.set(None);
         panic!("a waker panics at {call:?}");
     }
 }
 
-fn count(more: usize, fewer: usize) {
-    ALIVE.set(ALIVE.get() + more - fewer);
-}
-
-static VTABLE: RawWakerVTable = RawWakerVTable::new(
-    |data| {
-        made(Call::Clone);
-        count(1, 0);
-        RawWaker::new(data, &VTABLE)
-    },
-    |_| {
-        count(0, 1);
-        made(Call::Wake);
-    },
-    |_| made(Call::WakeByRef),
-    |_| {
-        count(0, 1);
-        made(Call::Drop);
-    },
-);
-
-fn waker() -> Waker {
-    waker_of(ptr::null())
-}
-
-/// A waker of a task: two of the same task have the same data.
-fn waker_of(task: *const ()) -> Waker {
-    count(1, 0);
-    // SAFETY: the functions have no use for the data.
-    unsafe { Waker::new(task, &VTABLE) }
-}
-
 /// Whether this panics, with wakers that panic at the call.
 fn panics<A>(at: Call, act: impl FnOnce() -> A) -> bool {
+    AT_CALL.set(is_called);
     PANICS.set(Some(at));
     let is_panic = catch_unwind(AssertUnwindSafe(act)).is_err();
     PANICS.set(None);
@@ -71,8 +31,7 @@ fn panics<A>(at: Call, act: impl FnOnce() -> A) -> bool {
 }
 
 fn with<A>(poll: impl FnOnce(&mut Context<'_>) -> A) -> A {
-    let waker = waker();
-    poll(&mut Context::from_waker(&waker))
+    with_task(0, poll)
 }
 
 /// A pipe whose reader waits.
@@ -154,7 +113,7 @@ fn a_poll_that_panics_leaves_no_waker() {
 #[test]
 fn the_drop_of_a_waker_that_comes_back_may_panic() {
     let (mut reader, mut writer) = awaited();
-    let other = waker_of(ptr::dangling());
+    let other = waker_of(1);
     let mut cx = Context::from_waker(&other);
     assert!(panics(Call::Drop, || reader.poll(&mut cx)));
     assert_eq!(ALIVE.get(), 2, "the new waker is left");
@@ -176,14 +135,15 @@ fn a_yield_calls_by_reference() {
 }
 
 #[test]
-fn a_drop_that_panics_drops_its_own_waker() {
-    let (mut reader, mut writer) = full();
-    // The reader's waker is in the pipe once it has taken all.
-    assert_eq!(drained(&mut reader).len(), 8);
-    assert_eq!(with(|cx| reader.poll(cx)), Poll::Pending);
-    assert_eq!(writer.try_fill(b"12345678"), 8);
-    assert_eq!(with(|cx| writer.poll(cx)), Poll::Pending);
-    assert!(panics(Call::Wake, || drop(reader)));
-    assert_eq!(ALIVE.get(), 0);
+fn a_drop_that_panics_has_closed_the_pipe() {
+    let (reader, writer) = full();
+    assert!(panics(Call::Wake, || drop(reader)), "the writer's waker is called");
     assert!(writer.is_closed());
+    let (reader, writer) = awaited();
+    assert!(panics(Call::Wake, || drop(writer)), "the reader's waker is called");
+    assert!(reader.is_closed());
+    let (reader, writer) = awaited();
+    assert!(panics(Call::Drop, || drop(reader)), "its own waker is dropped");
+    assert!(writer.is_closed());
+    assert_eq!(ALIVE.get(), 0);
 }

@@ -27,10 +27,7 @@ struct Play {
 fn unless_yielded<A>(polled: Poll<A>, found: Poll<bool>, wakes: usize) -> Option<Poll<A>> {
     let is_yield = polled.is_pending() && found == Poll::Ready(true);
     assert_eq!(wakes, is_yield as usize, "a copy wakes its own task if it yields");
-    match is_yield {
-        true => None,
-        false => Some(polled),
-    }
+    (!is_yield).then_some(polled)
 }
 
 /// Both are the same bytes.
@@ -71,10 +68,7 @@ impl Play {
     }
 
     fn writer_acts(&mut self, capacity: usize) {
-        let mut writer = match self.writer.take() {
-            Some(writer) => writer,
-            None => return,
-        };
+        let Some(mut writer) = self.writer.take() else { return };
         let length = self.any_length(capacity);
         match self.numbers.below(7) {
             0 => self.try_fill(&mut writer, length),
@@ -160,10 +154,7 @@ impl Play {
     }
 
     fn reader_acts(&mut self, capacity: usize) {
-        let mut reader = match self.reader.take() {
-            Some(reader) => reader,
-            None => return,
-        };
+        let Some(mut reader) = self.reader.take() else { return };
         let length = self.any_length(capacity);
         match self.numbers.below(7) {
             0 => {

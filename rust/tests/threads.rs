@@ -223,14 +223,12 @@ fn both_may_go_at_once() {
                 drop(writer);
                 counter
             });
-            let sleeper = Sleeper::new();
-            let waker = std::task::Waker::noop();
-            if reader.poll(&mut std::task::Context::from_waker(waker)).is_ready() {
+            let counter = Counter::new();
+            if counter.with(|cx| reader.poll(cx)).is_ready() {
                 reader.try_drain(&mut [0; 2]);
             }
             drop(reader);
-            assert_eq!(going.join().unwrap().wakers(), 0);
-            assert_eq!(sleeper.wakers(), 0);
+            assert_eq!((going.join().unwrap().wakers(), counter.wakers()), (0, 0));
         }
     });
 }

@@ -3,14 +3,13 @@
 
 mod common;
 
-use common::{bytes_from, number, Numbers, PERIOD};
+use common::{bytes_from, number, with_task, Call, Numbers, ALIVE, AT_CALL, PERIOD};
 use piper::{pipe, Reader, Writer};
 use std::any::Any;
 use std::cell::{Cell, RefCell};
 use std::io::{self, Read, Write};
 use std::panic::{catch_unwind, set_hook, AssertUnwindSafe};
-use std::ptr;
-use std::task::{Context, Poll, RawWaker, RawWakerVTable, Waker};
+use std::task::{Context, Poll};
 
 thread_local! {
     /// The handles, as long as no call has them.
@@ -19,8 +18,6 @@ thread_local! {
     /// How many bytes were ever published, and how many were taken.
     static PUBLISHED: Cell<usize> = const { Cell::new(0) };
     static TAKEN: Cell<usize> = const { Cell::new(0) };
-    /// How many wakers there are.
-    static ALIVE: Cell<usize> = const { Cell::new(0) };
     /// Whether a call of a waker, a source or a destination is made in one of those: that one does just what it is asked.
     static IS_INSIDE: Cell<bool> = const { Cell::new(false) };
     /// Handles that are forgotten, until the pipe's end.
@@ -78,33 +75,9 @@ fn writer_acts_inside() {
     }
 }
 
-fn count(more: usize, fewer: usize) {
-    ALIVE.set(ALIVE.get() + more - fewer);
-}
-
-static VTABLE: RawWakerVTable = RawWakerVTable::new(
-    |data| {
-        is_called(false);
-        count(1, 0);
-        RawWaker::new(data, &VTABLE)
-    },
-    |_| {
-        count(0, 1);
-        is_called(true);
-    },
-    |_| is_called(true),
-    |_| {
-        count(0, 1);
-        is_called(false);
-    },
-);
-
 /// Polls with the waker of one of three tasks.
 fn with<A>(poll: impl FnOnce(&mut Context<'_>) -> A) -> A {
-    count(1, 0);
-    // SAFETY: the functions have no use for the data.
-    let waker = unsafe { Waker::new(ptr::without_provenance(draw(3)), &VTABLE) };
-    poll(&mut Context::from_waker(&waker))
+    with_task(draw(3), poll)
 }
 
 /// Gives bytes of the stream from a place on. What it writes beside them nobody may see.
@@ -239,6 +212,7 @@ fn play(capacity: usize, calls: usize) {
 #[test]
 fn any_panic_leaves_both_sides_whole() {
     set_hook(Box::new(|_| {}));
+    AT_CALL.set(|call| is_called(matches!(call, Call::Wake | Call::WakeByRef)));
     let pipes = number("PIPER_TEST_CALLS", 1_000_000) / 100;
     for seed in 0..pipes {
         DRAWS.set(Numbers::new(seed));

@@ -1,11 +1,13 @@
-//! What the tests share: a waker that counts, and an end to threads that hang.
+//! What the tests share: wakers that count, or do as a test says, and an end to threads that hang.
 #![allow(dead_code)]
 
+use std::cell::Cell;
 use std::panic::{catch_unwind, AssertUnwindSafe};
+use std::ptr;
 use std::sync::atomic::{AtomicUsize, Ordering};
 use std::sync::mpsc::{channel, RecvTimeoutError};
 use std::sync::Arc;
-use std::task::{Context, Poll, Wake, Waker};
+use std::task::{Context, Poll, RawWaker, RawWakerVTable, Wake, Waker};
 use std::thread::{self, Thread};
 use std::time::Duration;
 
@@ -45,6 +47,62 @@ impl Counter {
         let waker = Waker::from(Arc::clone(&self.0));
         poll(&mut Context::from_waker(&waker))
     }
+
+    /// Polls, and once more after each yield, which wakes the task itself and isn't counted.
+    pub fn poll<A>(&self, mut poll: impl FnMut(&mut Context<'_>) -> Poll<A>) -> Poll<A> {
+        loop {
+            let before = self.wakes();
+            let polled = self.with(&mut poll);
+            if polled.is_ready() || self.wakes() == before {
+                return polled;
+            }
+            self.0 .0.store(before, Ordering::SeqCst);
+        }
+    }
+}
+
+/// A call of a waker.
+#[derive(Clone, Copy, Debug, PartialEq)]
+pub enum Call {
+    Clone,
+    Wake,
+    WakeByRef,
+    Drop,
+}
+
+thread_local! {
+    /// What the wakers of `waker_of` do at a call, and how many there are.
+    pub static AT_CALL: Cell<fn(Call)> = const { Cell::new(|_| {}) };
+    pub static ALIVE: Cell<usize> = const { Cell::new(0) };
+}
+
+static VTABLE: RawWakerVTable = RawWakerVTable::new(
+    |task| {
+        AT_CALL.get()(Call::Clone);
+        ALIVE.set(ALIVE.get() + 1);
+        RawWaker::new(task, &VTABLE)
+    },
+    |_| {
+        ALIVE.set(ALIVE.get() - 1);
+        AT_CALL.get()(Call::Wake);
+    },
+    |_| AT_CALL.get()(Call::WakeByRef),
+    |_| {
+        ALIVE.set(ALIVE.get() - 1);
+        AT_CALL.get()(Call::Drop);
+    },
+);
+
+/// A waker of the task of that number.
+pub fn waker_of(task: usize) -> Waker {
+    ALIVE.set(ALIVE.get() + 1);
+    // SAFETY: the functions have no use for the data.
+    unsafe { Waker::new(ptr::without_provenance(task), &VTABLE) }
+}
+
+/// Polls with such a waker.
+pub fn with_task<A>(task: usize, poll: impl FnOnce(&mut Context<'_>) -> A) -> A {
+    poll(&mut Context::from_waker(&waker_of(task)))
 }
 
 /// A thread that sleeps while a poll is pending, until its waker is called.
