@@ -67,7 +67,7 @@ pub record ReaderPolled {E : Type 0} (r : Poll (Result Bool E))
   pub looked : ReaderLooked a.side.end b.side.end
   pub leaves : IfReadyOk r (λ some. some ≡ true → ReaderLeavesNone b)
   pub emptied : IfReadyOk r (λ some. some ≡ true →
-    EmptiesOwn true a.side.slots b.side.slots b.side.log)
+      EmptiesOwn true a.side.slots b.side.slots b.side.log)
   pub end : PollsEnd r a b
   pub pending : OnPending r (ReaderPends a b old left)
   pub memory : OnRefused r (ReaderIsRefused b old left)
@@ -80,7 +80,7 @@ pub record PollsPiece (r : Poll (Result (Bor (List ℕ)) PipeError)) (a b : Read
   pub looked : ReaderLooked a.side.end b.side.end
   pub leaves : IfReadyOk r (λ lent. 0 < length lent.now → ReaderLeavesNone b)
   pub emptied : IfReadyOk r (λ lent. 0 < length lent.now →
-    EmptiesOwn true a.side.slots b.side.slots b.side.log)
+      EmptiesOwn true a.side.slots b.side.slots b.side.log)
   pub pending : OnPending r (ReaderPends a b old left)
   pub memory : OnRefused r (ReaderIsRefused b old left)
   pub all : KeepsAll a.side.end b.side.end

@@ -69,7 +69,7 @@ pub record WriterPolled {E : Type 0} (r : Poll (Result Bool E))
   pub looked : WriterLooked a.side.end b.side.end
   pub leaves : IfReadyOk r (λ some. some ≡ true → WriterLeavesNone b)
   pub emptied : IfReadyOk r (λ some. some ≡ true →
-    EmptiesOwn false a.side.slots b.side.slots b.side.log)
+      EmptiesOwn false a.side.slots b.side.slots b.side.log)
   pub pending : OnPending r (WriterPends a b old left)
   pub memory : OnRefused r (WriterIsRefused b old left)
   pub context : Keeps old left

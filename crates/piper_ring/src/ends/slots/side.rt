@@ -146,7 +146,8 @@ impl<E: SlotEnd, T> Side<E, T> {
             self.old.slots.waits self.old.slots.tickets result }
     {
         let waker = self.take_back();
-        self.log.tell(Action::Take(side_of(E::READS)), Found::Nothing);
+        self.log
+            .tell(Action::Take(side_of(E::READS)), Found::Nothing);
         waker
     }
 
@@ -169,7 +170,10 @@ impl<E: SlotEnd, T> Side<E, T> {
             return None;
         }
         let waker = self.take_back();
-        self.log.tell(Action::Take(side_of(E::READS)), Found::Waker(waker.is_some()));
+        self.log.tell(
+            Action::Take(side_of(E::READS)),
+            Found::Waker(waker.is_some()),
+        );
         waker
     }
 
@@ -297,7 +301,10 @@ impl<E: SlotEnd, T> Side<E, T> {
             slot,
         );
         let waker = parts.own.take_out(self.cells.get(self.end.lease()), found);
-        self.log.tell(Action::Take(side_of(!E::READS)), Found::Waker(waker.is_some()));
+        self.log.tell(
+            Action::Take(side_of(!E::READS)),
+            Found::Waker(waker.is_some()),
+        );
         waker
     }
 

@@ -95,7 +95,8 @@ impl<T> Side<WriteEnd, T> {
         self.end
             .load_head_knowing(&self.slots.parts.heard.count, &mut self.log);
         let none = self.end.knows_none();
-        self.log.tell(Action::LoadIndex, Found::IndexLoaded { none });
+        self.log
+            .tell(Action::LoadIndex, Found::IndexLoaded { none });
         none
     }
 
@@ -180,7 +181,8 @@ impl<T> Side<WriteEnd, T> {
             self.old.slots (told Found.Nothing (did stored_closed self.old.log)) } */
     {
         self.end.store_closed(&mut self.log);
-        self.log.tell(Action::StoreClosed { is_shut: true }, Found::Nothing);
+        self.log
+            .tell(Action::StoreClosed { is_shut: true }, Found::Nothing);
     }
 
     /// `finish` of its end, and `take` after its close. With it comes what was left in the slots, if
@@ -217,7 +219,10 @@ impl<T> Side<WriteEnd, T> {
             READER_SLOT,
         );
         let taken = parts.own.take_out(cells.get(&leaving.lease), found);
-        log.tell(Action::Take(table::Side::Reader), Found::Waker(taken.is_some()));
+        log.tell(
+            Action::Take(table::Side::Reader),
+            Found::Waker(taken.is_some()),
+        );
         let left = leaving.leave(Some(&cells));
         let side = FinishedWriter { mark, slots, log };
         Finished { side, taken, left }
