@@ -387,6 +387,11 @@ if command -v strace > /dev/null; then
     try_silent 'files that are not waited for' 10 0 'strace -f -o calls -e trace=fsync $pump -i src -o synced6 && ! grep -q fsync calls'
 fi
 
+# With each descriptor in use: none more is wanted at the end.
+try_silent 'no descriptor to spare' 10 0 '(ulimit -n 5; exec $pump -i src -o spare1) && cmp src spare1'
+try 'too few descriptors' 10 4 '^piper_pump: spare2: Too many open files' '(ulimit -n 5; exec $pump -i src --tee spare2 > spare3)'
+note 'nothing was written' test ! -e spare2 -a ! -s spare3
+
 # Memory.
 cat > held.py <<'PYTHON'
 import os, resource, subprocess, sys

@@ -49,7 +49,11 @@ where
     let way = arguments.way();
     let drain = match named(arguments.texts.output) {
         Some(name) => Target::File(look_at_sink(rt, name, way)?),
-        None => Target::Standard(stdout),
+        None => Target::standard(stdout).map_err(|error| Ended::no_output(
+            alloc,
+            Stream::Output.said(),
+            error,
+        ))?,
     };
     let mut tees = Vec::new(alloc);
     for name in arguments.tees.as_slice() {
@@ -134,7 +138,7 @@ fn refuse_shared<R: Files + AllocGlobal>(
         add(&mut known, Stream::Error.said(), id_of_reports(rt))?;
     }
     let (name, id) = match drain {
-        Target::Standard(_) => (Stream::Output.said(), look_at_stream(rt, Stream::Output).id),
+        Target::Standard(_, _) => (Stream::Output.said(), look_at_stream(rt, Stream::Output).id),
         Target::File(sink) => (sink.name.as_str(), sink.id()),
     };
     if id == Some(FileId::Untold) && id == input.id && tees.is_empty() {

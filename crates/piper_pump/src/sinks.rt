@@ -6,7 +6,7 @@ use std::alloc::Global;
 use std::fs::{self, File, Files, OpenOptions};
 use std::io;
 use std::io::{ErrorKind, IsTerminal, Stdout, Write};
-use std::os::fd::AsFd;
+use std::os::fd::{AsFd, OwnedFd};
 use std_io::io::last_error;
 
 /// What is said of a file that holds bytes, if such files are not taken.
@@ -183,15 +183,22 @@ impl Sink {
 /// Where bytes go.
 #[derive(Drop)]
 pub enum Target {
-    Standard(Stdout),
+    /// With another descriptor of it, which is closed at the end.
+    Standard(Stdout, Option<OwnedFd>),
     File(Sink),
 }
 
 impl Target {
+    /// Standard output.
+    pub fn standard(stdout: Stdout) -> io::Result<Target> {
+        let other = stdout.as_fd().try_clone_to_owned()?;
+        Ok(Target::Standard(stdout, Some(other)))
+    }
+
     /// What it is called: `-` is the standard stream.
     pub fn name(&self) -> &str {
         match self {
-            Target::Standard(_) => "-",
+            Target::Standard(_, _) => "-",
             Target::File(sink) => sink.name.as_str(),
         }
     }
@@ -204,7 +211,7 @@ fn not_open() -> io::Error {
 impl Destination for Target {
     fn write(&mut self, buf: &[u8]) -> io::Result<usize> {
         match self {
-            Target::Standard(standard) => standard.write(buf),
+            Target::Standard(standard, _) => standard.write(buf),
             Target::File(sink) => match &mut sink.file {
                 Some(file) => file.write(buf),
                 None => Err(not_open()),
@@ -214,33 +221,32 @@ impl Destination for Target {
 
     fn flush(&mut self) -> io::Result<()> {
         match self {
-            Target::Standard(standard) => {
+            Target::Standard(standard, other) => {
                 standard.flush()?;
-                try_close(standard)
+                close(other)
             }
-            Target::File(sink) => match &sink.file {
-                Some(file) => {
-                    if sink.way.syncs {
-                        file.sync_all()?;
-                    }
-                    try_close(file)
+            Target::File(sink) => {
+                if let (true, Some(file)) = (sink.way.syncs, &sink.file) {
+                    file.sync_all()?;
                 }
-                None => Err(not_open()),
-            },
+                close(&mut sink.file)
+            }
         }
     }
 }
 
-// Closes another number of an open file, and tells how that went: some systems say only then that they
-// could not keep what was written. std drops the answer, but the system keeps the number of its last
-// error. The look for a terminal leaves one there that no close has.
-fn try_close(file: &impl AsFd) -> io::Result<()> {
-    let other = file.as_fd().try_clone_to_owned()?;
-    if other.is_terminal() {
+// Closes what is open, and tells how that went: some systems say only then that they could not keep what
+// was written. std drops the answer, but the system keeps the number of its last error. The look for a
+// terminal leaves one there that no close has.
+fn close<F: IsTerminal + Drop>(open: &mut Option<F>) -> io::Result<()> {
+    let Some(file) = open.take() else {
+        return Err(not_open());
+    };
+    if file.is_terminal() {
         return Ok(());
     }
     let before = last_error();
-    other.drop();
+    file.drop();
     let after = last_error();
     if after.raw_os_error() == before.raw_os_error() {
         return Ok(());
