@@ -1,11 +1,11 @@
 #!/usr/bin/env bash
 # Counts the instructions that the built benchmark makes for a piece of 64 bytes, by valgrind (a Debian package).
 #
-#     bench/count_instructions.sh [PROGRAM]
+#     bench/count_instructions.sh PROGRAM
 #
-# If PROGRAM is left out, `rt run` first builds crates/piper_bench/out/piper_bench, which takes minutes where something below
-# it changed. The file instructions.txt has a line for each means: its word, and the count that was stored. It prints a line
-# for each. The status is 1 where a count is more than 3% above what is stored, and 2 where one can't be made.
+# PROGRAM is what bench/build.sh built. The file instructions.txt has a line for each means: its word, and the count that was
+# stored. It prints a line for each. The status is 1 where a count is more than 3% above what is stored, and 2 where one can't be
+# made.
 set -euo pipefail
 here=$(cd "$(dirname "$0")" && pwd)
 least=128000
@@ -24,13 +24,8 @@ instructions() { # MEANS TOTAL
 }
 
 command -v valgrind > /dev/null || refuse 'valgrind is missing, which counts the instructions: install its package'
-if [ $# -eq 0 ]; then
-    program=$here/../crates/piper_bench/out/piper_bench
-    (cd "$here/../crates/piper_bench" && rt run -- ring 64 64 64 < /dev/null >&2) || refuse 'the benchmark was not built'
-else
-    program=$1
-fi
-[ -x "$program" ] || refuse "there is no program $program"
+program=${1:-}
+[ -x "$program" ] || refuse "there is no program '$program'"
 
 above=0
 while read -r means stored; do

@@ -1,15 +1,15 @@
 #!/usr/bin/env bash
 # Times means of the built benchmark in turn, so that what else the machine does meets all of them alike.
 #
-#     bench/in_turn.sh ROUNDS TOTAL CAP CHUNK [PROGRAM:]WHAT..
+#     bench/in_turn.sh PROGRAM ROUNDS TOTAL CAP CHUNK [PROGRAM:]WHAT..
 #
-# PROGRAM is crates/piper_bench/out/piper_bench if it is left out, and WHAT one of its words: so two builds can be compared,
-# too. TASKSET may hold a list of cores, as 2,3. It prints a line for each: the median of nanoseconds a piece, and the median and
-# the quartiles of the ratio to the first of the same round. The status is 1 if the checksums differ.
+# PROGRAM is what bench/build.sh built, and WHAT one of its words: so two builds can be compared, too. TASKSET may hold a list of
+# cores, as 2,3. It prints a line for each: the median of nanoseconds a piece, and the median and the quartiles of the ratio to
+# the first of the same round. The status is 1 if the checksums differ.
 set -eu
-here=$(cd "$(dirname "$0")" && pwd)
-[ $# -ge 5 ] || { sed -n '4p' "$0" | cut -c3- >&2; exit 2; }
-export PROGRAM=$here/../crates/piper_bench/out/piper_bench
+[ $# -ge 6 ] || { sed -n '4p' "$0" | cut -c3- >&2; exit 2; }
+export PROGRAM=$1
+shift
 python3 - "$@" <<'PYTHON'
 import os, re, statistics, subprocess, sys
 

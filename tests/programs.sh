@@ -11,7 +11,7 @@ here=$(cd "$(dirname "$0")" && pwd)
 . "$here/trying.bash"
 room=$(mktemp -d)
 trap 'rm -rf "$room"' EXIT
-programs='piper_pump piper_stress piper_bench piper_compare duplex_echo example_order'
+programs='piper_pump piper_stress piper_compare duplex_echo example_order'
 for program in $programs piper_replay; do
     cp "${1:-$here/../crates/$program/out}/$program" "$room/" || exit 2
     chmod 755 "$room/$program"
@@ -219,7 +219,7 @@ for program in $programs; do
     try_silent "the version of $program" 10 0 "./$program --version"
     note "the version of $program, in one line" grep -qx "$program [0-9.]*" out
     refused=2
-    case $program in duplex_echo | piper_bench) refused=1 ;; esac
+    [ $program != duplex_echo ] || refused=1
     try "an unknown word, to $program" 10 $refused '' "./$program --speed"
     note "an unknown word, to $program: nothing is printed" test ! -s out
 done
@@ -233,8 +233,6 @@ try 'a hunt' 20 0 'games' './piper_stress 1 1 100'
 try 'a hunt to a full output' 20 3 'standard output: No space left' './piper_stress 1 1 3 > /dev/full'
 try 'a hunt to a closed output' 20 3 'standard output: Bad file' './piper_stress 1 1 3 >&-'
 try 'a hunt without a thread' 20 4 'no thread is granted' '$alone prlimit --nproc=1 ./piper_stress 1 1 3'
-try 'a bench to a full output' 20 2 '^piper_bench: No space left' './piper_bench ring 64 16 1000 > /dev/full'
-try 'a bench without a thread' 20 2 'no thread is granted' '$alone prlimit --nproc=1 ./piper_bench ring2 64 16 1000'
 try 'a word that is no text, to a comparison' 10 2 '^usage' './piper_compare $'"'\\xff'"
 try 'a word that is no text, to a replay' 10 1 '^usage' './piper_replay $'"'\\xff'"
 export steps='pipe 2\nbegin lend 2\ngo w\n' both='pipe 4\nfill 1\nbegin len r\nbegin len w\n'
