@@ -3,10 +3,7 @@ use Rattle.std.proofs.Common.{◌≡◌, ◌∙◌, refl, sym, ap, subst, ℕ, B
 use Rattle.std.specs.Io.KnownBytes.{Consumes}
 use Rattle.std.proofs.KnownBytes.{Consumes-trans}
 use Rattle.futures.specs.declared.task.context.Context.{Context}
-use Rattle.piper.specs.WriteView.{WriteView}
-use Rattle.piper.specs.WriterCalls.{SameWriterButMoved}
 use Rattle.piper.specs.declared.error.PipeError.{PipeError}
-use Rattle.piper.specs.declared.handles.Writer.{Writer}
 use Rattle.piper.specs.declared.io.copy.Copied.{Copied}
 use Rattle.piper_futures.specs.Filling.{FillsOn, FilledAll}
 use Rattle.piper_futures.specs.declared.failed.Failed.{Failed}
@@ -49,16 +46,3 @@ module _ {W S : Type 0} (sent : W → List ℕ) (saw : W → Bool) (woken : W �
       (fills_then (remaining s0) (remaining s1) (remaining done.1) (sent w0) (sent w1) (sent done.0) (saw w0) (saw w1) (saw done.0) first gave.0, gave.1, λ before. gave.2 (stays before))
   filled_then w0 w1 s0 s1 first stays (Err failed) gave =
       (fills_then (remaining s0) (remaining s1) (remaining failed.left.1) (sent w0) (sent w1) (sent failed.left.0) (saw w0) (saw w1) (saw failed.left.0) first gave.0, gave.1, λ before. gave.2 (stays before))
-
--- the same writer after one call and another
-pub same_then : (a b c : Writer) → SameWriterButMoved a b → SameWriterButMoved b c → SameWriterButMoved a c
-same_then a b c first second =
-    record {
-      cells = second.cells ∙ first.cells;
-      source = second.source ∙ first.source;
-      end =
-          record {
-            saw = λ seen. second.end.saw (first.end.saw seen);
-            rest = second.end.rest ∙ ap (λ (v : WriteView). record v { sent = c.side.end.sent; room = c.side.end.room; lent = []; saw = c.side.end.saw }) first.end.rest;
-          };
-    }

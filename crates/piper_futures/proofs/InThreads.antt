@@ -1,6 +1,5 @@
 -- What a fill or a drain gives is what its thread gives.
-use Rattle.std.proofs.Common.{◌≡◌, ◌∙◌, ◌⊎◌, ⊎_elim, inl, inr, sym, ap, subst, true, ℕ, Bool, List, length, Option, Some, Result, Ok, Err}
-use Rattle.std.specs.Prelude.{IfErr, IfOk, IsSomeAnd}
+use Rattle.std.proofs.Common.{◌≡◌, ◌∙◌, ◌⊎◌, ⊎_elim, inl, inr, sym, ap, subst, true, ℕ, Bool, List, length, Option, Some, Result, Ok, Err, IfErr, IsSomeAnd}
 use Rattle.futures.specs.declared.task.context.Context.{Context}
 use Rattle.piper.specs.declared.error.PipeError.{PipeError}
 use Rattle.piper.specs.declared.io.copy.Copied.{Copied}
@@ -15,10 +14,6 @@ use Rattle.piper_futures.specs.Threads.{FilledTo, DrainedTo, HadSeen, HasFailedW
 use Rattle.piper_futures.specs.declared.failed.Failed.{Failed}
 use Rattle.piper_futures.specs.declared.threads.Drained.{Drained}
 use Rattle.piper_futures.specs.declared.threads.Filled.{Filled}
-
--- what holds of a result holds where it is handed on
-pub handed_on : {T E : Type 0} (P : T → Type 0) (x : T) (returned : Result T E) → Ok x ≡ returned → IfOk returned P → P x
-handed_on P x returned same holds = subst (λ r. IfOk r P) (sym same) holds
 
 -- so is an error that a future gave
 pub failed_on : {F T L : Type 0} (future : F) (output : Result T (Failed L)) (failed : Failed L) → output ≡ Err failed

@@ -9,7 +9,7 @@ use Rattle.piper_lines.specs.Frame.{IsInsideFrame}
 use Rattle.piper_lines.specs.Moves.{Moves, PassesMoves}
 use Rattle.piper_lines.specs.Refusals.{IsReported}
 use Rattle.piper_lines.proofs.Moving.{moves_then}
-use Rattle.piper_futures.specs.PieceRuns.{Item, item_bytes, joined_items, last_bytes, Follow, PieceRuns}
+use Rattle.piper_futures.specs.PieceRuns.{Item, item_bytes, joined_items, last_bytes, PieceRuns}
 use Rattle.piper_futures.specs.Told.{IsOfReader}
 
 -- the error of this poll is the reader's own, or memory was refused

@@ -1,10 +1,10 @@
 -- What is written in two polls is written in order.
-use Rattle.std.proofs.Common.{◌∙◌, ℕ, Bool, List, drop, Result, Ok, Err}
+use Rattle.std.proofs.Common.{ℕ, Bool, List, drop, Result, Ok, Err}
 use Rattle.futures.specs.declared.task.context.Context.{Context}
 use Rattle.piper.specs.declared.error.PipeError.{PipeError}
 use Rattle.piper_lines.proofs.Sending.{sends_then}
 use Rattle.piper_lines.proofs.Staying.{writer_stays}
-use Rattle.piper_futures.specs.Writing.{WritesOn, WroteAll, Idles, ComesBack, WroteAndClosed}
+use Rattle.piper_futures.specs.Writing.{WritesOn, WroteAll, WroteAndClosed}
 use Rattle.piper_futures.specs.declared.failed.Failed.{Failed}
 
 module _ {W : Type 0} (sent : W → List ℕ) (saw : W → Bool) (woken : W → Type 0) where
@@ -22,14 +22,6 @@ module _ {W : Type 0} (sent : W → List ℕ) (saw : W → Bool) (woken : W → 
   wrote_then fails bytes w0 w1 n0 n1 first (Ok done) gave = (writes_then bytes w0 w1 done.0 n0 n1 done.1 first gave.0, gave.1)
   wrote_then fails bytes w0 w1 n0 n1 first (Err failed) gave =
       (writes_then bytes w0 w1 failed.left.0 n0 n1 failed.left.1 first gave.0, gave.1)
-
-  idles_then : (w0 w1 w2 : W) → Idles sent saw woken w0 w1 → Idles sent saw woken w1 w2 → Idles sent saw woken w0 w2
-  idles_then w0 w1 w2 first second = (second.0 ∙ first.0, writer_stays saw woken w0 w1 w2 first.1 second.1)
-
-  pub comes_back_then : (fails : W → Context → PipeError → Type 0) (P : W → Type 0) (w0 w1 : W) → Idles sent saw woken w0 w1
-      → (output : Result W (Failed W)) → ComesBack sent saw woken fails P w1 output → ComesBack sent saw woken fails P w0 output
-  comes_back_then fails P w0 w1 first (Ok done) gave = (idles_then w0 w1 done first gave.0, gave.1)
-  comes_back_then fails P w0 w1 first (Err failed) gave = (idles_then w0 w1 failed.left first gave.0, gave.1)
 
   -- the same of a writer that is closed then
   pub wrote_and_closed_then : (fails : W → Context → PipeError → Type 0) (flushed : W → Type 0) (bytes : List ℕ) (w0 w1 : W) (n0 n1 : ℕ) → WritesOn sent saw woken bytes w0 n0 w1 n1

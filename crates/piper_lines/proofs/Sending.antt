@@ -1,5 +1,5 @@
 -- Bytes that are sent piece by piece.
-use Rattle.std.proofs.Common.{◌≡◌, ℕ, ◌<◌, ◌≤◌, Bool, true, false, List, [], ◌++◌, take, drop, length, refl, sym, ap, ◌∙◌, append-nil, append_assoc, take-append-drop, take-take, length-take, length-append, length-drop, subst, arith}
+use Rattle.std.proofs.Common.{◌≡◌, ℕ, ◌≤◌, Bool, true, false, List, [], ◌++◌, take, drop, length, refl, sym, ap, ◌∙◌, append-nil, append_assoc, take-append-drop, take-take, length-take, length-append, subst, arith}
 use Rattle.std.proofs.lemmas.List.{drop_all, nil_from_length}
 use Rattle.piper_lines.specs.Sends.{Sends}
 
@@ -79,10 +79,3 @@ sends_both front0 front1 back0 back1 s0 s1 s2 saw0 saw1 saw2 first whole second 
     let later : Sends (front1 ++ back0) (front1 ++ back1) s1 s2 saw1 saw2 = subst (λ ws. Sends (ws ++ back0) (ws ++ back1) s1 s2 saw1 saw2) (sym whole) second in
     sends_then (front0 ++ back0) (front1 ++ back0) (front1 ++ back1) s0 s1 s2 saw0 saw1 saw2
     (sends_front front0 front1 back0 s0 s1 saw0 saw1 first) later stays0 stays1
-
--- some is left of two slices where some is left of either
-pub some_left_of_front : (m n : ℕ) (front back : List ℕ) → m < length front → 0 < length (drop m front ++ drop n back)
-some_left_of_front m n front back some = omega (arith, some, length-append (drop m front) (drop n back), length-drop m front)
-
-pub some_left_of_back : (m n : ℕ) (front back : List ℕ) → n < length back → 0 < length (drop m front ++ drop n back)
-some_left_of_back m n front back some = omega (arith, some, length-append (drop m front) (drop n back), length-drop n back)

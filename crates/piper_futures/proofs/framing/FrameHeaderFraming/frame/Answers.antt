@@ -1,5 +1,4 @@
-use Rattle.std.proofs.Common.{rules, ◌≡◌, ◌∙◌, ◌++◌, length, sym, ap}
-use Rattle.std.specs.Prelude.{vec_len}
+use Rattle.std.proofs.Common.{rules, ◌≡◌, ◌∙◌, ◌++◌, length, sym, ap, vec_len}
 use Rattle.piper_lines.specs.Header.{length_bytes}
 use Rattle.piper_futures.proofs.PiecesSent.{turned}
 use Rattle.piper_futures.proofs.framing.FrameHeaderFraming.frame.Goals as goal
