@@ -160,42 +160,28 @@ fn a_destination_that_drops_the_writer_gets_all_bytes(rt: HostRuntime) {
 }
 
 /// Each round of a fill wakes the reader, before the source is called again.
-fn sees_the_reader_woken<H>(rt: &H)
-where
-    H: Abort + RandomSource + AllocGlobal,
-{
-    let (mut reader, mut writer) = owned_at_last(rt, 8);
-    let (reading, writing) = (task_at_last(rt), task_at_last(rt));
-    let found = reading.enter(|cx| reader.get_mut().poll(cx));
-    same(rt, &"pending", granted(rt, found), None);
-    let mut source = Steps::new(Asks::new(&reading), 3);
-    let moved = writing.enter(|cx| writer.get_mut().poll_fill(cx, &mut source));
-    same(rt, &"fill", copied(moved), Moved::Done(3));
-    same(rt, &"woken", source.between.woken_at, Some(2));
-}
-
 #[test]
 fn a_source_sees_the_reader_woken_at_its_second_call(rt: HostRuntime) {
-    sees_the_reader_woken(&rt);
+    let (mut reader, mut writer) = owned_at_last(&rt, 8);
+    let (reading, writing) = (task_at_last(&rt), task_at_last(&rt));
+    let found = reading.enter(|cx| reader.get_mut().poll(cx));
+    same(&rt, &"pending", granted(&rt, found), None);
+    let mut source = Steps::new(Asks::new(&reading), 3);
+    let moved = writing.enter(|cx| writer.get_mut().poll_fill(cx, &mut source));
+    same(&rt, &"fill", copied(moved), Moved::Done(3));
+    same(&rt, &"woken", source.between.woken_at, Some(2));
 }
 
 /// Each round of a drain wakes the writer, before the destination is called again.
-fn sees_the_writer_woken<H>(rt: &H)
-where
-    H: Abort + RandomSource + AllocGlobal,
-{
-    let (mut reader, mut writer) = owned_at_last(rt, 4);
-    let (reading, writing) = (task_at_last(rt), task_at_last(rt));
-    same(rt, &"sent", writer.try_fill(b"abcd"), 4);
-    let found = writing.enter(|cx| writer.get_mut().poll(cx));
-    same(rt, &"pending", granted(rt, found), None);
-    let mut dest = Steps::new(Asks::new(&writing), 3);
-    let moved = reading.enter(|cx| reader.get_mut().poll_drain(cx, &mut dest));
-    same(rt, &"drain", copied(moved), Moved::Done(3));
-    same(rt, &"woken", dest.between.woken_at, Some(2));
-}
-
 #[test]
 fn a_destination_sees_the_writer_woken_at_its_second_call(rt: HostRuntime) {
-    sees_the_writer_woken(&rt);
+    let (mut reader, mut writer) = owned_at_last(&rt, 4);
+    let (reading, writing) = (task_at_last(&rt), task_at_last(&rt));
+    same(&rt, &"sent", writer.try_fill(b"abcd"), 4);
+    let found = writing.enter(|cx| writer.get_mut().poll(cx));
+    same(&rt, &"pending", granted(&rt, found), None);
+    let mut dest = Steps::new(Asks::new(&writing), 3);
+    let moved = reading.enter(|cx| reader.get_mut().poll_drain(cx, &mut dest));
+    same(&rt, &"drain", copied(moved), Moved::Done(3));
+    same(&rt, &"woken", dest.between.woken_at, Some(2));
 }

@@ -171,20 +171,13 @@ where
     carries(rt, 8, (read, write), false, &polls);
 }
 
-fn ends_at_the_first_error<R>(rt: &R)
-where
-    R: Abort + RandomSource + AllocGlobal,
-{
-    for k in 1..9usize {
-        fails_at(rt, k, k + 1, ErrorKind::TimedOut, k - 1);
-        fails_at(rt, k, k, ErrorKind::TimedOut, k - 1);
-        fails_at(rt, k + 1, k, ErrorKind::WriteZero, k - 1);
-    }
-}
-
 #[test]
 fn a_copy_ends_at_the_first_error(rt: HostRuntime) {
-    ends_at_the_first_error(&rt);
+    for k in 1..9usize {
+        fails_at(&rt, k, k + 1, ErrorKind::TimedOut, k - 1);
+        fails_at(&rt, k, k, ErrorKind::TimedOut, k - 1);
+        fails_at(&rt, k + 1, k, ErrorKind::WriteZero, k - 1);
+    }
 }
 
 #[test]

@@ -218,23 +218,16 @@ fn an_error_of_each_kind_is_reported_as_it_is(rt: HostRuntime) {
 }
 
 /// Both copies call the ends on slices as long as they can be.
-fn moves_whole_slices<H>(rt: &H)
-where
-    H: Abort + Wait + RandomSource + AllocGlobal,
-{
-    let mut pair = Pair::new(rt, 200_000);
-    let (mut source, mut dest) = (End::willing(), End::willing());
-    let (want, moved) = (Moved::Done(200_000), 200_000);
-    copies(rt, &mut pair, Through::Fill, &mut source, want, moved);
-    let lens = [4_096, 12_288, 36_864, 110_592, 36_160, 0].as_slice();
-    same(rt, &"in", source.lens(), lens);
-    copies(rt, &mut pair, Through::Drain, &mut dest, want, moved);
-    same(rt, &"out", dest.lens(), [131_072, 68_928, 0].as_slice());
-}
-
 #[test]
 fn a_copy_moves_whole_slices(rt: HostRuntime) {
-    moves_whole_slices(&rt);
+    let mut pair = Pair::new(&rt, 200_000);
+    let (mut source, mut dest) = (End::willing(), End::willing());
+    let (want, moved) = (Moved::Done(200_000), 200_000);
+    copies(&rt, &mut pair, Through::Fill, &mut source, want, moved);
+    let lens = [4_096, 12_288, 36_864, 110_592, 36_160, 0].as_slice();
+    same(&rt, &"in", source.lens(), lens);
+    copies(&rt, &mut pair, Through::Drain, &mut dest, want, moved);
+    same(&rt, &"out", dest.lens(), [131_072, 68_928, 0].as_slice());
 }
 
 #[test]

@@ -5,7 +5,6 @@ use crate::compare::same_of as same;
 use crate::pair::{granted, pipe_at_last, task_at_last};
 use std::alloc::AllocGlobal;
 use std::process::Abort;
-use std::random::RandomSource;
 use std::sync::Wait;
 
 /// The reader knows of one of its three bytes, and the writer of one of its five places, unless
@@ -41,22 +40,15 @@ fn without_a_meeting_the_writer_takes_one_byte(rt: HostRuntime) {
 }
 
 /// A poll after an observed mark finds the bytes that were published before it.
-fn finds_what_was_marked<H>(rt: &H)
-where
-    H: Abort + Wait + RandomSource + AllocGlobal,
-{
-    let task = task_at_last(rt);
-    let (mut reader, mut writer) = pipe_at_last(rt, 8);
-    same(rt, &"taken", writer.try_fill(b"ab"), 2);
-    reader.observe(&writer.mark());
-    let found = task.enter(|cx| reader.poll(cx));
-    same(rt, &"found", granted(rt, found), Some(true));
-    same(rt, &"known", reader.peek_buf(), b"ab".as_slice());
-    reader.drop();
-    writer.drop();
-}
-
 #[test]
 fn an_observed_mark_is_found(rt: HostRuntime) {
-    finds_what_was_marked(&rt);
+    let task = task_at_last(&rt);
+    let (mut reader, mut writer) = pipe_at_last(&rt, 8);
+    same(&rt, &"taken", writer.try_fill(b"ab"), 2);
+    reader.observe(&writer.mark());
+    let found = task.enter(|cx| reader.poll(cx));
+    same(&rt, &"found", granted(&rt, found), Some(true));
+    same(&rt, &"known", reader.peek_buf(), b"ab".as_slice());
+    reader.drop();
+    writer.drop();
 }

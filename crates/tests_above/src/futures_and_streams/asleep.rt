@@ -75,17 +75,6 @@ where
     sleeps(rt, "copy", copy(&mut reader, &mut full));
 }
 
-fn writers_sleep<R>(rt: &R)
-where
-    R: Abort + RandomSource + AllocGlobal,
-{
-    let (_reader, mut writer) = owned_pipe(rt.alloc(), 1).expect(rt, "memory");
-    writer.try_fill(b".");
-    let source: &[u8] = b"more";
-    sleeps(rt, "write_all", (&mut writer).write_all(b"more"));
-    sleeps(rt, "fill_from", (&mut writer).fill_from(source));
-}
-
 #[test]
 fn a_reader_with_nothing_to_read_sleeps(rt: HostRuntime) {
     reads_sleep(&rt);
@@ -95,5 +84,9 @@ fn a_reader_with_nothing_to_read_sleeps(rt: HostRuntime) {
 
 #[test]
 fn a_writer_with_no_room_sleeps(rt: HostRuntime) {
-    writers_sleep(&rt);
+    let (_reader, mut writer) = owned_pipe(rt.alloc(), 1).expect(&rt, "memory");
+    writer.try_fill(b".");
+    let source: &[u8] = b"more";
+    sleeps(&rt, "write_all", (&mut writer).write_all(b"more"));
+    sleeps(&rt, "fill_from", (&mut writer).fill_from(source));
 }

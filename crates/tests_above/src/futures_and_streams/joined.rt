@@ -12,46 +12,30 @@ use piper::{OwnedReader, OwnedWriter, PipeError, owned_pipe};
 use piper_futures::{FrameSink, FrameStream, read_to_end, write_all_and_close};
 use std::alloc::AllocGlobal;
 use std::process::Abort;
-use std::random::RandomSource;
-use std::sync::Wait;
 
 /// A pipe of 16 bytes.
 fn small<R: Abort + AllocGlobal>(rt: &R) -> (OwnedReader, OwnedWriter) {
     owned_pipe(rt.alloc(), 16).expect(rt, "a pipe")
 }
 
-fn all_cross<R>(rt: &R)
-where
-    R: Abort + Wait + RandomSource + AllocGlobal,
-{
-    let bytes = [7; 1_000];
-    let (reader, writer) = small(rt);
-    let sending = write_all_and_close(writer, &bytes);
-    let reading = read_to_end(reader, Vec::new(rt.alloc()));
-    let (sent, came) = block_on(rt, join(sending, reading)).expect(rt, "an executor");
-    same(rt, sent.expect(rt, "no failure"), 1_000);
-    let (_reader, came) = came.expect(rt, "no failure");
-    same_bytes(rt, &came, &bytes);
-}
-
 #[test]
 fn a_task_that_sends_and_reads_all_ends(rt: HostRuntime) {
-    all_cross(&rt);
-}
-
-fn ends_where_nobody_reads<R>(rt: &R)
-where
-    R: Abort + Wait + RandomSource + AllocGlobal,
-{
-    let (reader, mut writer) = small(rt);
-    drop(reader);
-    let sent = block_on(rt, write_all_and_close(&mut writer, b"abc")).expect(rt, "an executor");
-    same(rt, sent.expect(rt, "no failure"), 0);
+    let bytes = [7; 1_000];
+    let (reader, writer) = small(&rt);
+    let sending = write_all_and_close(writer, &bytes);
+    let reading = read_to_end(reader, Vec::new(rt.alloc()));
+    let (sent, came) = block_on(&rt, join(sending, reading)).expect(&rt, "an executor");
+    same(&rt, sent.expect(&rt, "no failure"), 1_000);
+    let (_reader, came) = came.expect(&rt, "no failure");
+    same_bytes(&rt, &came, &bytes);
 }
 
 #[test]
 fn bytes_that_nobody_reads_are_not_counted(rt: HostRuntime) {
-    ends_where_nobody_reads(&rt);
+    let (reader, mut writer) = small(&rt);
+    drop(reader);
+    let sent = block_on(&rt, write_all_and_close(&mut writer, b"abc")).expect(&rt, "an executor");
+    same(&rt, sent.expect(&rt, "no failure"), 0);
 }
 
 /// A writer that always fails. Its pipe is closed where it is dropped.
@@ -84,49 +68,35 @@ impl AsyncWrite for Failing {
     }
 }
 
-fn a_failure_ends_both<R>(rt: &R)
-where
-    R: Abort + Wait + RandomSource + AllocGlobal,
-{
-    let (reader, writer) = small(rt);
+#[test]
+fn a_writer_that_fails_is_dropped_and_so_its_reader_ends(rt: HostRuntime) {
+    let (reader, writer) = small(&rt);
     let sending = write_all_and_close(Failing { _below: writer }, b"abc");
     let reading = read_to_end(reader, Vec::new(rt.alloc()));
-    let (sent, came) = block_on(rt, join(sending, reading)).expect(rt, "an executor");
+    let (sent, came) = block_on(&rt, join(sending, reading)).expect(&rt, "an executor");
     let failed_after = match sent {
         Err(failed) => Some(failed.left),
         Ok(_) => None,
     };
-    same(rt, failed_after, Some(0));
-    let (_reader, came) = came.expect(rt, "no failure");
-    same_bytes(rt, &came, b"");
-}
-
-#[test]
-fn a_writer_that_fails_is_dropped_and_so_its_reader_ends(rt: HostRuntime) {
-    a_failure_ends_both(&rt);
-}
-
-fn pieces_cross<R>(rt: &R)
-where
-    R: Abort + Wait + RandomSource + AllocGlobal,
-{
-    let alloc = rt.alloc();
-    let (reader, writer) = small(rt);
-    let mut bodies = Vec::new(alloc);
-    for _ in 0..10 {
-        bodies
-            .push(Ok(kept(rt, alloc, b"a body")))
-            .expect(rt, "memory");
-    }
-    let sending = stream::iter(bodies).forward(FrameSink::new(alloc, writer));
-    let reading = FrameStream::new(alloc, reader, 16).try_collect(alloc);
-    let (sent, came) = block_on(rt, join(sending, reading)).expect(rt, "an executor");
-    confirm(rt, sent.is_ok());
-    let came: Vec<Vec<u8>> = came.expect(rt, "no failure");
-    same(rt, came.len(), 10);
+    same(&rt, failed_after, Some(0));
+    let (_reader, came) = came.expect(&rt, "no failure");
+    same_bytes(&rt, &came, b"");
 }
 
 #[test]
 fn a_task_that_forwards_to_a_sink_and_takes_all_ends(rt: HostRuntime) {
-    pieces_cross(&rt);
+    let alloc = rt.alloc();
+    let (reader, writer) = small(&rt);
+    let mut bodies = Vec::new(alloc);
+    for _ in 0..10 {
+        bodies
+            .push(Ok(kept(&rt, alloc, b"a body")))
+            .expect(&rt, "memory");
+    }
+    let sending = stream::iter(bodies).forward(FrameSink::new(alloc, writer));
+    let reading = FrameStream::new(alloc, reader, 16).try_collect(alloc);
+    let (sent, came) = block_on(&rt, join(sending, reading)).expect(&rt, "an executor");
+    confirm(&rt, sent.is_ok());
+    let came: Vec<Vec<u8>> = came.expect(&rt, "no failure");
+    same(&rt, came.len(), 10);
 }

@@ -11,8 +11,6 @@ use piper_lines::{Written, poll_write_all};
 use std::alloc::AllocGlobal;
 use std::io;
 use std::process::Abort;
-use std::random::RandomSource;
-use std::sync::Wait;
 
 /// A pipe with room for more than any of these tests sends.
 fn wide<R: Abort + AllocGlobal>(rt: &R) -> (OwnedReader, OwnedWriter) {
@@ -46,27 +44,20 @@ impl io::Write for OfStd {
     }
 }
 
-fn std_is_called_once<R>(rt: &R)
-where
-    R: Abort + Wait + RandomSource + AllocGlobal,
-{
-    let (reader, writer) = wide(rt);
+#[test]
+fn a_fill_and_a_drain_call_std_once_a_piece(rt: HostRuntime) {
+    let (reader, writer) = wide(&rt);
     let source = OfStd {
         left: 100,
         calls: 0,
     };
-    let (writer, source, _copied) = ends(rt, fill_from(writer, source));
+    let (writer, source, _copied) = ends(&rt, fill_from(writer, source));
     drop(writer);
     let dest = OfStd { left: 0, calls: 0 };
-    let (_reader, dest) = ends(rt, drain_into(reader, dest));
+    let (_reader, dest) = ends(&rt, drain_into(reader, dest));
     // One read gives all; one that gives none ends the first poll's rounds, and one the next poll.
     // The destination isn't called for the end.
-    same(rt, (source.calls, dest.calls), (3, 1));
-}
-
-#[test]
-fn a_fill_and_a_drain_call_std_once_a_piece(rt: HostRuntime) {
-    std_is_called_once(&rt);
+    same(&rt, (source.calls, dest.calls), (3, 1));
 }
 
 /// How many bytes one read takes.

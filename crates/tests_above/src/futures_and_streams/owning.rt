@@ -33,22 +33,15 @@ where
     (reader, writer)
 }
 
-fn ends_what_was_written<H>(rt: &H)
-where
-    H: Abort + Wait + RandomSource + AllocGlobal,
-{
-    let (reader, writer) = holding(rt, 64, b"");
-    let (writer, count) = ends(rt, write_all(writer, b"hello world"));
-    let writer = ends(rt, close(writer));
-    let (reader, bytes) = ends(rt, read_to_end(reader, Vec::new(rt.alloc())));
-    let seen = (count, writer.is_closed(), reader.len());
-    same(rt, seen, (11, true, 0));
-    same_bytes(rt, &bytes, b"hello world");
-}
-
 #[test]
 fn a_close_is_the_end_of_what_was_written(rt: HostRuntime) {
-    ends_what_was_written(&rt);
+    let (reader, writer) = holding(&rt, 64, b"");
+    let (writer, count) = ends(&rt, write_all(writer, b"hello world"));
+    let writer = ends(&rt, close(writer));
+    let (reader, bytes) = ends(&rt, read_to_end(reader, Vec::new(rt.alloc())));
+    let seen = (count, writer.is_closed(), reader.len());
+    same(&rt, seen, (11, true, 0));
+    same_bytes(&rt, &bytes, b"hello world");
 }
 
 /// Copies what is left in the one pipe to the other: how it ends, and how much is left.
@@ -60,55 +53,34 @@ where
     same(rt, (why, from.len()), want);
 }
 
-fn copies_to_the_end<H>(rt: &H)
-where
-    H: Abort + Wait + RandomSource + AllocGlobal,
-{
-    let (from, writer) = holding(rt, 8, b"abc");
-    let (mut last, to) = holding(rt, 8, b"");
-    drop(writer);
-    copies(rt, from, to, (Copied::ToTheEnd, 0));
-    let mut place = [0; 8];
-    let came = last.try_drain(&mut place);
-    same_bytes(rt, &place[..came], b"abc");
-}
-
 #[test]
 fn a_copy_ends_with_the_reader(rt: HostRuntime) {
-    copies_to_the_end(&rt);
-}
-
-fn copies_until_closed<H>(rt: &H)
-where
-    H: Abort + Wait + RandomSource + AllocGlobal,
-{
-    let (from, _writer) = holding(rt, 8, b"d");
-    let (last, to) = holding(rt, 8, b"");
-    drop(last);
-    copies(rt, from, to, (Copied::UntilClosed, 1));
+    let (from, writer) = holding(&rt, 8, b"abc");
+    let (mut last, to) = holding(&rt, 8, b"");
+    drop(writer);
+    copies(&rt, from, to, (Copied::ToTheEnd, 0));
+    let mut place = [0; 8];
+    let came = last.try_drain(&mut place);
+    same_bytes(&rt, &place[..came], b"abc");
 }
 
 #[test]
 fn a_copy_ends_with_the_other_pipe(rt: HostRuntime) {
-    copies_until_closed(&rt);
-}
-
-fn lines_pass<H>(rt: &H)
-where
-    H: Abort + Wait + RandomSource + AllocGlobal,
-{
-    let (reader, writer) = holding(rt, 64, b"");
-    let sink = sends(rt, LineSink::new(rt.alloc(), writer), &[b"one", b"two"]);
-    let sink = WriteSink::new(rt.alloc(), sink.into_writer());
-    drop(sends(rt, sink, &[b"three"]));
-    let mut lines = LineStream::new(rt.alloc(), reader, 10);
-    come(rt, &mut lines, &[b"one\n", b"two\n", b"three"]);
-    confirm(rt, next_of(rt, &mut lines).is_none());
+    let (from, _writer) = holding(&rt, 8, b"d");
+    let (last, to) = holding(&rt, 8, b"");
+    drop(last);
+    copies(&rt, from, to, (Copied::UntilClosed, 1));
 }
 
 #[test]
 fn lines_of_a_sink_come_out_of_a_stream_in_order(rt: HostRuntime) {
-    lines_pass(&rt);
+    let (reader, writer) = holding(&rt, 64, b"");
+    let sink = sends(&rt, LineSink::new(rt.alloc(), writer), &[b"one", b"two"]);
+    let sink = WriteSink::new(rt.alloc(), sink.into_writer());
+    drop(sends(&rt, sink, &[b"three"]));
+    let mut lines = LineStream::new(rt.alloc(), reader, 10);
+    come(&rt, &mut lines, &[b"one\n", b"two\n", b"three"]);
+    confirm(&rt, next_of(&rt, &mut lines).is_none());
 }
 
 /// The kind of the error that a stream gave, if it gave one that is no want of memory.
@@ -132,117 +104,75 @@ where
     same_bytes(rt, &body, wanted);
 }
 
-fn frames_pass<H>(rt: &H)
-where
-    H: Abort + Wait + RandomSource + AllocGlobal,
-{
-    let (reader, writer) = holding(rt, 64, b"");
-    let sink = FrameSink::new(rt.alloc(), writer);
-    let _sink = sends(rt, sink, &[b"one", b"", b"three"]);
-    let mut frames = FrameStream::new(rt.alloc(), reader, 4);
-    come(rt, &mut frames, &[b"one", b""]);
-    let long = kind_of(next_of(rt, &mut frames));
-    same(rt, long, Some(ErrorKind::InvalidData));
-    confirm(rt, next_of(rt, &mut frames).is_none());
-    takes_with_another_limit(rt, frames.into_frames(), b"three");
-}
-
 #[test]
 fn frames_of_a_sink_come_out_of_a_stream_up_to_one_too_long(rt: HostRuntime) {
-    frames_pass(&rt);
-}
-
-fn cut_off<H>(rt: &H)
-where
-    H: Abort + Wait + RandomSource + AllocGlobal,
-{
-    let (reader, writer) = holding(rt, 64, &[0, 0, 0, 2, 7]);
-    drop(writer);
+    let (reader, writer) = holding(&rt, 64, b"");
+    let sink = FrameSink::new(rt.alloc(), writer);
+    let _sink = sends(&rt, sink, &[b"one", b"", b"three"]);
     let mut frames = FrameStream::new(rt.alloc(), reader, 4);
-    let ended = kind_of(next_of(rt, &mut frames));
-    same(rt, ended, Some(ErrorKind::UnexpectedEof));
-    confirm(rt, next_of(rt, &mut frames).is_none());
+    come(&rt, &mut frames, &[b"one", b""]);
+    let long = kind_of(next_of(&rt, &mut frames));
+    same(&rt, long, Some(ErrorKind::InvalidData));
+    confirm(&rt, next_of(&rt, &mut frames).is_none());
+    takes_with_another_limit(&rt, frames.into_frames(), b"three");
 }
 
 #[test]
 fn a_frame_that_is_cut_off_is_an_error_of_its_own_kind(rt: HostRuntime) {
-    cut_off(&rt);
+    let (reader, writer) = holding(&rt, 64, &[0, 0, 0, 2, 7]);
+    drop(writer);
+    let mut frames = FrameStream::new(rt.alloc(), reader, 4);
+    let ended = kind_of(next_of(&rt, &mut frames));
+    same(&rt, ended, Some(ErrorKind::UnexpectedEof));
+    confirm(&rt, next_of(&rt, &mut frames).is_none());
 }
 
 /// A body whose length takes more than one byte, and more than 1,024 bytes.
-fn long_frame_passes<H>(rt: &H)
-where
-    H: Abort + Wait + RandomSource + AllocGlobal,
-{
-    let (reader, writer) = holding(rt, 2_000, b"");
-    let sink = FrameSink::new(rt.alloc(), writer);
-    drop(sends(rt, sink, &[&[7; 300], &[8; 1_500]]));
-    let mut frames = FrameStream::new(rt.alloc(), reader, 1_500);
-    come(rt, &mut frames, &[&[7; 300], &[8; 1_500]]);
-    confirm(rt, next_of(rt, &mut frames).is_none());
-}
-
 #[test]
 fn a_frame_of_more_than_1024_bytes_passes(rt: HostRuntime) {
-    long_frame_passes(&rt);
-}
-
-fn texts_pass<H>(rt: &H)
-where
-    H: Abort + Wait + RandomSource + AllocGlobal,
-{
-    let (reader, writer) = holding(rt, 64, b"one\r\ntwo\n");
-    let sink = LineSink::ended_by(rt.alloc(), writer, b';');
-    drop(sends(rt, sink, &[b"three"]));
-    let lines = LineStream::new(rt.alloc(), reader, 10);
-    let mut texts = lines.map(|line| line.map(|line| into_line_text(line)));
-    come(rt, &mut texts, &[b"one", b"two", b"three;"]);
+    let (reader, writer) = holding(&rt, 2_000, b"");
+    let sink = FrameSink::new(rt.alloc(), writer);
+    drop(sends(&rt, sink, &[&[7; 300], &[8; 1_500]]));
+    let mut frames = FrameStream::new(rt.alloc(), reader, 1_500);
+    come(&rt, &mut frames, &[&[7; 300], &[8; 1_500]]);
+    confirm(&rt, next_of(&rt, &mut frames).is_none());
 }
 
 #[test]
 fn texts_come_without_what_ends_their_lines(rt: HostRuntime) {
-    texts_pass(&rt);
-}
-
-fn bodies_pass<H>(rt: &H)
-where
-    H: Abort + Wait + RandomSource + AllocGlobal,
-{
-    let (reader, writer) = holding(rt, 64, b"");
-    let format = FrameHeader::TwoBytes(ByteOrder::LittleEndian);
-    let sink = FrameSink::with_header(rt.alloc(), writer, format);
-    drop(sends(rt, sink, &[b"ab"]));
-    let mut frames = FrameStream::with_header(rt.alloc(), reader, format, 2);
-    come(rt, &mut frames, &[b"ab"]);
+    let (reader, writer) = holding(&rt, 64, b"one\r\ntwo\n");
+    let sink = LineSink::ended_by(rt.alloc(), writer, b';');
+    drop(sends(&rt, sink, &[b"three"]));
+    let lines = LineStream::new(rt.alloc(), reader, 10);
+    let mut texts = lines.map(|line| line.map(|line| into_line_text(line)));
+    come(&rt, &mut texts, &[b"one", b"two", b"three;"]);
 }
 
 #[test]
 fn bodies_come_by_the_header_that_both_ends_chose(rt: HostRuntime) {
-    bodies_pass(&rt);
-}
-
-fn leaves_what_was_not_moved<H>(rt: &H)
-where
-    H: Abort + Wait + RandomSource + AllocGlobal,
-{
-    let (reader, writer) = holding(rt, 8, b"abcde");
-    drop(writer);
-    let mut place = [0; 3];
-    let drained = block_on(rt, drain_into(reader, place.as_mut_slice()));
-    let Err(failed) = drained.expect(rt, "an executor") else {
-        rt.panic("five bytes are written into three places")
-    };
-    let is_full = matches!(&failed.error, PipeError::Io(e) if e.kind() == io::ErrorKind::WriteZero);
-    confirm(rt, is_full);
-    let (reader, _dest) = failed.left;
-    let (_reader, rest) = ends(rt, read_to_end(reader, Vec::new(rt.alloc())));
-    same_bytes(rt, &place, b"abc");
-    same_bytes(rt, &rest, b"de");
+    let (reader, writer) = holding(&rt, 64, b"");
+    let format = FrameHeader::TwoBytes(ByteOrder::LittleEndian);
+    let sink = FrameSink::with_header(rt.alloc(), writer, format);
+    drop(sends(&rt, sink, &[b"ab"]));
+    let mut frames = FrameStream::with_header(rt.alloc(), reader, format, 2);
+    come(&rt, &mut frames, &[b"ab"]);
 }
 
 #[test]
 fn a_failure_leaves_what_was_not_moved(rt: HostRuntime) {
-    leaves_what_was_not_moved(&rt);
+    let (reader, writer) = holding(&rt, 8, b"abcde");
+    drop(writer);
+    let mut place = [0; 3];
+    let drained = block_on(&rt, drain_into(reader, place.as_mut_slice()));
+    let Err(failed) = drained.expect(&rt, "an executor") else {
+        rt.panic("five bytes are written into three places")
+    };
+    let is_full = matches!(&failed.error, PipeError::Io(e) if e.kind() == io::ErrorKind::WriteZero);
+    confirm(&rt, is_full);
+    let (reader, _dest) = failed.left;
+    let (_reader, rest) = ends(&rt, read_to_end(reader, Vec::new(rt.alloc())));
+    same_bytes(&rt, &place, b"abc");
+    same_bytes(&rt, &rest, b"de");
 }
 
 /// Fills a pipe from this source: how it ends, and what is left of the source.
@@ -256,39 +186,25 @@ where
     writer
 }
 
-fn fills_to_the_end_and_until_closed<H>(rt: &H)
-where
-    H: Abort + Wait + RandomSource + AllocGlobal,
-{
-    let (reader, writer) = holding(rt, 64, b"");
-    let writer = fills(rt, writer, (Copied::ToTheEnd, 0));
-    let (reader, bytes) = ends(rt, read_until(reader, b',', Vec::new(rt.alloc())));
-    same_bytes(rt, &bytes, b"one,");
-    drop(reader);
-    fills(rt, writer, (Copied::UntilClosed, 15));
-}
-
 #[test]
 fn a_fill_ends_with_its_source_or_with_the_pipe(rt: HostRuntime) {
-    fills_to_the_end_and_until_closed(&rt);
-}
-
-fn is_printed<H>(rt: &H)
-where
-    H: Abort + Wait + AllocGlobal,
-{
-    let alloc = rt.alloc();
-    let (reader, writer) = holding(rt, 8, b"ab");
-    let printed = format!(in alloc; "{:?}", read_to_end(reader, kept(rt, alloc, b"xyz")));
-    let wanted = b"ReadToEnd(OwnedReader(Reader { capacity: 8, known: 0, closed: false }), 3)";
-    same_bytes(rt, printed.expect(rt, "memory").as_bytes(), wanted);
-    let printed = format!(in alloc; "{:?}", WriteSink::new(alloc, writer));
-    let wanted =
-        b"PieceSink { writer: OwnedWriter(Writer { capacity: 8, room: 6, closed: true }), framing: AsItIs, written: 0, of: 0 }";
-    same_bytes(rt, printed.expect(rt, "memory").as_bytes(), wanted);
+    let (reader, writer) = holding(&rt, 64, b"");
+    let writer = fills(&rt, writer, (Copied::ToTheEnd, 0));
+    let (reader, bytes) = ends(&rt, read_until(reader, b',', Vec::new(rt.alloc())));
+    same_bytes(&rt, &bytes, b"one,");
+    drop(reader);
+    fills(&rt, writer, (Copied::UntilClosed, 15));
 }
 
 #[test]
 fn what_is_printed_has_ends_and_counts_and_no_byte(rt: HostRuntime) {
-    is_printed(&rt);
+    let alloc = rt.alloc();
+    let (reader, writer) = holding(&rt, 8, b"ab");
+    let printed = format!(in alloc; "{:?}", read_to_end(reader, kept(&rt, alloc, b"xyz")));
+    let wanted = b"ReadToEnd(OwnedReader(Reader { capacity: 8, known: 0, closed: false }), 3)";
+    same_bytes(&rt, printed.expect(&rt, "memory").as_bytes(), wanted);
+    let printed = format!(in alloc; "{:?}", WriteSink::new(alloc, writer));
+    let wanted =
+        b"PieceSink { writer: OwnedWriter(Writer { capacity: 8, room: 6, closed: true }), framing: AsItIs, written: 0, of: 0 }";
+    same_bytes(&rt, printed.expect(&rt, "memory").as_bytes(), wanted);
 }

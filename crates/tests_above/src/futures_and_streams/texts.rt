@@ -10,7 +10,6 @@ use std::alloc::AllocGlobal;
 use std::fmt::{Debug, Display};
 use std::io::ErrorKind;
 use std::process::Abort;
-use std::sync::Wait;
 
 fn says<H, E>(rt: &H, error: &E, wanted: &str)
 where
@@ -55,12 +54,10 @@ where
     same(rt, said.as_str(), all.as_str());
 }
 
-fn streams_and_futures_show_their_ends<H>(rt: &H)
-where
-    H: Abort + Wait + AllocGlobal,
-{
+#[test]
+fn streams_and_futures_show_their_ends_and_counts(rt: HostRuntime) {
     let alloc = rt.alloc();
-    let (mut reader, mut writer) = owned_pipe(alloc, 8).expect(rt, "a pipe");
+    let (mut reader, mut writer) = owned_pipe(alloc, 8).expect(&rt, "a pipe");
     let (r, w) = (&mut reader, &mut writer);
     let lines = LineStream::new(alloc, &mut *r, 9);
     let wanted = [
@@ -68,45 +65,40 @@ where
         READER,
         ", end: 10, kept: 0 }, limit: 9, ended: false }",
     ];
-    shows(rt, lines, &wanted);
+    shows(&rt, lines, &wanted);
     let frames = FrameStream::new(alloc, &mut *r, 9);
     let wanted = [
         "FrameStream { frames: Frames { reader: ",
         READER,
         ", format: FourBytes(BigEndian), header: 0, body: 0, to_skip: 0 }, limit: 9, ended: false }",
     ];
-    shows(rt, frames, &wanted);
+    shows(&rt, frames, &wanted);
     shows(
-        rt,
+        &rt,
         copy(&mut *r, &mut *w),
         &["Copying(", READER, ", ", WRITER, ")"],
     );
     shows(
-        rt,
+        &rt,
         drain_into(&mut *r, Vec::new(alloc)),
         &["Draining(", READER, ")"],
     );
     shows(
-        rt,
+        &rt,
         read(&mut *r, Vec::new(alloc)),
         &["ReadOnce(", READER, ", 0)"],
     );
     let exact = read_exact(&mut *r, Vec::new(alloc), 2);
-    shows(rt, exact, &["ReadExact(", READER, ", 0)"]);
+    shows(&rt, exact, &["ReadExact(", READER, ", 0)"]);
     let until = read_until(&mut *r, b',', Vec::new(alloc));
-    shows(rt, until, &["ReadUntil(", READER, ", 0)"]);
+    shows(&rt, until, &["ReadUntil(", READER, ", 0)"]);
     shows(
-        rt,
+        &rt,
         write_all(&mut *w, b"ab"),
         &["WriteAll(", WRITER, ", 0)"],
     );
     let close = write_all_and_close(&mut *w, b"ab");
-    shows(rt, close, &["WriteAllAndClose(", WRITER, ", 0)"]);
+    shows(&rt, close, &["WriteAllAndClose(", WRITER, ", 0)"]);
     let source: &[u8] = b"ab";
-    shows(rt, fill_from(writer, source), &["Filling(", WRITER, ")"]);
-}
-
-#[test]
-fn streams_and_futures_show_their_ends_and_counts(rt: HostRuntime) {
-    streams_and_futures_show_their_ends(&rt);
+    shows(&rt, fill_from(writer, source), &["Filling(", WRITER, ")"]);
 }

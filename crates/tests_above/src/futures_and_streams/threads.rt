@@ -3,56 +3,38 @@ use crate::compare::{confirm, same, same_bytes};
 use piper::io::Copied;
 use piper::{PipeError, owned_pipe};
 use piper_futures::{spawn_drain, spawn_fill};
-use std::alloc::AllocGlobal;
 use std::io;
-use std::marker::{Send, Sync};
 use std::process::Abort;
-use std::random::RandomSource;
-use std::sync::Wait;
 use std::thread::Threads;
-
-fn all_that_is_given_comes<H>(rt: &H)
-where
-    H: Abort + Threads + Wait + RandomSource + AllocGlobal + Clone + Drop + Send + Sync + 'static,
-{
-    let bytes: &'static [u8] = b"more than fits at once";
-    let (reader, writer) = owned_pipe(rt.alloc(), 4).expect(rt, "memory");
-    let filling = spawn_fill(rt, writer, bytes).expect(rt, "a thread");
-    let draining = spawn_drain(rt, reader, Vec::new(rt.alloc())).expect(rt, "a thread");
-    let Ok((filled, copied)) = filling.join(rt) else {
-        rt.panic("a slice does not fail")
-    };
-    confirm(rt, copied == Copied::ToTheEnd);
-    same_bytes(rt, filled.source, b"");
-    let Ok((_reader, came)) = draining.join(rt) else {
-        rt.panic("a vector does not fail")
-    };
-    same_bytes(rt, &came, bytes);
-}
 
 #[test]
 fn all_that_a_thread_is_given_comes_out_by_another(rt: HostRuntime) {
-    all_that_is_given_comes(&rt);
-}
-
-fn a_drop_ends_the_fill<H>(rt: &H)
-where
-    H: Abort + Threads + Wait + RandomSource + AllocGlobal + Clone + Drop + Send + Sync + 'static,
-{
-    let bytes: &'static [u8] = b"abcdef";
-    let (reader, writer) = owned_pipe(rt.alloc(), 4).expect(rt, "memory");
-    drop(reader);
-    let filling = spawn_fill(rt, writer, bytes).expect(rt, "a thread");
-    let Ok((filled, copied)) = filling.join(rt) else {
+    let bytes: &'static [u8] = b"more than fits at once";
+    let (reader, writer) = owned_pipe(rt.alloc(), 4).expect(&rt, "memory");
+    let filling = spawn_fill(&rt, writer, bytes).expect(&rt, "a thread");
+    let draining = spawn_drain(&rt, reader, Vec::new(rt.alloc())).expect(&rt, "a thread");
+    let Ok((filled, copied)) = filling.join(&rt) else {
         rt.panic("a slice does not fail")
     };
-    confirm(rt, copied == Copied::UntilClosed);
-    same_bytes(rt, filled.source, bytes);
+    confirm(&rt, copied == Copied::ToTheEnd);
+    same_bytes(&rt, filled.source, b"");
+    let Ok((_reader, came)) = draining.join(&rt) else {
+        rt.panic("a vector does not fail")
+    };
+    same_bytes(&rt, &came, bytes);
 }
 
 #[test]
 fn a_drop_of_the_reader_ends_the_thread_that_fills(rt: HostRuntime) {
-    a_drop_ends_the_fill(&rt);
+    let bytes: &'static [u8] = b"abcdef";
+    let (reader, writer) = owned_pipe(rt.alloc(), 4).expect(&rt, "memory");
+    drop(reader);
+    let filling = spawn_fill(&rt, writer, bytes).expect(&rt, "a thread");
+    let Ok((filled, copied)) = filling.join(&rt) else {
+        rt.panic("a slice does not fail")
+    };
+    confirm(&rt, copied == Copied::UntilClosed);
+    same_bytes(&rt, filled.source, bytes);
 }
 
 /// Fails at once.
@@ -80,29 +62,22 @@ fn is_broken(error: &PipeError) -> bool {
     matches!(error, PipeError::Io(e) if e.kind() == io::ErrorKind::NotFound)
 }
 
-fn failures_come<H>(rt: &H)
-where
-    H: Abort + Threads + Wait + RandomSource + AllocGlobal + Clone + Drop + Send + Sync + 'static,
-{
-    let (reader, writer) = owned_pipe(rt.alloc(), 4).expect(rt, "memory");
-    let filling = spawn_fill(rt, writer, Broken).expect(rt, "a thread");
-    let Err(failed) = filling.join(rt) else {
-        rt.panic("the source fails")
-    };
-    confirm(rt, is_broken(&failed.error) && failed.left.is_some());
-    confirm(rt, reader.is_closed());
-
-    let (reader, mut writer) = owned_pipe(rt.alloc(), 4).expect(rt, "memory");
-    same(rt, writer.try_fill(b"abc"), 3);
-    let draining = spawn_drain(rt, reader, Broken).expect(rt, "a thread");
-    let Err(failed) = draining.join(rt) else {
-        rt.panic("the writer of std fails")
-    };
-    confirm(rt, is_broken(&failed.error) && failed.left.is_some());
-    confirm(rt, writer.is_closed());
-}
-
 #[test]
 fn a_failure_in_a_thread_comes_with_its_join_and_closes_the_pipe(rt: HostRuntime) {
-    failures_come(&rt);
+    let (reader, writer) = owned_pipe(rt.alloc(), 4).expect(&rt, "memory");
+    let filling = spawn_fill(&rt, writer, Broken).expect(&rt, "a thread");
+    let Err(failed) = filling.join(&rt) else {
+        rt.panic("the source fails")
+    };
+    confirm(&rt, is_broken(&failed.error) && failed.left.is_some());
+    confirm(&rt, reader.is_closed());
+
+    let (reader, mut writer) = owned_pipe(rt.alloc(), 4).expect(&rt, "memory");
+    same(&rt, writer.try_fill(b"abc"), 3);
+    let draining = spawn_drain(&rt, reader, Broken).expect(&rt, "a thread");
+    let Err(failed) = draining.join(&rt) else {
+        rt.panic("the writer of std fails")
+    };
+    confirm(&rt, is_broken(&failed.error) && failed.left.is_some());
+    confirm(&rt, writer.is_closed());
 }
