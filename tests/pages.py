@@ -44,7 +44,7 @@ WORDS = FILES + ("console", "text")
 SECONDS = 900
 # Names that pages say of others: of 0.2.5, of rustc, of Rust's libraries and of the toolchain.
 THEIRS = set("AtomicWaker drain_inner fill_inner maybe_yield poll_inner zeroed_until".split()) | set(
-    "LibcRuntime Net OwnedFd __reserved rust_eh_personality".split()
+    "LibcRuntime LocalPool Net OwnedFd __reserved rust_eh_personality".split()
 )
 # Folders of what was built.
 BUILT = {"out", "build", "target", "__pycache__"}

@@ -3,12 +3,7 @@ use Rattle.std.proofs.Common.{◌≡◌, ℕ, ◌+◌, ◌-◌, ◌<◌, ◌≤�
 use Rattle.std.proofs.lemmas.List.{take-append-le, take-append-drop}
 use Rattle.std.proofs.Math.Seq.{take-append-add}
 use Rattle.std.proofs.lemmas.Bool.Decides.{nat_tests}
-use Rattle.piper_protocol.specs.declared.answer.Polled.TheVariants.{Ready}
-use Rattle.piper_machine.specs.declared.scripted.DestAct.{DestAct}
-use Rattle.piper_machine.specs.declared.scripted.DestAct.TheVariants as dest
-use Rattle.piper_machine.specs.declared.scripted.SourceAct.{SourceAct}
-use Rattle.piper_machine.specs.declared.scripted.SourceAct.TheVariants as source
-use Rattle.piper_protocol.specs.declared.answer.Failed.{Failed}
+use Rattle.piper_machine.specs.Types.{DestAct, SourceAct, Failed, Ready}
 use Rattle.piper_machine.specs.Pipe.{Pipe}
 use Rattle.piper_machine.specs.Copy.{Copied, answered, filled, drained}
 use Rattle.piper_machine.specs.Scripted.{bytes_given, ends_in_failure, source_answer, fill_moves_more, taken_by, drain_moves_to}
@@ -30,13 +25,13 @@ is_zero : (n : ℕ) → n ≡ 0 → (n == 0) ≡ true
 is_zero n none = grind (arith, nat_tests)
 
 -- an act that takes some bytes
-pub take-goes_on : (most sum n : ℕ) (acts : List DestAct) (p : Pipe) → n ≡ taken_by most p → (n ≡ 0 → ⊥) → drain_moves_to (dest.Take most ∷ acts) sum p ≡ drain_moves_to acts (sum + n) (drained n p)
+pub take-goes_on : (most sum n : ℕ) (acts : List DestAct) (p : Pipe) → n ≡ taken_by most p → (n ≡ 0 → ⊥) → drain_moves_to (DestAct.Take most ∷ acts) sum p ≡ drain_moves_to acts (sum + n) (drained n p)
 take-goes_on most sum n acts p is some =
     choose (taken_by most p == 0) _ _ (is_zero_not (taken_by most p) (λ h. some (is ∙ h)))
     ∙ ap (λ k. drain_moves_to acts (sum + k) (drained k p)) (sym is)
 
 -- an act that takes none ends the call
-pub take-ends : (most sum n : ℕ) (acts : List DestAct) (p : Pipe) → n ≡ taken_by most p → n ≡ 0 → drain_moves_to (dest.Take most ∷ acts) sum p ≡ answered (Ready (Ok sum)) p
+pub take-ends : (most sum n : ℕ) (acts : List DestAct) (p : Pipe) → n ≡ taken_by most p → n ≡ 0 → drain_moves_to (DestAct.Take most ∷ acts) sum p ≡ answered (Ready (Ok sum)) p
 take-ends most sum n acts p is none = choose_first (taken_by most p == 0) _ _ (is_zero (taken_by most p) (sym is ∙ none))
 
 -- what a source gives fits, or does not
@@ -49,11 +44,11 @@ passes room count past = grind (arith, nat_tests)
 past-rest : (room first more : ℕ) → first ≤ room → nat_lt room (first + more) ≡ nat_lt (room - first) more
 past-rest room first more within = grind (arith, nat_tests)
 
-pub bytes_given-cons : (bytes : List ℕ) (acts : List SourceAct) → (length bytes ≡ 0 → ⊥) → bytes_given (source.Bytes bytes ∷ acts) ≡ bytes ++ bytes_given acts
+pub bytes_given-cons : (bytes : List ℕ) (acts : List SourceAct) → (length bytes ≡ 0 → ⊥) → bytes_given (SourceAct.Bytes bytes ∷ acts) ≡ bytes ++ bytes_given acts
 bytes_given-cons [] acts some = absurd (some refl)
 bytes_given-cons (byte ∷ bytes) acts some = refl
 
-pub ends_in_failure-cons : (bytes : List ℕ) (acts : List SourceAct) → (length bytes ≡ 0 → ⊥) → ends_in_failure (source.Bytes bytes ∷ acts) ≡ ends_in_failure acts
+pub ends_in_failure-cons : (bytes : List ℕ) (acts : List SourceAct) → (length bytes ≡ 0 → ⊥) → ends_in_failure (SourceAct.Bytes bytes ∷ acts) ≡ ends_in_failure acts
 ends_in_failure-cons [] acts some = absurd (some refl)
 ends_in_failure-cons (byte ∷ bytes) acts some = refl
 
@@ -91,14 +86,14 @@ failure-unspent (byte ∷ bytes) acts = refl
 
 -- an act some of whose bytes are given: they move first, and then what is left
 pub give-part : (sum n : ℕ) (bytes : List ℕ) (acts : List SourceAct) (p : Pipe) → 1 ≤ n → n ≤ length bytes → n ≤ p.room
-    → fill_moves_more sum (source.Bytes bytes ∷ acts) p ≡ fill_moves_more (sum + n) (unspent (drop n bytes) acts) (filled (take n bytes) p)
+    → fill_moves_more sum (SourceAct.Bytes bytes ∷ acts) p ≡ fill_moves_more (sum + n) (unspent (drop n bytes) acts) (filled (take n bytes) p)
 give-part sum n bytes acts p some within fitting =
     let long : length (take n bytes) ≡ n = length-take-le n bytes within in
     let rest = drop n bytes ++ bytes_given acts in
     let filled_none : length bytes ≡ 0 → ⊥ = λ none. absurd (omega arith) in
     let parts : bytes ++ bytes_given acts ≡ take n bytes ++ rest = ap (λ (xs : List ℕ). xs ++ bytes_given acts) (sym (take-append-drop n bytes)) ∙ append_assoc (take n bytes) (drop n bytes) (bytes_given acts) in
-    by_bytes sum (source.Bytes bytes ∷ acts) p
-    ∙ ap (λ (given : List ℕ). moved_by sum given (ends_in_failure (source.Bytes bytes ∷ acts)) p) (bytes_given-cons bytes acts filled_none ∙ parts)
+    by_bytes sum (SourceAct.Bytes bytes ∷ acts) p
+    ∙ ap (λ (given : List ℕ). moved_by sum given (ends_in_failure (SourceAct.Bytes bytes ∷ acts)) p) (bytes_given-cons bytes acts filled_none ∙ parts)
     ∙ ap (λ (fails : Bool). moved_by sum (take n bytes ++ rest) fails p) (ends_in_failure-cons bytes acts filled_none ∙ sym (failure-unspent (drop n bytes) acts))
     ∙ moved-parts sum (take n bytes) rest (ends_in_failure (unspent (drop n bytes) acts)) p (omega arith)
     ∙ ap (λ (k : ℕ). moved_by (sum + k) rest (ends_in_failure (unspent (drop n bytes) acts)) (filled (take n bytes) p)) long
@@ -107,15 +102,15 @@ give-part sum n bytes acts p some within fitting =
 
 -- an act whose bytes do not all fit ends the call
 pub give-ends : (sum n : ℕ) (bytes : List ℕ) (acts : List SourceAct) (p : Pipe) → (length bytes ≡ 0 → ⊥) → n ≡ min (length bytes) p.room → n < length bytes
-    → fill_moves_more sum (source.Bytes bytes ∷ acts) p ≡ answered (Ready (Ok (sum + n))) (filled (take n bytes) p)
+    → fill_moves_more sum (SourceAct.Bytes bytes ∷ acts) p ≡ answered (Ready (Ok (sum + n))) (filled (take n bytes) p)
 unfolding moved_by
 give-ends sum n bytes acts p some is short =
     let more = bytes_given acts in
     let long = length-append bytes more in
     let count : min (length (bytes ++ more)) p.room ≡ n = omega arith in
-    by_bytes sum (source.Bytes bytes ∷ acts) p
-    ∙ ap (λ (given : List ℕ). moved_by sum given (ends_in_failure (source.Bytes bytes ∷ acts)) p) (bytes_given-cons bytes acts some)
-    ∙ ap (λ (b : Bool). answered (Ready (source_answer b (ends_in_failure (source.Bytes bytes ∷ acts)) (sum + min (length (bytes ++ more)) p.room))) (filled (take (min (length (bytes ++ more)) p.room) (bytes ++ more)) p)) (passes p.room (length (bytes ++ more)) (omega arith))
+    by_bytes sum (SourceAct.Bytes bytes ∷ acts) p
+    ∙ ap (λ (given : List ℕ). moved_by sum given (ends_in_failure (SourceAct.Bytes bytes ∷ acts)) p) (bytes_given-cons bytes acts some)
+    ∙ ap (λ (b : Bool). answered (Ready (source_answer b (ends_in_failure (SourceAct.Bytes bytes ∷ acts)) (sum + min (length (bytes ++ more)) p.room))) (filled (take (min (length (bytes ++ more)) p.room) (bytes ++ more)) p)) (passes p.room (length (bytes ++ more)) (omega arith))
     ∙ ap (λ (j : ℕ). answered (Ready (Ok (sum + j))) (filled (take j (bytes ++ more)) p)) count
     ∙ ap (λ (given : List ℕ). answered (Ready (Ok (sum + n))) (filled given p)) (take-append-le n bytes more (omega arith))
 
@@ -130,11 +125,11 @@ nothing_given sum fails p unlent =
     ∙ ap (λ (j : ℕ). answered (Ready (source_answer false fails j)) (filled [] p)) same
     ∙ ap (λ (q : Pipe). answered (Ready (source_answer false fails sum)) q) (filled_nothing p unlent)
 
-pub give-nothing : (sum : ℕ) (acts : List SourceAct) (p : Pipe) → p.lent ≡ [] → fill_moves_more sum (source.Bytes [] ∷ acts) p ≡ answered (Ready (Ok sum)) p
-give-nothing sum acts p unlent = by_bytes sum (source.Bytes [] ∷ acts) p ∙ nothing_given sum false p unlent
+pub give-nothing : (sum : ℕ) (acts : List SourceAct) (p : Pipe) → p.lent ≡ [] → fill_moves_more sum (SourceAct.Bytes [] ∷ acts) p ≡ answered (Ready (Ok sum)) p
+give-nothing sum acts p unlent = by_bytes sum (SourceAct.Bytes [] ∷ acts) p ∙ nothing_given sum false p unlent
 
-pub give-fails : (sum : ℕ) (acts : List SourceAct) (p : Pipe) → p.lent ≡ [] → fill_moves_more sum (source.Fail ∷ acts) p ≡ answered (Ready (Err (record {}))) p
-give-fails sum acts p unlent = by_bytes sum (source.Fail ∷ acts) p ∙ nothing_given sum true p unlent
+pub give-fails : (sum : ℕ) (acts : List SourceAct) (p : Pipe) → p.lent ≡ [] → fill_moves_more sum (SourceAct.Fail ∷ acts) p ≡ answered (Ready (Err (record {}))) p
+give-fails sum acts p unlent = by_bytes sum (SourceAct.Fail ∷ acts) p ∙ nothing_given sum true p unlent
 
 pub give-none : (sum : ℕ) (p : Pipe) → p.lent ≡ [] → fill_moves_more sum [] p ≡ answered (Ready (Ok sum)) p
 give-none sum p unlent = by_bytes sum [] p ∙ nothing_given sum false p unlent

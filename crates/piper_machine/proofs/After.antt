@@ -2,21 +2,7 @@
 -- has seen of the close.
 use Rattle.std.proofs.Common.{◌≡◌, inl, inr, ℕ, zero, suc, List, [], length, take, Bool, true, false, Option, None, Some, ◌==◌, is_some, Result, Ok, Err, refl, sym, ◌∙◌}
 use Rattle.std.specs.Bool.{⊤}
-use Rattle.piper_protocol.specs.declared.table.Side.{Side}
-use Rattle.piper_protocol.specs.declared.table.Side.TheVariants.{Reader}
-use Rattle.piper_protocol.specs.declared.table.Query.{Query}
-use Rattle.piper_protocol.specs.declared.answer.Answer.{Answer}
-use Rattle.piper_machine.specs.declared.events.Event.{Event}
-use Rattle.piper_machine.specs.declared.polling.Context.{Context}
-use Rattle.piper_protocol.specs.declared.answer.Failed.{Failed}
-use Rattle.piper_protocol.specs.declared.table.Form.{Form}
-use Rattle.piper_protocol.specs.declared.table.Form.TheVariants.{Try, Polling}
-use Rattle.piper_protocol.specs.declared.table.Purpose.{Purpose}
-use Rattle.piper_protocol.specs.declared.table.Purpose.TheVariants as purpose
-use Rattle.piper_protocol.specs.declared.table.AfterRead.{AfterRead}
-use Rattle.piper_protocol.specs.declared.table.AfterRead.TheVariants as after_read
-use Rattle.piper_protocol.specs.declared.table.ReadPoint.{ReadPoint}
-use Rattle.piper_protocol.specs.declared.table.ReadPoint.TheVariants as at
+use Rattle.piper_machine.specs.Types.{Side, Query, Answer, Event, Context, Failed, Form, Purpose, AfterRead, ReadPoint, Reader, Try, Polling}
 use Rattle.piper_machine.specs.Open.{is_granted, is_yield_granted}
 use Rattle.piper_protocol.specs.Table.{read_action, reader_looked, reader_looked_again, reader_registered, writer_taken, read_done, read_after, yield_answer, count_answer, reader_moved}
 use Rattle.piper_machine.specs.Log.{answer_event}
@@ -33,18 +19,18 @@ use Rattle.piper_machine.proofs.ReaderWaits.{none_left, drop_none}
 
 -- a round of a copy moves bytes, so it is none of these
 abbrev pub is_last : AfterRead → Bool
-is_last (after_read.Round form sum) = false
+is_last (AfterRead.Round form sum) = false
 is_last next = true
 
 -- where the reader can be once an end was found
 abbrev pub is_over : ReadPoint → Bool
-is_over (at.LookTailAgain l was_closed) = was_closed
-is_over (at.LookTake l) = false
-is_over at.Yield = false
-is_over (at.CallDestination form sum) = false
-is_over (at.StoreHead n next) = is_last next
-is_over (at.TakeWriter next) = is_last next
-is_over (at.WakeWriter next) = is_last next
+is_over (ReadPoint.LookTailAgain l was_closed) = was_closed
+is_over (ReadPoint.LookTake l) = false
+is_over ReadPoint.Yield = false
+is_over (ReadPoint.CallDestination form sum) = false
+is_over (ReadPoint.StoreHead n next) = is_last next
+is_over (ReadPoint.TakeWriter next) = is_last next
+is_over (ReadPoint.WakeWriter next) = is_last next
 is_over point = true
 
 pub record Over (p : Pipe) : Type 0 where
@@ -126,22 +112,22 @@ module _ (saw ended : Bool) (p : Pipe) (closed : saw ≡ true → p.is_closed �
   )
 
   pub reader-logs : (point : ReadPoint) → IsLinked (loaded point) saw → (p.is_closed ≡ true → IsCaused (record p { reader = point })) → (ended ≡ true → Over (record p { reader = point })) → Logs point
-  reader-logs at.Idle link caused over = (tt, over)
-  reader-logs at.Dropped link caused over = (tt, over)
-  reader-logs (at.QueryHead query) link caused over = ((λ t. no_length p.unread (over t).unread, tt), over)
-  reader-logs (at.QueryTail query) link caused over = let logs = tail-logs (at.QueryTail query) refl (λ seen. refl) caused over in ((logs.0, tt), logs.1)
-  reader-logs at.QueryClosed link caused over = ((λ t. (over t).closed, tt), over)
-  reader-logs (at.LookTail l) link caused over = let logs = tail-logs (at.LookTail l) refl (λ seen. refl) caused over in ((logs.0, tt), logs.1)
-  reader-logs (at.LookRegister l) link caused over = quietly (at.LookRegister l) over (context-quiet saw ended Reader p.reader_call.context)
-  reader-logs (at.LookClosed l) link caused over = ((λ t. (over t).closed, tt), over)
-  reader-logs (at.LookTailAgain l was_closed) link caused over = let logs = tail-logs (at.LookTailAgain l was_closed) refl (λ seen. sym link ∙ seen) caused over in ((logs.0, tt), logs.1)
-  reader-logs (at.LookTake l) link caused over = (tt, over)
-  reader-logs at.Yield link caused over = quietly at.Yield over (yield-quiet saw ended p.reader_call.context)
-  reader-logs (at.CallDestination form sum) link caused over = (tt, over)
-  reader-logs (at.StoreHead n next) link caused over = ((λ t. take_none n p.unread (over t).unread, tt), over)
-  reader-logs (at.TakeWriter next) link caused over = (tt, over)
-  reader-logs (at.WakeWriter next) link caused over = quietly (at.WakeWriter next) over (wake-quiet saw ended p.reader_call.taken)
-  reader-logs at.StoreClosed link caused over = ((λ t. tt, tt), over)
+  reader-logs ReadPoint.Idle link caused over = (tt, over)
+  reader-logs ReadPoint.Dropped link caused over = (tt, over)
+  reader-logs (ReadPoint.QueryHead query) link caused over = ((λ t. no_length p.unread (over t).unread, tt), over)
+  reader-logs (ReadPoint.QueryTail query) link caused over = let logs = tail-logs (ReadPoint.QueryTail query) refl (λ seen. refl) caused over in ((logs.0, tt), logs.1)
+  reader-logs ReadPoint.QueryClosed link caused over = ((λ t. (over t).closed, tt), over)
+  reader-logs (ReadPoint.LookTail l) link caused over = let logs = tail-logs (ReadPoint.LookTail l) refl (λ seen. refl) caused over in ((logs.0, tt), logs.1)
+  reader-logs (ReadPoint.LookRegister l) link caused over = quietly (ReadPoint.LookRegister l) over (context-quiet saw ended Reader p.reader_call.context)
+  reader-logs (ReadPoint.LookClosed l) link caused over = ((λ t. (over t).closed, tt), over)
+  reader-logs (ReadPoint.LookTailAgain l was_closed) link caused over = let logs = tail-logs (ReadPoint.LookTailAgain l was_closed) refl (λ seen. sym link ∙ seen) caused over in ((logs.0, tt), logs.1)
+  reader-logs (ReadPoint.LookTake l) link caused over = (tt, over)
+  reader-logs ReadPoint.Yield link caused over = quietly ReadPoint.Yield over (yield-quiet saw ended p.reader_call.context)
+  reader-logs (ReadPoint.CallDestination form sum) link caused over = (tt, over)
+  reader-logs (ReadPoint.StoreHead n next) link caused over = ((λ t. take_none n p.unread (over t).unread, tt), over)
+  reader-logs (ReadPoint.TakeWriter next) link caused over = (tt, over)
+  reader-logs (ReadPoint.WakeWriter next) link caused over = quietly (ReadPoint.WakeWriter next) over (wake-quiet saw ended p.reader_call.taken)
+  reader-logs ReadPoint.StoreClosed link caused over = ((λ t. tt, tt), over)
 
 -- what it has seen of the close
 
@@ -153,23 +139,23 @@ abbrev pub Sees : Bool → Pipe → Type 0
 Sees saw p = (saw ≡ true → p.is_closed ≡ true) × IsLinked (loaded p.reader) saw
 
 pub reader-sees : (saw : Bool) (p : Pipe) (closed : saw ≡ true → p.is_closed ≡ true) (point : ReadPoint) → IsLinked (loaded point) saw → Sees (saw_closed_from Reader saw (logged_at point p)) (reader_after point p)
-reader-sees saw p closed at.Idle link = (closed, tt)
-reader-sees saw p closed at.Dropped link = (closed, tt)
-reader-sees saw p closed (at.QueryHead query) link = (closed, tt)
-reader-sees saw p closed (at.QueryTail query) link = (closed, tt)
-reader-sees saw p closed at.QueryClosed link = (λ seen. seen, tt)
-reader-sees saw p closed (at.LookTail l) link = (closed, unlinked _ _ (looks-unloaded (length p.unread == 0) l))
-reader-sees saw p closed (at.LookRegister l) link =
+reader-sees saw p closed ReadPoint.Idle link = (closed, tt)
+reader-sees saw p closed ReadPoint.Dropped link = (closed, tt)
+reader-sees saw p closed (ReadPoint.QueryHead query) link = (closed, tt)
+reader-sees saw p closed (ReadPoint.QueryTail query) link = (closed, tt)
+reader-sees saw p closed ReadPoint.QueryClosed link = (λ seen. seen, tt)
+reader-sees saw p closed (ReadPoint.LookTail l) link = (closed, unlinked _ _ (looks-unloaded (length p.unread == 0) l))
+reader-sees saw p closed (ReadPoint.LookRegister l) link =
     (λ seen. closed (sym (context-quiet saw false Reader p.reader_call.context).2 ∙ seen), unlinked _ _ (registers-unloaded (is_granted p.reader_call.context) l))
-reader-sees saw p closed (at.LookClosed l) link = (λ seen. seen, refl)
-reader-sees saw p closed (at.LookTailAgain l was_closed) link = (closed, unlinked _ _ (again-unloaded (length p.unread == 0) was_closed l))
-reader-sees saw p closed (at.LookTake l) link = (closed, unlinked _ _ (true-unloaded l))
-reader-sees saw p closed at.Yield link = (λ seen. closed (sym (yield-quiet saw false p.reader_call.context).2 ∙ seen), tt)
-reader-sees saw p closed (at.CallDestination form sum) link = (closed, unlinked _ _ (moved-unloaded p.capacity (taken (round_count p) p.destination) form sum))
-reader-sees saw p closed (at.StoreHead n next) link = (closed, tt)
-reader-sees saw p closed (at.TakeWriter next) link = (closed, unlinked _ _ (take-unloaded next (is_some p.writer_waker)))
-reader-sees saw p closed (at.WakeWriter next) link = (λ seen. closed (sym (wake-quiet saw false p.reader_call.taken).2 ∙ seen), unlinked _ _ (done-unloaded next))
-reader-sees saw p closed at.StoreClosed link = (λ seen. refl, tt)
+reader-sees saw p closed (ReadPoint.LookClosed l) link = (λ seen. seen, refl)
+reader-sees saw p closed (ReadPoint.LookTailAgain l was_closed) link = (closed, unlinked _ _ (again-unloaded (length p.unread == 0) was_closed l))
+reader-sees saw p closed (ReadPoint.LookTake l) link = (closed, unlinked _ _ (true-unloaded l))
+reader-sees saw p closed ReadPoint.Yield link = (λ seen. closed (sym (yield-quiet saw false p.reader_call.context).2 ∙ seen), tt)
+reader-sees saw p closed (ReadPoint.CallDestination form sum) link = (closed, unlinked _ _ (moved-unloaded p.capacity (taken (round_count p) p.destination) form sum))
+reader-sees saw p closed (ReadPoint.StoreHead n next) link = (closed, tt)
+reader-sees saw p closed (ReadPoint.TakeWriter next) link = (closed, unlinked _ _ (take-unloaded next (is_some p.writer_waker)))
+reader-sees saw p closed (ReadPoint.WakeWriter next) link = (λ seen. closed (sym (wake-quiet saw false p.reader_call.taken).2 ∙ seen), unlinked _ _ (done-unloaded next))
+reader-sees saw p closed ReadPoint.StoreClosed link = (λ seen. refl, tt)
 
 -- what the reader returns, and where it follows the answer
 
@@ -179,18 +165,18 @@ Ends saw ended point p =
     IsFinalFrom saw ended (answer_event Reader to.answer) × (ended_from saw ended (answer_event Reader to.answer) ≡ true → Over to.pipe)
 
 module _ (saw ended : Bool) (p : Pipe) where
-  query-ends : (query : Query) → (ended ≡ true → Over (record p { reader = at.QueryTail query })) → Ends saw ended (at.QueryTail query) p
+  query-ends : (query : Query) → (ended ≡ true → Over (record p { reader = ReadPoint.QueryTail query })) → Ends saw ended (ReadPoint.QueryTail query) p
   query-ends query over =
-      let after = (went Reader (record p { reader = at.QueryTail query })).pipe in
+      let after = (went Reader (record p { reader = ReadPoint.QueryTail query })).pipe in
       let stays : ended ≡ true → Over after = λ t. let o = over t in record { closed = o.closed; ended = o.ended; unread = o.unread; valid = refl } in
       query-holds (λ (answer : Answer). IsFinalFrom saw ended (answer_event Reader (Some answer)) × (ended_from saw ended (answer_event Reader (Some answer)) ≡ true → Over after)) query p.capacity (length p.unread)
       ((λ t. no_length p.unread (over t).unread, tt), stays) (λ is. ((λ t. tt, tt), stays))
 
   -- without an unread byte a look finds none
   looks-over : (none : Bool) (l : Purpose) → none ≡ true → is_over (reader_looked none l) ≡ true
-  looks-over true purpose.Poll empty = refl
-  looks-over true (purpose.Copy Try) empty = refl
-  looks-over true (purpose.Copy (Polling is_drawn)) empty = refl
+  looks-over true Purpose.Poll empty = refl
+  looks-over true (Purpose.Copy Try) empty = refl
+  looks-over true (Purpose.Copy (Polling is_drawn)) empty = refl
   looks-over false l empty = absurd (cc)
 
   abbrev Answers : Option Answer → Type 0
@@ -198,20 +184,20 @@ module _ (saw ended : Bool) (p : Pipe) where
 
   registers-final : (granted : Bool) (l : Purpose) → let next = reader_registered granted l in Answers next.answer × (is_over next.point ≡ true)
   registers-final true l = ((tt, refl), refl)
-  registers-final false purpose.Poll = (((λ t. inr refl, tt), refl), refl)
-  registers-final false (purpose.Copy Try) = (((λ t. refl, tt), refl), refl)
-  registers-final false (purpose.Copy (Polling is_drawn)) = (((λ t. inr refl, tt), refl), refl)
+  registers-final false Purpose.Poll = (((λ t. inr refl, tt), refl), refl)
+  registers-final false (Purpose.Copy Try) = (((λ t. refl, tt), refl), refl)
+  registers-final false (Purpose.Copy (Polling is_drawn)) = (((λ t. inr refl, tt), refl), refl)
 
   -- the answers that report an end: nothing was found after a close that was seen
   again-final : (none was_closed : Bool) (l : Purpose) → (ended ≡ true → (none ≡ true) × (was_closed ≡ true)) → let next = reader_looked_again none l was_closed in
       IsFinalFrom saw ended (answer_event Reader next.answer) × (ended_from saw ended (answer_event Reader next.answer) ≡ true → (none ≡ true) × (was_closed ≡ true) × (is_over next.point ≡ true))
-  again-final true true purpose.Poll over = ((λ t. inl refl, tt), λ t. (refl, refl, refl))
-  again-final true false purpose.Poll over = ((λ t. absurd (let seen = (over t).1 in cc), tt), λ t. absurd (let seen = (over t).1 in cc))
-  again-final false was_closed purpose.Poll over = (tt, λ t. absurd (let empty = (over t).0 in cc))
-  again-final true was_closed (purpose.Copy Try) over = ((λ t. refl, tt), λ t. let o = over t in (refl, o.1, refl))
-  again-final true true (purpose.Copy (Polling is_drawn)) over = ((λ t. inl refl, tt), λ t. (refl, refl, refl))
-  again-final true false (purpose.Copy (Polling is_drawn)) over = ((λ t. absurd (let seen = (over t).1 in cc), tt), λ t. absurd (let seen = (over t).1 in cc))
-  again-final false was_closed (purpose.Copy form) over = (tt, λ t. absurd (let empty = (over t).0 in cc))
+  again-final true true Purpose.Poll over = ((λ t. inl refl, tt), λ t. (refl, refl, refl))
+  again-final true false Purpose.Poll over = ((λ t. absurd (let seen = (over t).1 in cc), tt), λ t. absurd (let seen = (over t).1 in cc))
+  again-final false was_closed Purpose.Poll over = (tt, λ t. absurd (let empty = (over t).0 in cc))
+  again-final true was_closed (Purpose.Copy Try) over = ((λ t. refl, tt), λ t. let o = over t in (refl, o.1, refl))
+  again-final true true (Purpose.Copy (Polling is_drawn)) over = ((λ t. inl refl, tt), λ t. (refl, refl, refl))
+  again-final true false (Purpose.Copy (Polling is_drawn)) over = ((λ t. absurd (let seen = (over t).1 in cc), tt), λ t. absurd (let seen = (over t).1 in cc))
+  again-final false was_closed (Purpose.Copy form) over = (tt, λ t. absurd (let empty = (over t).0 in cc))
 
   -- where a byte is there no end was found
   yield-final : (granted : Bool) → (ended ≡ true → false ≡ true) → Answers (Some (yield_answer granted))
@@ -226,46 +212,46 @@ module _ (saw ended : Bool) (p : Pipe) where
   moved-final true n form sum none = count-final form sum none
   moved-final false n form sum none = (tt, refl)
 
-  round-final : (taken : Result ℕ Failed) (form : Form) (sum : ℕ) → (ended ≡ true → false ≡ true) → Answers (read_after p.capacity (at.CallDestination form sum) (found_of taken)).answer
+  round-final : (taken : Result ℕ Failed) (form : Form) (sum : ℕ) → (ended ≡ true → false ≡ true) → Answers (read_after p.capacity (ReadPoint.CallDestination form sum) (found_of taken)).answer
   round-final (Ok n) form sum none = moved-final (n == 0) n form sum none
   round-final (Err fails) form sum none = ((λ t. absurd (let no = none t in cc), tt), refl)
 
   done-final : (next : AfterRead) → (ended ≡ true → is_last next ≡ true) → let to = read_done next in Answers to.answer × (ended ≡ true → is_over to.point ≡ true)
-  done-final after_read.Answer last = (((λ t. tt, tt), refl), λ t. refl)
-  done-final after_read.Drop last = (((λ t. tt, tt), refl), λ t. refl)
-  done-final (after_read.Round form sum) last = ((tt, refl), last)
+  done-final AfterRead.Answer last = (((λ t. tt, tt), refl), λ t. refl)
+  done-final AfterRead.Drop last = (((λ t. tt, tt), refl), λ t. refl)
+  done-final (AfterRead.Round form sum) last = ((tt, refl), last)
 
   take-final : (next : AfterRead) (is_found : Bool) → (ended ≡ true → is_last next ≡ true) → let to = writer_taken next is_found in Answers to.answer × (ended ≡ true → is_over to.point ≡ true)
   take-final next false last = done-final next last
   take-final next true last = ((tt, refl), last)
 
   pub reader-ends : (point : ReadPoint) → (saw_close point ≡ true → p.is_closed ≡ true) → (p.is_closed ≡ true → IsCaused (record p { reader = point })) → (ended ≡ true → Over (record p { reader = point })) → Ends saw ended point p
-  reader-ends (at.QueryTail query) seen caused over = query-ends query over
-  reader-ends at.QueryClosed seen caused over = ((λ t. tt, tt), λ t. let o = over t in record { closed = o.closed; ended = o.ended; unread = o.unread; valid = refl })
-  reader-ends (at.LookTail l) seen caused over =
+  reader-ends (ReadPoint.QueryTail query) seen caused over = query-ends query over
+  reader-ends ReadPoint.QueryClosed seen caused over = ((λ t. tt, tt), λ t. let o = over t in record { closed = o.closed; ended = o.ended; unread = o.unread; valid = refl })
+  reader-ends (ReadPoint.LookTail l) seen caused over =
       (tt, λ t. let o = over t in record { closed = o.closed; ended = o.ended; unread = o.unread; valid = looks-over (length p.unread == 0) l (none_test p.unread o.unread) })
-  reader-ends (at.LookRegister l) seen caused over =
+  reader-ends (ReadPoint.LookRegister l) seen caused over =
       let next = registers-final (is_granted p.reader_call.context) l in
       (next.0.0, λ t. let o = over (sym next.0.1 ∙ t) in record { closed = o.closed; ended = o.ended; unread = o.unread; valid = next.1 })
-  reader-ends (at.LookClosed l) seen caused over = (tt, λ t. let o = over t in record { closed = o.closed; ended = o.ended; unread = o.unread; valid = o.closed })
-  reader-ends (at.LookTailAgain l was_closed) seen caused over =
+  reader-ends (ReadPoint.LookClosed l) seen caused over = (tt, λ t. let o = over t in record { closed = o.closed; ended = o.ended; unread = o.unread; valid = o.closed })
+  reader-ends (ReadPoint.LookTailAgain l was_closed) seen caused over =
       let next = again-final (length p.unread == 0) was_closed l (λ t. (none_test p.unread (over t).unread, (over t).valid)) in
       let by_writer : p.is_closed ≡ true → IsEnded p = λ closed. elim (caused closed) [ inl leaves ↦ absurd (cc) | inr is_ended ↦ is_ended ] in
       (next.0, λ t. let noted = next.1 t in record { closed = seen noted.1; ended = by_writer (seen noted.1); unread = none_left p.unread noted.0; valid = noted.2 })
-  reader-ends (at.LookTake purpose.Poll) seen caused over = ((λ t. absurd (let none = (over t).valid in cc), tt), λ t. absurd (let none = (over t).valid in cc))
-  reader-ends (at.LookTake (purpose.Copy form)) seen caused over = (tt, λ t. absurd (let none = (over t).valid in cc))
-  reader-ends at.Yield seen caused over =
+  reader-ends (ReadPoint.LookTake Purpose.Poll) seen caused over = ((λ t. absurd (let none = (over t).valid in cc), tt), λ t. absurd (let none = (over t).valid in cc))
+  reader-ends (ReadPoint.LookTake (Purpose.Copy form)) seen caused over = (tt, λ t. absurd (let none = (over t).valid in cc))
+  reader-ends ReadPoint.Yield seen caused over =
       let to = yield-final (is_yield_granted p.reader_call.context) (λ t. (over t).valid) in
       (to.0, λ t. absurd (let none = (over (sym to.1 ∙ t)).valid in cc))
-  reader-ends (at.CallDestination form sum) seen caused over =
+  reader-ends (ReadPoint.CallDestination form sum) seen caused over =
       let to = round-final (taken (round_count p) p.destination) form sum (λ t. (over t).valid) in
       (to.0, λ t. absurd (let none = (over (sym to.1 ∙ t)).valid in cc))
-  reader-ends (at.StoreHead n next) seen caused over = (tt, λ t. let o = over t in record { closed = o.closed; ended = o.ended; unread = drop_none n p.unread o.unread; valid = o.valid })
-  reader-ends (at.TakeWriter next) seen caused over =
+  reader-ends (ReadPoint.StoreHead n next) seen caused over = (tt, λ t. let o = over t in record { closed = o.closed; ended = o.ended; unread = drop_none n p.unread o.unread; valid = o.valid })
+  reader-ends (ReadPoint.TakeWriter next) seen caused over =
       let to = take-final next (is_some p.writer_waker) (λ t. (over t).valid) in
       (to.0.0, λ t. let o = over (sym to.0.1 ∙ t) in record { closed = o.closed; ended = o.ended; unread = o.unread; valid = to.1 (sym to.0.1 ∙ t) })
-  reader-ends (at.WakeWriter next) seen caused over =
+  reader-ends (ReadPoint.WakeWriter next) seen caused over =
       let to = done-final next (λ t. (over t).valid) in
       (to.0.0, λ t. let o = over (sym to.0.1 ∙ t) in record { closed = o.closed; ended = o.ended; unread = o.unread; valid = to.1 (sym to.0.1 ∙ t) })
-  reader-ends at.StoreClosed seen caused over = (tt, λ t. let o = over t in record { closed = refl; ended = o.ended; unread = o.unread; valid = refl })
+  reader-ends ReadPoint.StoreClosed seen caused over = (tt, λ t. let o = over t in record { closed = refl; ended = o.ended; unread = o.unread; valid = refl })
   reader-ends point seen caused over = (tt, λ t. let o = over t in record { closed = o.closed; ended = o.ended; unread = o.unread; valid = o.valid })

@@ -1,18 +1,6 @@
 -- A step of a side leaves what remains of its call, and it brings the answer nearer.
 use Rattle.std.proofs.Common.{◌≡◌, ℕ, ◌+◌, ◌-◌, ◌<◌, ◌≤◌, List, length, Bool, true, false, Option, None, Some, if◌then◌else◌, ◌==◌, is_some, lit<, lit≤, refl, ap, ◌∙◌, arith, length-append}
-use Rattle.piper_protocol.specs.declared.table.Side.TheVariants.{Reader, Writer}
-use Rattle.piper_machine.specs.declared.calls.SideState.TheVariants.{Busy}
-use Rattle.piper_protocol.specs.declared.answer.Answer.{Answer}
-use Rattle.piper_protocol.specs.declared.answer.Answer.TheVariants.{Done}
-use Rattle.piper_protocol.specs.declared.table.Purpose.TheVariants as purpose
-use Rattle.piper_protocol.specs.declared.table.AfterRead.{AfterRead}
-use Rattle.piper_protocol.specs.declared.table.AfterRead.TheVariants as after_read
-use Rattle.piper_protocol.specs.declared.table.AfterWrite.{AfterWrite}
-use Rattle.piper_protocol.specs.declared.table.AfterWrite.TheVariants as after_write
-use Rattle.piper_protocol.specs.declared.table.ReadPoint.{ReadPoint}
-use Rattle.piper_protocol.specs.declared.table.ReadPoint.TheVariants as at
-use Rattle.piper_protocol.specs.declared.table.WritePoint.{WritePoint}
-use Rattle.piper_protocol.specs.declared.table.WritePoint.TheVariants as on
+use Rattle.piper_machine.specs.Types.{Purpose, Answer, AfterRead, AfterWrite, ReadPoint, WritePoint, Reader, Writer, Busy, Done, Go}
 use Rattle.piper_machine.specs.Open.{is_granted}
 use Rattle.piper_machine.specs.Pipe.{Pipe}
 use Rattle.piper_machine.specs.Move.{with_waker}
@@ -20,7 +8,6 @@ use Rattle.piper_machine.specs.Refusal.{reader_state, writer_state}
 use Rattle.piper_protocol.specs.Table.{Next, goes_on, read_action, write_action, reader_looked, reader_looked_again, reader_registered, writer_taken, writer_is_open, writer_looked, writer_looked_again, writer_registered, reader_taken, own_taken}
 use Rattle.piper_machine.specs.Action.{index_loaded_by, registered_in}
 use Rattle.piper_machine.specs.Step.{Stepped, went, call_after, source_after, destination_after, stepped}
-use Rattle.piper_machine.specs.declared.calls.Step.TheVariants.{Go}
 use Rattle.piper_machine.specs.Alone.{Ended, heard, reader_alone, read_steps, read_wakes, is_draining, is_drain_round, is_filling, is_fill_round, writer_alone, write_steps, write_wakes, reader_looks_alone, reader_again_alone, reader_granted_alone, reader_done_alone, writer_ended, writer_open_alone, writer_looks_alone, writer_granted_alone, writer_again_alone, writer_done_alone, steps_after, wakes_after}
 
 -- what remains after a step of the reader: all that is left, or the answer that the step gave
@@ -39,42 +26,42 @@ reader_settled next p = record p { reader = next.point; reader_call = call_after
 abbrev pub reader_rest_at : Next ReadPoint → Pipe → Ended
 reader_rest_at next p = reader_rest next.answer (reader_settled next p)
 
-looks-rest : (none : Bool) (p : Pipe) → reader_looks_alone none purpose.Poll (record p { reader = at.Idle }) ≡ reader_rest_at (goes_on (reader_looked none purpose.Poll)) p
+looks-rest : (none : Bool) (p : Pipe) → reader_looks_alone none Purpose.Poll (record p { reader = ReadPoint.Idle }) ≡ reader_rest_at (goes_on (reader_looked none Purpose.Poll)) p
 looks-rest true p = refl
 looks-rest false p = refl
 
-registers-rest : (is_granted : Bool) (p : Pipe) → reader_granted_alone is_granted purpose.Poll (record p { reader = at.Idle }) ≡ reader_rest_at (reader_registered is_granted purpose.Poll) p
+registers-rest : (is_granted : Bool) (p : Pipe) → reader_granted_alone is_granted Purpose.Poll (record p { reader = ReadPoint.Idle }) ≡ reader_rest_at (reader_registered is_granted Purpose.Poll) p
 registers-rest true p = refl
 registers-rest false p = refl
 
-again-rest : (none was_closed : Bool) (p : Pipe) → reader_again_alone none purpose.Poll was_closed (record p { reader = at.Idle }) ≡ reader_rest_at (reader_looked_again none purpose.Poll was_closed) p
+again-rest : (none was_closed : Bool) (p : Pipe) → reader_again_alone none Purpose.Poll was_closed (record p { reader = ReadPoint.Idle }) ≡ reader_rest_at (reader_looked_again none Purpose.Poll was_closed) p
 again-rest true was_closed p = refl
 again-rest false was_closed p = refl
 
-take-rest : (next : AfterRead) (name : Option ℕ) (p : Pipe) → is_drain_round next ≡ false → reader_done_alone next (record p { reader = at.Idle; writer_waker = None; woken = with_waker p.woken name }) ≡ reader_rest_at (writer_taken next (is_some name)) (record p { writer_waker = None; reader_call = record p.reader_call { taken = name } })
-take-rest after_read.Answer None p plain = refl
-take-rest after_read.Drop None p plain = refl
-take-rest after_read.Answer (Some name) p plain = refl
-take-rest after_read.Drop (Some name) p plain = refl
-take-rest (after_read.Round form sum) name p plain = absurd (cc)
+take-rest : (next : AfterRead) (name : Option ℕ) (p : Pipe) → is_drain_round next ≡ false → reader_done_alone next (record p { reader = ReadPoint.Idle; writer_waker = None; woken = with_waker p.woken name }) ≡ reader_rest_at (writer_taken next (is_some name)) (record p { writer_waker = None; reader_call = record p.reader_call { taken = name } })
+take-rest AfterRead.Answer None p plain = refl
+take-rest AfterRead.Drop None p plain = refl
+take-rest AfterRead.Answer (Some name) p plain = refl
+take-rest AfterRead.Drop (Some name) p plain = refl
+take-rest (AfterRead.Round form sum) name p plain = absurd (cc)
 
 pub reader-rest : (point : ReadPoint) (p : Pipe) → reader_state point ≡ Busy → is_draining point ≡ false → let s = read_step point p in reader_alone point p ≡ reader_rest s.answer s.pipe
-reader-rest at.Idle p busy plain = absurd (cc)
-reader-rest at.Dropped p busy plain = absurd (cc)
-reader-rest (at.QueryHead query) p busy plain = refl
-reader-rest (at.QueryTail query) p busy plain = refl
-reader-rest at.QueryClosed p busy plain = refl
-reader-rest (at.LookTail purpose.Poll) p busy plain = looks-rest (length p.unread == 0) (index_loaded_by Reader p)
-reader-rest (at.LookRegister purpose.Poll) p busy plain = registers-rest (is_granted p.reader_call.context) (record p { reader_waker = registered_in p.reader_call.context p.reader_waker })
-reader-rest (at.LookClosed purpose.Poll) p busy plain = refl
-reader-rest (at.LookTailAgain purpose.Poll was_closed) p busy plain = again-rest (length p.unread == 0) was_closed (index_loaded_by Reader p)
-reader-rest (at.LookTake purpose.Poll) p busy plain = refl
-reader-rest (at.StoreHead n after_read.Answer) p busy plain = refl
-reader-rest (at.StoreHead n after_read.Drop) p busy plain = refl
-reader-rest (at.TakeWriter next) p busy plain = take-rest next p.writer_waker p plain
-reader-rest (at.WakeWriter after_read.Answer) p busy plain = refl
-reader-rest (at.WakeWriter after_read.Drop) p busy plain = refl
-reader-rest at.StoreClosed p busy plain = refl
+reader-rest ReadPoint.Idle p busy plain = absurd (cc)
+reader-rest ReadPoint.Dropped p busy plain = absurd (cc)
+reader-rest (ReadPoint.QueryHead query) p busy plain = refl
+reader-rest (ReadPoint.QueryTail query) p busy plain = refl
+reader-rest ReadPoint.QueryClosed p busy plain = refl
+reader-rest (ReadPoint.LookTail Purpose.Poll) p busy plain = looks-rest (length p.unread == 0) (index_loaded_by Reader p)
+reader-rest (ReadPoint.LookRegister Purpose.Poll) p busy plain = registers-rest (is_granted p.reader_call.context) (record p { reader_waker = registered_in p.reader_call.context p.reader_waker })
+reader-rest (ReadPoint.LookClosed Purpose.Poll) p busy plain = refl
+reader-rest (ReadPoint.LookTailAgain Purpose.Poll was_closed) p busy plain = again-rest (length p.unread == 0) was_closed (index_loaded_by Reader p)
+reader-rest (ReadPoint.LookTake Purpose.Poll) p busy plain = refl
+reader-rest (ReadPoint.StoreHead n AfterRead.Answer) p busy plain = refl
+reader-rest (ReadPoint.StoreHead n AfterRead.Drop) p busy plain = refl
+reader-rest (ReadPoint.TakeWriter next) p busy plain = take-rest next p.writer_waker p plain
+reader-rest (ReadPoint.WakeWriter AfterRead.Answer) p busy plain = refl
+reader-rest (ReadPoint.WakeWriter AfterRead.Drop) p busy plain = refl
+reader-rest ReadPoint.StoreClosed p busy plain = refl
 reader-rest point p busy plain = absurd (cc)
 
 -- the most steps that remain, if the other side makes none: a look finds what there is
@@ -83,7 +70,7 @@ reads_left point p = read_steps (length p.unread) p.known point
 
 -- and the writer, where so many places are free, checks for them only where it knows of no room
 abbrev pub write_found : WritePoint → ℕ → ℕ → ℕ
-write_found (on.LookClosed l) room free = if room == 0 then free else room
+write_found (WritePoint.LookClosed l) room free = if room == 0 then free else room
 write_found point room free = free
 
 abbrev pub writes_left : WritePoint → Pipe → ℕ
@@ -100,42 +87,42 @@ IsNearer point p next q = next.answer ≡ None → (reader_state next.point ≡ 
 near : (steps_before steps_after wakes_before wakes_after n : ℕ) → steps_after < steps_before → wakes_after ≤ wakes_before → Nearer steps_before steps_after wakes_before wakes_after n n
 near steps_before steps_after wakes_before wakes_after n fewer fewer_wakes = record { steps = fewer; wakes = omega arith }
 
-looks-near : (none : Bool) (p q : Pipe) → q.woken ≡ p.woken → IsNearer (at.LookTail purpose.Poll) p (goes_on (reader_looked none purpose.Poll)) q
+looks-near : (none : Bool) (p q : Pipe) → q.woken ≡ p.woken → IsNearer (ReadPoint.LookTail Purpose.Poll) p (goes_on (reader_looked none Purpose.Poll)) q
 looks-near true p q same goes = (refl, refl, rw same (near 5 4 0 0 (length p.woken) (lit< tt) (lit≤ tt)))
 looks-near false p q same goes = (refl, refl, rw same (near 5 1 0 0 (length p.woken) (lit< tt) (lit≤ tt)))
 
-registers-near : (is_granted : Bool) (p q : Pipe) → q.woken ≡ p.woken → IsNearer (at.LookRegister purpose.Poll) p (reader_registered is_granted purpose.Poll) q
+registers-near : (is_granted : Bool) (p q : Pipe) → q.woken ≡ p.woken → IsNearer (ReadPoint.LookRegister Purpose.Poll) p (reader_registered is_granted Purpose.Poll) q
 registers-near true p q same goes = (refl, refl, rw same (near 4 3 0 0 (length p.woken) (lit< tt) (lit≤ tt)))
 registers-near false p q same goes = absurd (cc)
 
-again-near : (none was_closed : Bool) (p q : Pipe) → q.woken ≡ p.woken → IsNearer (at.LookTailAgain purpose.Poll was_closed) p (reader_looked_again none purpose.Poll was_closed) q
+again-near : (none was_closed : Bool) (p q : Pipe) → q.woken ≡ p.woken → IsNearer (ReadPoint.LookTailAgain Purpose.Poll was_closed) p (reader_looked_again none Purpose.Poll was_closed) q
 again-near true was_closed p q same goes = absurd (cc)
 again-near false was_closed p q same goes = (refl, refl, rw same (near 2 1 0 0 (length p.woken) (lit< tt) (lit≤ tt)))
 
-take-near : (next : AfterRead) (is_found : Bool) (p q : Pipe) → is_drain_round next ≡ false → q.woken ≡ p.woken → IsNearer (at.TakeWriter next) p (writer_taken next is_found) q
-take-near after_read.Answer false p q plain same goes = absurd (cc)
-take-near after_read.Drop false p q plain same goes = absurd (cc)
-take-near after_read.Answer true p q plain same goes = (refl, refl, rw same (near 2 1 1 1 (length p.woken) (lit< tt) (lit≤ tt)))
-take-near after_read.Drop true p q plain same goes = (refl, refl, rw same (near 2 1 1 1 (length p.woken) (lit< tt) (lit≤ tt)))
-take-near (after_read.Round form sum) is_found p q plain same goes = absurd (cc)
+take-near : (next : AfterRead) (is_found : Bool) (p q : Pipe) → is_drain_round next ≡ false → q.woken ≡ p.woken → IsNearer (ReadPoint.TakeWriter next) p (writer_taken next is_found) q
+take-near AfterRead.Answer false p q plain same goes = absurd (cc)
+take-near AfterRead.Drop false p q plain same goes = absurd (cc)
+take-near AfterRead.Answer true p q plain same goes = (refl, refl, rw same (near 2 1 1 1 (length p.woken) (lit< tt) (lit≤ tt)))
+take-near AfterRead.Drop true p q plain same goes = (refl, refl, rw same (near 2 1 1 1 (length p.woken) (lit< tt) (lit≤ tt)))
+take-near (AfterRead.Round form sum) is_found p q plain same goes = absurd (cc)
 
 pub reader-nearer : (point : ReadPoint) (p : Pipe) → reader_state point ≡ Busy → is_draining point ≡ false → let s = read_step point p in s.answer ≡ None → (reader_state s.pipe.reader ≡ Busy) × (is_draining s.pipe.reader ≡ false) × Nearer (reads_left point p) (reads_left s.pipe.reader s.pipe) (read_wakes point) (read_wakes s.pipe.reader) (length p.woken) (length s.pipe.woken)
-reader-nearer at.Idle p busy plain goes = absurd (cc)
-reader-nearer at.Dropped p busy plain goes = absurd (cc)
-reader-nearer (at.QueryHead query) p busy plain goes = (refl, refl, near 2 1 0 0 (length p.woken) (lit< tt) (lit≤ tt))
-reader-nearer (at.QueryTail query) p busy plain goes = absurd (cc)
-reader-nearer at.QueryClosed p busy plain goes = absurd (cc)
-reader-nearer (at.LookTail purpose.Poll) p busy plain goes = looks-near (length p.unread == 0) p (index_loaded_by Reader p) refl goes
-reader-nearer (at.LookRegister purpose.Poll) p busy plain goes = registers-near (is_granted p.reader_call.context) p p refl goes
-reader-nearer (at.LookClosed purpose.Poll) p busy plain goes = (refl, refl, near 3 2 0 0 (length p.woken) (lit< tt) (lit≤ tt))
-reader-nearer (at.LookTailAgain purpose.Poll was_closed) p busy plain goes = again-near (length p.unread == 0) was_closed p (index_loaded_by Reader p) refl goes
-reader-nearer (at.LookTake purpose.Poll) p busy plain goes = absurd (cc)
-reader-nearer (at.StoreHead n after_read.Answer) p busy plain goes = (refl, refl, near 3 2 1 1 (length p.woken) (lit< tt) (lit≤ tt))
-reader-nearer (at.StoreHead n after_read.Drop) p busy plain goes = (refl, refl, near 3 2 1 1 (length p.woken) (lit< tt) (lit≤ tt))
-reader-nearer (at.TakeWriter next) p busy plain goes = take-near next (is_some p.writer_waker) p p plain refl goes
-reader-nearer (at.WakeWriter after_read.Answer) p busy plain goes = absurd (cc)
-reader-nearer (at.WakeWriter after_read.Drop) p busy plain goes = absurd (cc)
-reader-nearer at.StoreClosed p busy plain goes = (refl, refl, near 3 2 1 1 (length p.woken) (lit< tt) (lit≤ tt))
+reader-nearer ReadPoint.Idle p busy plain goes = absurd (cc)
+reader-nearer ReadPoint.Dropped p busy plain goes = absurd (cc)
+reader-nearer (ReadPoint.QueryHead query) p busy plain goes = (refl, refl, near 2 1 0 0 (length p.woken) (lit< tt) (lit≤ tt))
+reader-nearer (ReadPoint.QueryTail query) p busy plain goes = absurd (cc)
+reader-nearer ReadPoint.QueryClosed p busy plain goes = absurd (cc)
+reader-nearer (ReadPoint.LookTail Purpose.Poll) p busy plain goes = looks-near (length p.unread == 0) p (index_loaded_by Reader p) refl goes
+reader-nearer (ReadPoint.LookRegister Purpose.Poll) p busy plain goes = registers-near (is_granted p.reader_call.context) p p refl goes
+reader-nearer (ReadPoint.LookClosed Purpose.Poll) p busy plain goes = (refl, refl, near 3 2 0 0 (length p.woken) (lit< tt) (lit≤ tt))
+reader-nearer (ReadPoint.LookTailAgain Purpose.Poll was_closed) p busy plain goes = again-near (length p.unread == 0) was_closed p (index_loaded_by Reader p) refl goes
+reader-nearer (ReadPoint.LookTake Purpose.Poll) p busy plain goes = absurd (cc)
+reader-nearer (ReadPoint.StoreHead n AfterRead.Answer) p busy plain goes = (refl, refl, near 3 2 1 1 (length p.woken) (lit< tt) (lit≤ tt))
+reader-nearer (ReadPoint.StoreHead n AfterRead.Drop) p busy plain goes = (refl, refl, near 3 2 1 1 (length p.woken) (lit< tt) (lit≤ tt))
+reader-nearer (ReadPoint.TakeWriter next) p busy plain goes = take-near next (is_some p.writer_waker) p p plain refl goes
+reader-nearer (ReadPoint.WakeWriter AfterRead.Answer) p busy plain goes = absurd (cc)
+reader-nearer (ReadPoint.WakeWriter AfterRead.Drop) p busy plain goes = absurd (cc)
+reader-nearer ReadPoint.StoreClosed p busy plain goes = (refl, refl, near 3 2 1 1 (length p.woken) (lit< tt) (lit≤ tt))
 reader-nearer point p busy plain goes = absurd (cc)
 
 -- the writer
@@ -153,89 +140,89 @@ writer_settled next p = record p { writer = next.point; writer_call = call_after
 abbrev pub writer_rest_at : Next WritePoint → Pipe → Ended
 writer_rest_at next p = writer_rest next.answer (writer_settled next p)
 
-open-rest : (is_closed none : Bool) (p : Pipe) → writer_open_alone is_closed none purpose.Poll (record p { writer = on.Idle }) ≡ writer_rest_at (writer_is_open is_closed none purpose.Poll) p
+open-rest : (is_closed none : Bool) (p : Pipe) → writer_open_alone is_closed none Purpose.Poll (record p { writer = WritePoint.Idle }) ≡ writer_rest_at (writer_is_open is_closed none Purpose.Poll) p
 open-rest true none p = refl
 open-rest false true p = refl
 open-rest false false p = refl
 
-loads-rest : (none : Bool) (p : Pipe) → writer_looks_alone none purpose.Poll (record p { writer = on.Idle }) ≡ writer_rest_at (goes_on (writer_looked none purpose.Poll)) p
+loads-rest : (none : Bool) (p : Pipe) → writer_looks_alone none Purpose.Poll (record p { writer = WritePoint.Idle }) ≡ writer_rest_at (goes_on (writer_looked none Purpose.Poll)) p
 loads-rest true p = refl
 loads-rest false p = refl
 
-writer_registers-rest : (is_granted : Bool) (p : Pipe) → writer_granted_alone is_granted purpose.Poll (record p { writer = on.Idle }) ≡ writer_rest_at (writer_registered is_granted purpose.Poll) p
+writer_registers-rest : (is_granted : Bool) (p : Pipe) → writer_granted_alone is_granted Purpose.Poll (record p { writer = WritePoint.Idle }) ≡ writer_rest_at (writer_registered is_granted Purpose.Poll) p
 writer_registers-rest true p = refl
 writer_registers-rest false p = refl
 
-writer_again-rest : (none : Bool) (p : Pipe) → writer_again_alone none purpose.Poll (record p { writer = on.Idle }) ≡ writer_rest_at (goes_on (writer_looked_again none purpose.Poll)) p
+writer_again-rest : (none : Bool) (p : Pipe) → writer_again_alone none Purpose.Poll (record p { writer = WritePoint.Idle }) ≡ writer_rest_at (goes_on (writer_looked_again none Purpose.Poll)) p
 writer_again-rest true p = refl
 writer_again-rest false p = refl
 
-reader_take-rest : (next : AfterWrite) (name : Option ℕ) (p : Pipe) → is_fill_round next ≡ false → writer_done_alone next (record p { writer = on.Idle; reader_waker = None; woken = with_waker p.woken name }) ≡ writer_rest_at (reader_taken next (is_some name)) (record p { reader_waker = None; writer_call = record p.writer_call { taken = name } })
-reader_take-rest after_write.Answer None p plain = refl
-reader_take-rest after_write.Drop None p plain = refl
-reader_take-rest after_write.WakeWriter None p plain = refl
-reader_take-rest after_write.Answer (Some name) p plain = refl
-reader_take-rest after_write.Drop (Some name) p plain = refl
-reader_take-rest after_write.WakeWriter (Some name) p plain = refl
-reader_take-rest (after_write.Round form sum) name p plain = absurd (cc)
+reader_take-rest : (next : AfterWrite) (name : Option ℕ) (p : Pipe) → is_fill_round next ≡ false → writer_done_alone next (record p { writer = WritePoint.Idle; reader_waker = None; woken = with_waker p.woken name }) ≡ writer_rest_at (reader_taken next (is_some name)) (record p { reader_waker = None; writer_call = record p.writer_call { taken = name } })
+reader_take-rest AfterWrite.Answer None p plain = refl
+reader_take-rest AfterWrite.Drop None p plain = refl
+reader_take-rest AfterWrite.WakeWriter None p plain = refl
+reader_take-rest AfterWrite.Answer (Some name) p plain = refl
+reader_take-rest AfterWrite.Drop (Some name) p plain = refl
+reader_take-rest AfterWrite.WakeWriter (Some name) p plain = refl
+reader_take-rest (AfterWrite.Round form sum) name p plain = absurd (cc)
 
-own_take-rest : (name : Option ℕ) (p : Pipe) → writer_ended on.Idle Done (record p { writer = on.Idle; writer_waker = None; woken = with_waker p.woken name }) ≡ writer_rest_at (own_taken (is_some name)) (record p { writer_waker = None; writer_call = record p.writer_call { taken = name } })
+own_take-rest : (name : Option ℕ) (p : Pipe) → writer_ended WritePoint.Idle Done (record p { writer = WritePoint.Idle; writer_waker = None; woken = with_waker p.woken name }) ≡ writer_rest_at (own_taken (is_some name)) (record p { writer_waker = None; writer_call = record p.writer_call { taken = name } })
 own_take-rest None p = refl
 own_take-rest (Some name) p = refl
 
 pub writer-rest : (point : WritePoint) (p : Pipe) → writer_state point ≡ Busy → is_filling point ≡ false → let s = write_step point p in writer_alone point p ≡ writer_rest s.answer s.pipe
-writer-rest on.Idle p busy plain = absurd (cc)
-writer-rest on.Dropped p busy plain = absurd (cc)
-writer-rest (on.QueryHead query) p busy plain = refl
-writer-rest (on.QueryTail query count) p busy plain = refl
-writer-rest on.QueryClosed p busy plain = refl
-writer-rest (on.LookClosed purpose.Poll) p busy plain = open-rest p.is_closed (p.room == 0) p
-writer-rest (on.LookHead purpose.Poll) p busy plain = loads-rest (p.capacity - length p.unread == 0) (index_loaded_by Writer p)
-writer-rest (on.LookRegister purpose.Poll) p busy plain = writer_registers-rest (is_granted p.writer_call.context) (record p { writer_waker = registered_in p.writer_call.context p.writer_waker })
-writer-rest (on.LookHeadAgain purpose.Poll) p busy plain = writer_again-rest (p.capacity - length p.unread == 0) (index_loaded_by Writer p)
-writer-rest (on.LookClosedAgain purpose.Poll) p busy plain = refl
-writer-rest (on.LookTake purpose.Poll) p busy plain = refl
-writer-rest (on.StoreTail n after_write.Answer) p busy plain = refl
-writer-rest (on.StoreTail n after_write.Drop) p busy plain = refl
-writer-rest (on.StoreTail n after_write.WakeWriter) p busy plain = refl
-writer-rest (on.TakeReader next) p busy plain = reader_take-rest next p.reader_waker p plain
-writer-rest (on.WakeReader after_write.Answer) p busy plain = refl
-writer-rest (on.WakeReader after_write.Drop) p busy plain = refl
-writer-rest (on.WakeReader after_write.WakeWriter) p busy plain = refl
-writer-rest (on.StoreClosed after_write.Answer) p busy plain = refl
-writer-rest (on.StoreClosed after_write.Drop) p busy plain = refl
-writer-rest (on.StoreClosed after_write.WakeWriter) p busy plain = refl
-writer-rest on.TakeWriter p busy plain = own_take-rest p.writer_waker p
-writer-rest on.WakeWriter p busy plain = refl
+writer-rest WritePoint.Idle p busy plain = absurd (cc)
+writer-rest WritePoint.Dropped p busy plain = absurd (cc)
+writer-rest (WritePoint.QueryHead query) p busy plain = refl
+writer-rest (WritePoint.QueryTail query count) p busy plain = refl
+writer-rest WritePoint.QueryClosed p busy plain = refl
+writer-rest (WritePoint.LookClosed Purpose.Poll) p busy plain = open-rest p.is_closed (p.room == 0) p
+writer-rest (WritePoint.LookHead Purpose.Poll) p busy plain = loads-rest (p.capacity - length p.unread == 0) (index_loaded_by Writer p)
+writer-rest (WritePoint.LookRegister Purpose.Poll) p busy plain = writer_registers-rest (is_granted p.writer_call.context) (record p { writer_waker = registered_in p.writer_call.context p.writer_waker })
+writer-rest (WritePoint.LookHeadAgain Purpose.Poll) p busy plain = writer_again-rest (p.capacity - length p.unread == 0) (index_loaded_by Writer p)
+writer-rest (WritePoint.LookClosedAgain Purpose.Poll) p busy plain = refl
+writer-rest (WritePoint.LookTake Purpose.Poll) p busy plain = refl
+writer-rest (WritePoint.StoreTail n AfterWrite.Answer) p busy plain = refl
+writer-rest (WritePoint.StoreTail n AfterWrite.Drop) p busy plain = refl
+writer-rest (WritePoint.StoreTail n AfterWrite.WakeWriter) p busy plain = refl
+writer-rest (WritePoint.TakeReader next) p busy plain = reader_take-rest next p.reader_waker p plain
+writer-rest (WritePoint.WakeReader AfterWrite.Answer) p busy plain = refl
+writer-rest (WritePoint.WakeReader AfterWrite.Drop) p busy plain = refl
+writer-rest (WritePoint.WakeReader AfterWrite.WakeWriter) p busy plain = refl
+writer-rest (WritePoint.StoreClosed AfterWrite.Answer) p busy plain = refl
+writer-rest (WritePoint.StoreClosed AfterWrite.Drop) p busy plain = refl
+writer-rest (WritePoint.StoreClosed AfterWrite.WakeWriter) p busy plain = refl
+writer-rest WritePoint.TakeWriter p busy plain = own_take-rest p.writer_waker p
+writer-rest WritePoint.WakeWriter p busy plain = refl
 writer-rest point p busy plain = absurd (cc)
 
 -- a call that copies nothing lends nothing as it goes
 pub plain-step : (point : WritePoint) (lent : List ℕ) (p : Pipe) → is_filling point ≡ false → stepped lent (Go Writer) (heard Writer (write_action point) (record p { writer = point })) ≡ write_step point p
-plain-step (on.QueryHead query) lent p plain = refl
-plain-step (on.QueryTail query count) lent p plain = refl
-plain-step on.QueryClosed lent p plain = refl
-plain-step (on.LookClosed purpose.Poll) lent p plain = refl
-plain-step (on.LookHead purpose.Poll) lent p plain = refl
-plain-step (on.LookRegister purpose.Poll) lent p plain = refl
-plain-step (on.LookHeadAgain purpose.Poll) lent p plain = refl
-plain-step (on.LookClosedAgain purpose.Poll) lent p plain = refl
-plain-step (on.LookTake purpose.Poll) lent p plain = refl
-plain-step (on.StoreTail n after_write.Answer) lent p plain = refl
-plain-step (on.StoreTail n after_write.Drop) lent p plain = refl
-plain-step (on.StoreTail n after_write.WakeWriter) lent p plain = refl
-plain-step (on.TakeReader after_write.Answer) lent p plain = refl
-plain-step (on.TakeReader after_write.Drop) lent p plain = refl
-plain-step (on.TakeReader after_write.WakeWriter) lent p plain = refl
-plain-step (on.WakeReader after_write.Answer) lent p plain = refl
-plain-step (on.WakeReader after_write.Drop) lent p plain = refl
-plain-step (on.WakeReader after_write.WakeWriter) lent p plain = refl
-plain-step (on.StoreClosed after_write.Answer) lent p plain = refl
-plain-step (on.StoreClosed after_write.Drop) lent p plain = refl
-plain-step (on.StoreClosed after_write.WakeWriter) lent p plain = refl
-plain-step on.TakeWriter lent p plain = refl
-plain-step on.WakeWriter lent p plain = refl
-plain-step on.Idle lent p plain = refl
-plain-step on.Dropped lent p plain = refl
+plain-step (WritePoint.QueryHead query) lent p plain = refl
+plain-step (WritePoint.QueryTail query count) lent p plain = refl
+plain-step WritePoint.QueryClosed lent p plain = refl
+plain-step (WritePoint.LookClosed Purpose.Poll) lent p plain = refl
+plain-step (WritePoint.LookHead Purpose.Poll) lent p plain = refl
+plain-step (WritePoint.LookRegister Purpose.Poll) lent p plain = refl
+plain-step (WritePoint.LookHeadAgain Purpose.Poll) lent p plain = refl
+plain-step (WritePoint.LookClosedAgain Purpose.Poll) lent p plain = refl
+plain-step (WritePoint.LookTake Purpose.Poll) lent p plain = refl
+plain-step (WritePoint.StoreTail n AfterWrite.Answer) lent p plain = refl
+plain-step (WritePoint.StoreTail n AfterWrite.Drop) lent p plain = refl
+plain-step (WritePoint.StoreTail n AfterWrite.WakeWriter) lent p plain = refl
+plain-step (WritePoint.TakeReader AfterWrite.Answer) lent p plain = refl
+plain-step (WritePoint.TakeReader AfterWrite.Drop) lent p plain = refl
+plain-step (WritePoint.TakeReader AfterWrite.WakeWriter) lent p plain = refl
+plain-step (WritePoint.WakeReader AfterWrite.Answer) lent p plain = refl
+plain-step (WritePoint.WakeReader AfterWrite.Drop) lent p plain = refl
+plain-step (WritePoint.WakeReader AfterWrite.WakeWriter) lent p plain = refl
+plain-step (WritePoint.StoreClosed AfterWrite.Answer) lent p plain = refl
+plain-step (WritePoint.StoreClosed AfterWrite.Drop) lent p plain = refl
+plain-step (WritePoint.StoreClosed AfterWrite.WakeWriter) lent p plain = refl
+plain-step WritePoint.TakeWriter lent p plain = refl
+plain-step WritePoint.WakeWriter lent p plain = refl
+plain-step WritePoint.Idle lent p plain = refl
+plain-step WritePoint.Dropped lent p plain = refl
 plain-step point lent p plain = absurd (cc)
 
 -- the waker that it calls is heard, and then it goes
@@ -250,33 +237,33 @@ writer-went p h r answer plain hears answers after =
 abbrev pub IsWriterNearer : WritePoint → Pipe → Next WritePoint → Pipe → Type 0
 IsWriterNearer point p next q = next.answer ≡ None → (writer_state next.point ≡ Busy) × (is_filling next.point ≡ false) × Nearer (writes_left point p) (writes_left next.point q) (write_wakes point) (write_wakes next.point) (length p.woken) (length q.woken)
 
-open-near : (is_closed none : Bool) (p : Pipe) → IsWriterNearer (on.LookClosed purpose.Poll) p (writer_is_open is_closed none purpose.Poll) p
+open-near : (is_closed none : Bool) (p : Pipe) → IsWriterNearer (WritePoint.LookClosed Purpose.Poll) p (writer_is_open is_closed none Purpose.Poll) p
 open-near true none p goes = absurd (cc)
 open-near false true p goes = (refl, refl, near 5 4 0 0 (length p.woken) (lit< tt) (lit≤ tt))
 open-near false false p goes = (refl, refl, near 5 1 0 0 (length p.woken) (lit< tt) (lit≤ tt))
 
-loads-near : (none : Bool) (p : Pipe) → IsWriterNearer (on.LookHead purpose.Poll) p (goes_on (writer_looked none purpose.Poll)) (index_loaded_by Writer p)
+loads-near : (none : Bool) (p : Pipe) → IsWriterNearer (WritePoint.LookHead Purpose.Poll) p (goes_on (writer_looked none Purpose.Poll)) (index_loaded_by Writer p)
 loads-near true p goes = (refl, refl, near 4 3 0 0 (length p.woken) (lit< tt) (lit≤ tt))
 loads-near false p goes = (refl, refl, near 4 1 0 0 (length p.woken) (lit< tt) (lit≤ tt))
 
-writer_registers-near : (is_granted : Bool) (p : Pipe) → IsWriterNearer (on.LookRegister purpose.Poll) p (writer_registered is_granted purpose.Poll) p
+writer_registers-near : (is_granted : Bool) (p : Pipe) → IsWriterNearer (WritePoint.LookRegister Purpose.Poll) p (writer_registered is_granted Purpose.Poll) p
 writer_registers-near true p goes = (refl, refl, near 3 2 0 0 (length p.woken) (lit< tt) (lit≤ tt))
 writer_registers-near false p goes = absurd (cc)
 
-writer_again-near : (none : Bool) (p : Pipe) → IsWriterNearer (on.LookHeadAgain purpose.Poll) p (goes_on (writer_looked_again none purpose.Poll)) (index_loaded_by Writer p)
+writer_again-near : (none : Bool) (p : Pipe) → IsWriterNearer (WritePoint.LookHeadAgain Purpose.Poll) p (goes_on (writer_looked_again none Purpose.Poll)) (index_loaded_by Writer p)
 writer_again-near true p goes = (refl, refl, near 2 1 0 0 (length p.woken) (lit< tt) (lit≤ tt))
 writer_again-near false p goes = (refl, refl, near 2 1 0 0 (length p.woken) (lit< tt) (lit≤ tt))
 
-reader_take-near : (next : AfterWrite) (is_found : Bool) (p : Pipe) → is_fill_round next ≡ false → IsWriterNearer (on.TakeReader next) p (reader_taken next is_found) p
-reader_take-near after_write.Answer false p plain goes = absurd (cc)
-reader_take-near after_write.Drop false p plain goes = absurd (cc)
-reader_take-near after_write.WakeWriter false p plain goes = (refl, refl, near 4 2 2 1 (length p.woken) (lit< tt) (lit≤ tt))
-reader_take-near after_write.Answer true p plain goes = (refl, refl, near 2 1 1 1 (length p.woken) (lit< tt) (lit≤ tt))
-reader_take-near after_write.Drop true p plain goes = (refl, refl, near 2 1 1 1 (length p.woken) (lit< tt) (lit≤ tt))
-reader_take-near after_write.WakeWriter true p plain goes = (refl, refl, near 4 3 2 2 (length p.woken) (lit< tt) (lit≤ tt))
-reader_take-near (after_write.Round form sum) is_found p plain goes = absurd (cc)
+reader_take-near : (next : AfterWrite) (is_found : Bool) (p : Pipe) → is_fill_round next ≡ false → IsWriterNearer (WritePoint.TakeReader next) p (reader_taken next is_found) p
+reader_take-near AfterWrite.Answer false p plain goes = absurd (cc)
+reader_take-near AfterWrite.Drop false p plain goes = absurd (cc)
+reader_take-near AfterWrite.WakeWriter false p plain goes = (refl, refl, near 4 2 2 1 (length p.woken) (lit< tt) (lit≤ tt))
+reader_take-near AfterWrite.Answer true p plain goes = (refl, refl, near 2 1 1 1 (length p.woken) (lit< tt) (lit≤ tt))
+reader_take-near AfterWrite.Drop true p plain goes = (refl, refl, near 2 1 1 1 (length p.woken) (lit< tt) (lit≤ tt))
+reader_take-near AfterWrite.WakeWriter true p plain goes = (refl, refl, near 4 3 2 2 (length p.woken) (lit< tt) (lit≤ tt))
+reader_take-near (AfterWrite.Round form sum) is_found p plain goes = absurd (cc)
 
-own_take-near : (is_found : Bool) (p : Pipe) → IsWriterNearer on.TakeWriter p (own_taken is_found) p
+own_take-near : (is_found : Bool) (p : Pipe) → IsWriterNearer WritePoint.TakeWriter p (own_taken is_found) p
 own_take-near false p goes = absurd (cc)
 own_take-near true p goes = (refl, refl, near 2 1 1 1 (length p.woken) (lit< tt) (lit≤ tt))
 
@@ -285,27 +272,27 @@ length-with_waker names None = omega arith
 length-with_waker names (Some name) = simp length-append (omega arith)
 
 pub writer-nearer : (point : WritePoint) (p : Pipe) → writer_state point ≡ Busy → is_filling point ≡ false → let s = write_step point p in s.answer ≡ None → (writer_state s.pipe.writer ≡ Busy) × (is_filling s.pipe.writer ≡ false) × Nearer (writes_left point p) (writes_left s.pipe.writer s.pipe) (write_wakes point) (write_wakes s.pipe.writer) (length p.woken) (length s.pipe.woken)
-writer-nearer on.Idle p busy plain goes = absurd (cc)
-writer-nearer on.Dropped p busy plain goes = absurd (cc)
-writer-nearer (on.QueryHead query) p busy plain goes = (refl, refl, near 2 1 0 0 (length p.woken) (lit< tt) (lit≤ tt))
-writer-nearer (on.QueryTail query count) p busy plain goes = absurd (cc)
-writer-nearer on.QueryClosed p busy plain goes = absurd (cc)
-writer-nearer (on.LookClosed purpose.Poll) p busy plain goes = open-near p.is_closed (p.room == 0) p goes
-writer-nearer (on.LookHead purpose.Poll) p busy plain goes = loads-near (p.capacity - length p.unread == 0) p goes
-writer-nearer (on.LookRegister purpose.Poll) p busy plain goes = writer_registers-near (is_granted p.writer_call.context) p goes
-writer-nearer (on.LookHeadAgain purpose.Poll) p busy plain goes = writer_again-near (p.capacity - length p.unread == 0) p goes
-writer-nearer (on.LookClosedAgain purpose.Poll) p busy plain goes = absurd (cc)
-writer-nearer (on.LookTake purpose.Poll) p busy plain goes = absurd (cc)
-writer-nearer (on.StoreTail n after_write.Answer) p busy plain goes = (refl, refl, near 3 2 1 1 (length p.woken) (lit< tt) (lit≤ tt))
-writer-nearer (on.StoreTail n after_write.Drop) p busy plain goes = (refl, refl, near 3 2 1 1 (length p.woken) (lit< tt) (lit≤ tt))
-writer-nearer (on.StoreTail n after_write.WakeWriter) p busy plain goes = (refl, refl, near 5 4 2 2 (length p.woken) (lit< tt) (lit≤ tt))
-writer-nearer (on.TakeReader next) p busy plain goes = reader_take-near next (is_some p.reader_waker) p plain goes
-writer-nearer (on.WakeReader after_write.Answer) p busy plain goes = absurd (cc)
-writer-nearer (on.WakeReader after_write.Drop) p busy plain goes = absurd (cc)
-writer-nearer (on.WakeReader after_write.WakeWriter) p busy plain goes = (refl, refl, record { steps = lit< tt; wakes = let more = length-with_waker p.woken p.writer_call.taken in omega arith })
-writer-nearer (on.StoreClosed after_write.Answer) p busy plain goes = (refl, refl, near 3 2 1 1 (length p.woken) (lit< tt) (lit≤ tt))
-writer-nearer (on.StoreClosed after_write.Drop) p busy plain goes = (refl, refl, near 3 2 1 1 (length p.woken) (lit< tt) (lit≤ tt))
-writer-nearer (on.StoreClosed after_write.WakeWriter) p busy plain goes = (refl, refl, near 5 4 2 2 (length p.woken) (lit< tt) (lit≤ tt))
-writer-nearer on.TakeWriter p busy plain goes = own_take-near (is_some p.writer_waker) p goes
-writer-nearer on.WakeWriter p busy plain goes = absurd (cc)
+writer-nearer WritePoint.Idle p busy plain goes = absurd (cc)
+writer-nearer WritePoint.Dropped p busy plain goes = absurd (cc)
+writer-nearer (WritePoint.QueryHead query) p busy plain goes = (refl, refl, near 2 1 0 0 (length p.woken) (lit< tt) (lit≤ tt))
+writer-nearer (WritePoint.QueryTail query count) p busy plain goes = absurd (cc)
+writer-nearer WritePoint.QueryClosed p busy plain goes = absurd (cc)
+writer-nearer (WritePoint.LookClosed Purpose.Poll) p busy plain goes = open-near p.is_closed (p.room == 0) p goes
+writer-nearer (WritePoint.LookHead Purpose.Poll) p busy plain goes = loads-near (p.capacity - length p.unread == 0) p goes
+writer-nearer (WritePoint.LookRegister Purpose.Poll) p busy plain goes = writer_registers-near (is_granted p.writer_call.context) p goes
+writer-nearer (WritePoint.LookHeadAgain Purpose.Poll) p busy plain goes = writer_again-near (p.capacity - length p.unread == 0) p goes
+writer-nearer (WritePoint.LookClosedAgain Purpose.Poll) p busy plain goes = absurd (cc)
+writer-nearer (WritePoint.LookTake Purpose.Poll) p busy plain goes = absurd (cc)
+writer-nearer (WritePoint.StoreTail n AfterWrite.Answer) p busy plain goes = (refl, refl, near 3 2 1 1 (length p.woken) (lit< tt) (lit≤ tt))
+writer-nearer (WritePoint.StoreTail n AfterWrite.Drop) p busy plain goes = (refl, refl, near 3 2 1 1 (length p.woken) (lit< tt) (lit≤ tt))
+writer-nearer (WritePoint.StoreTail n AfterWrite.WakeWriter) p busy plain goes = (refl, refl, near 5 4 2 2 (length p.woken) (lit< tt) (lit≤ tt))
+writer-nearer (WritePoint.TakeReader next) p busy plain goes = reader_take-near next (is_some p.reader_waker) p plain goes
+writer-nearer (WritePoint.WakeReader AfterWrite.Answer) p busy plain goes = absurd (cc)
+writer-nearer (WritePoint.WakeReader AfterWrite.Drop) p busy plain goes = absurd (cc)
+writer-nearer (WritePoint.WakeReader AfterWrite.WakeWriter) p busy plain goes = (refl, refl, record { steps = lit< tt; wakes = let more = length-with_waker p.woken p.writer_call.taken in omega arith })
+writer-nearer (WritePoint.StoreClosed AfterWrite.Answer) p busy plain goes = (refl, refl, near 3 2 1 1 (length p.woken) (lit< tt) (lit≤ tt))
+writer-nearer (WritePoint.StoreClosed AfterWrite.Drop) p busy plain goes = (refl, refl, near 3 2 1 1 (length p.woken) (lit< tt) (lit≤ tt))
+writer-nearer (WritePoint.StoreClosed AfterWrite.WakeWriter) p busy plain goes = (refl, refl, near 5 4 2 2 (length p.woken) (lit< tt) (lit≤ tt))
+writer-nearer WritePoint.TakeWriter p busy plain goes = own_take-near (is_some p.writer_waker) p goes
+writer-nearer WritePoint.WakeWriter p busy plain goes = absurd (cc)
 writer-nearer point p busy plain goes = absurd (cc)

@@ -1,25 +1,9 @@
 -- Each step keeps what the log says of both sides' calls, and what they move and answer is right.
 use Rattle.std.proofs.Common.{◌≡◌, ℕ, ◌≤◌, List, [], ◌∷◌, ◌++◌, length, None, Some, ◌==◌, refl, sym, ap, subst, ◌∙◌, arith}
-use Rattle.piper_protocol.specs.declared.table.Side.{Side}
-use Rattle.piper_protocol.specs.declared.table.Side.TheVariants.{Reader, Writer}
-use Rattle.piper_machine.specs.declared.calls.Call.{Call}
-use Rattle.piper_machine.specs.declared.calls.Call.TheVariants as call
-use Rattle.piper_machine.specs.declared.calls.Step.{Step}
-use Rattle.piper_machine.specs.declared.calls.Step.TheVariants.{Begin, Go, Put}
-use Rattle.piper_protocol.specs.declared.answer.Answer.TheVariants as answer
-use Rattle.piper_machine.specs.declared.events.Event.{Event}
-use Rattle.piper_machine.specs.declared.events.Event.TheVariants.{Began}
-use Rattle.piper_protocol.specs.declared.table.AfterWrite.TheVariants as after_write
-use Rattle.piper_protocol.specs.declared.table.Form.TheVariants.{Try, Polling}
-use Rattle.piper_protocol.specs.declared.table.Purpose.TheVariants as purpose
-use Rattle.piper_protocol.specs.declared.table.ReadPoint.{ReadPoint}
-use Rattle.piper_protocol.specs.declared.table.ReadPoint.TheVariants as at
-use Rattle.piper_protocol.specs.declared.table.WritePoint.{WritePoint}
-use Rattle.piper_protocol.specs.declared.table.WritePoint.TheVariants as on
+use Rattle.piper_machine.specs.Types.{AfterWrite, Answer, Purpose, Side, Call, Step, Event, ReadPoint, WritePoint, Reader, Writer, Begin, Go, Put, Began, Try, Polling, Slice, Acts}
 use Rattle.piper_machine.specs.Call.{kind_of, waker_of}
 use Rattle.piper_machine.specs.Log.{answer_event}
 use Rattle.piper_protocol.specs.Table.{read_action, write_action}
-use Rattle.piper_machine.specs.declared.destination.Destination.TheVariants.{Slice, Acts}
 use Rattle.piper_machine.specs.Pipe.{Pipe, fresh}
 use Rattle.piper_machine.specs.Lend.{Lendable}
 use Rattle.piper_machine.specs.Refusal.{refusal_of}
@@ -77,68 +61,68 @@ module _ (capacity : ℕ) (c : Call) (steps : List Step) (t : Noted) (p : Pipe) 
 -- a call is opened
 
 begin-reader : (lent : List ℕ) (c : Call) (p : Pipe) (steps : List Step) (t : Noted) → IsNoted p.capacity Reader p (Begin c ∷ steps) t → Keeps p.capacity Reader steps (stepped lent (Begin c) p) t
-begin-reader lent (call.Query Reader query) p steps t h = reader-begins p.capacity (call.Query Reader query) steps t (opened lent (call.Query Reader query) p) h.coming (refl, refl)
-begin-reader lent (call.IsClosed Reader) p steps t h = reader-begins p.capacity (call.IsClosed Reader) steps t (opened lent (call.IsClosed Reader) p) h.coming (refl, refl)
-begin-reader lent (call.Poll Reader waker luck) p steps t h =
-    let c = call.Poll Reader waker luck in
-    reader-begins p.capacity c steps t (opened lent c p) h.coming (opens-leads p.capacity (opening Reader c steps) p.destination (p.known == 0) purpose.Poll (record { poll = c; is = refl; polls = tt }))
-begin-reader lent (call.TryDrain size) p steps t h =
-    let c = call.TryDrain size in
-    reader-begins p.capacity c steps t (opened lent c p) h.coming (opens-leads p.capacity (opening Reader c steps) (Slice size) (p.known == 0) (purpose.Copy Try) (record { drain = c; is = refl; drains = omega arith; count = refl }))
-begin-reader lent (call.PollDrainBytes waker luck size) p steps t h =
-    let c = call.PollDrainBytes waker luck size in
-    reader-begins p.capacity c steps t (opened lent c p) h.coming (opens-leads p.capacity (opening Reader c steps) (Slice size) (p.known == 0) (purpose.Copy (Polling (luck.draw == 0))) (record { drain = c; is = refl; drains = omega arith; count = refl }))
-begin-reader lent (call.PollDrain waker luck acts) p steps t h =
-    let c = call.PollDrain waker luck acts in
-    reader-begins p.capacity c steps t (opened lent c p) h.coming (opens-leads p.capacity (opening Reader c steps) (Acts acts) (p.known == 0) (purpose.Copy (Polling (luck.draw == 0))) (record { drain = c; is = refl; drains = (omega arith, refl); count = refl }))
-begin-reader lent (call.Consume n) p steps t h = reader-begins p.capacity (call.Consume n) steps t (opened lent (call.Consume n) p) h.coming (refl, refl)
-begin-reader lent (call.Drop Reader) p steps t h = reader-begins p.capacity (call.Drop Reader) steps t (opened lent (call.Drop Reader) p) h.coming refl
-begin-reader lent (call.WriteBuf most) p steps t h = ((tt, (tt, tt)), record { coming = h.coming; valid = h.valid })
+begin-reader lent (Call.Query Reader query) p steps t h = reader-begins p.capacity (Call.Query Reader query) steps t (opened lent (Call.Query Reader query) p) h.coming (refl, refl)
+begin-reader lent (Call.IsClosed Reader) p steps t h = reader-begins p.capacity (Call.IsClosed Reader) steps t (opened lent (Call.IsClosed Reader) p) h.coming (refl, refl)
+begin-reader lent (Call.Poll Reader waker luck) p steps t h =
+    let c = Call.Poll Reader waker luck in
+    reader-begins p.capacity c steps t (opened lent c p) h.coming (opens-leads p.capacity (opening Reader c steps) p.destination (p.known == 0) Purpose.Poll (record { poll = c; is = refl; polls = tt }))
+begin-reader lent (Call.TryDrain size) p steps t h =
+    let c = Call.TryDrain size in
+    reader-begins p.capacity c steps t (opened lent c p) h.coming (opens-leads p.capacity (opening Reader c steps) (Slice size) (p.known == 0) (Purpose.Copy Try) (record { drain = c; is = refl; drains = omega arith; count = refl }))
+begin-reader lent (Call.PollDrainBytes waker luck size) p steps t h =
+    let c = Call.PollDrainBytes waker luck size in
+    reader-begins p.capacity c steps t (opened lent c p) h.coming (opens-leads p.capacity (opening Reader c steps) (Slice size) (p.known == 0) (Purpose.Copy (Polling (luck.draw == 0))) (record { drain = c; is = refl; drains = omega arith; count = refl }))
+begin-reader lent (Call.PollDrain waker luck acts) p steps t h =
+    let c = Call.PollDrain waker luck acts in
+    reader-begins p.capacity c steps t (opened lent c p) h.coming (opens-leads p.capacity (opening Reader c steps) (Acts acts) (p.known == 0) (Purpose.Copy (Polling (luck.draw == 0))) (record { drain = c; is = refl; drains = (omega arith, refl); count = refl }))
+begin-reader lent (Call.Consume n) p steps t h = reader-begins p.capacity (Call.Consume n) steps t (opened lent (Call.Consume n) p) h.coming (refl, refl)
+begin-reader lent (Call.Drop Reader) p steps t h = reader-begins p.capacity (Call.Drop Reader) steps t (opened lent (Call.Drop Reader) p) h.coming refl
+begin-reader lent (Call.WriteBuf most) p steps t h = ((tt, (tt, tt)), record { coming = h.coming; valid = h.valid })
 begin-reader lent c p steps t h = ((tt, tt), record { coming = h.coming; valid = h.valid })
 
 -- a slice is lent as the call is opened
-lends : (lent : List ℕ) (most : ℕ) (p : Pipe) (steps : List Step) (t : Noted) → p.writer ≡ on.Idle → Lendable most p (length lent) → t.coming ≡ call.WriteBuf most ∷ calls_of Writer steps → Keeps p.capacity Writer steps (stepped lent (Begin (call.WriteBuf most)) p) t
+lends : (lent : List ℕ) (most : ℕ) (p : Pipe) (steps : List Step) (t : Noted) → p.writer ≡ WritePoint.Idle → Lendable most p (length lent) → t.coming ≡ Call.WriteBuf most ∷ calls_of Writer steps → Keeps p.capacity Writer steps (stepped lent (Begin (Call.WriteBuf most)) p) t
 lends lent most p steps t idle may coming =
-    let noted = told_opening Writer (call.WriteBuf most) steps t coming in
+    let noted = told_opening Writer (Call.WriteBuf most) steps t coming in
     let within = may.at_most in
     let few : length lent ≤ most = omega arith in
-    let right : AreRightFrom p.capacity Writer (opening Writer (call.WriteBuf most) steps) (answer_event Writer (Some (answer.Lent (length lent)))) = (few, tt) in (
-      (is_next (call.WriteBuf most) (calls_of Writer steps) t coming, subst (λ (u : Noted). AreRightFrom p.capacity Writer u (answer_event Writer (Some (answer.Lent (length lent))))) (sym noted) right),
+    let right : AreRightFrom p.capacity Writer (opening Writer (Call.WriteBuf most) steps) (answer_event Writer (Some (Answer.Lent (length lent)))) = (few, tt) in (
+      (is_next (Call.WriteBuf most) (calls_of Writer steps) t coming, subst (λ (u : Noted). AreRightFrom p.capacity Writer u (answer_event Writer (Some (Answer.Lent (length lent))))) (sym noted) right),
       record { coming = ap (λ (u : Noted). u.coming) noted; valid = rw idle tt },
     )
 
 begin-writer : (lent : List ℕ) (c : Call) (p : Pipe) (steps : List Step) (t : Noted) → MayLend lent (Begin c) p → refusal_of (Begin c) p ≡ None → IsNoted p.capacity Writer p (Begin c ∷ steps) t → Keeps p.capacity Writer steps (stepped lent (Begin c) p) t
-begin-writer lent (call.Query Writer query) p steps t may accepted h = writer-begins p.capacity (call.Query Writer query) steps t (opened lent (call.Query Writer query) p) h.coming (refl, refl)
-begin-writer lent (call.IsClosed Writer) p steps t may accepted h = writer-begins p.capacity (call.IsClosed Writer) steps t (opened lent (call.IsClosed Writer) p) h.coming (refl, refl)
-begin-writer lent (call.Poll Writer waker luck) p steps t may accepted h =
-    let c = call.Poll Writer waker luck in
+begin-writer lent (Call.Query Writer query) p steps t may accepted h = writer-begins p.capacity (Call.Query Writer query) steps t (opened lent (Call.Query Writer query) p) h.coming (refl, refl)
+begin-writer lent (Call.IsClosed Writer) p steps t may accepted h = writer-begins p.capacity (Call.IsClosed Writer) steps t (opened lent (Call.IsClosed Writer) p) h.coming (refl, refl)
+begin-writer lent (Call.Poll Writer waker luck) p steps t may accepted h =
+    let c = Call.Poll Writer waker luck in
     writer-begins p.capacity c steps t (opened lent c p) h.coming (record { poll = c; is = refl; polls = tt })
-begin-writer lent (call.TryFill bytes) p steps t may accepted h =
-    let c = call.TryFill bytes in
+begin-writer lent (Call.TryFill bytes) p steps t may accepted h =
+    let c = Call.TryFill bytes in
     writer-begins p.capacity c steps t (opened lent c p) h.coming (record { fill = c; is = refl; fills = (given-slice bytes, failure-slice bytes); count = refl; found = refl })
-begin-writer lent (call.PollFillBytes waker luck bytes) p steps t may accepted h =
-    let c = call.PollFillBytes waker luck bytes in
+begin-writer lent (Call.PollFillBytes waker luck bytes) p steps t may accepted h =
+    let c = Call.PollFillBytes waker luck bytes in
     writer-begins p.capacity c steps t (opened lent c p) h.coming (record { fill = c; is = refl; fills = (given-slice bytes, failure-slice bytes); count = refl; found = refl })
-begin-writer lent (call.PollFill waker luck acts) p steps t may accepted h =
-    let c = call.PollFill waker luck acts in
+begin-writer lent (Call.PollFill waker luck acts) p steps t may accepted h =
+    let c = Call.PollFill waker luck acts in
     writer-begins p.capacity c steps t (opened lent c p) h.coming (record { fill = c; is = refl; fills = (refl, refl); count = refl; found = refl })
-begin-writer lent (call.WriteBuf most) p steps t may accepted h = lends lent most p steps t (writer-idle p.writer _ accepted) may h.coming
-begin-writer lent (call.Produced n) p steps t may accepted h = writer-begins p.capacity (call.Produced n) steps t (opened lent (call.Produced n) p) h.coming (refl, refl)
-begin-writer lent call.Close p steps t may accepted h = writer-begins p.capacity call.Close steps t (opened lent call.Close p) h.coming refl
-begin-writer lent (call.Drop Writer) p steps t may accepted h = writer-begins p.capacity (call.Drop Writer) steps t (opened lent (call.Drop Writer) p) h.coming refl
+begin-writer lent (Call.WriteBuf most) p steps t may accepted h = lends lent most p steps t (writer-idle p.writer _ accepted) may h.coming
+begin-writer lent (Call.Produced n) p steps t may accepted h = writer-begins p.capacity (Call.Produced n) steps t (opened lent (Call.Produced n) p) h.coming (refl, refl)
+begin-writer lent Call.Close p steps t may accepted h = writer-begins p.capacity Call.Close steps t (opened lent Call.Close p) h.coming refl
+begin-writer lent (Call.Drop Writer) p steps t may accepted h = writer-begins p.capacity (Call.Drop Writer) steps t (opened lent (Call.Drop Writer) p) h.coming refl
 begin-writer lent c p steps t may accepted h = ((tt, tt), record { coming = h.coming; valid = h.valid })
 
 -- a side's step leaves what the other side has in hand
 
 reader-leaves_fill : (point : ReadPoint) (p : Pipe) → let q = performed Reader (read_action point) p in (q.writer ≡ p.writer) × (q.source ≡ p.source) × (q.lent ≡ p.lent)
-reader-leaves_fill at.Idle p = (refl, refl, refl)
+reader-leaves_fill ReadPoint.Idle p = (refl, refl, refl)
 reader-leaves_fill point p = (refl, refl, refl)
 
 writer-leaves_drain : (point : WritePoint) (p : Pipe) → let q = performed Writer (write_action point) p in (q.reader ≡ p.reader) × (q.destination ≡ p.destination)
-writer-leaves_drain (on.StoreClosed after_write.Answer) p = (refl, refl)
-writer-leaves_drain (on.StoreClosed after_write.Drop) p = (refl, refl)
-writer-leaves_drain (on.StoreClosed after_write.WakeWriter) p = (refl, refl)
-writer-leaves_drain (on.StoreClosed (after_write.Round form sum)) p = (refl, refl)
+writer-leaves_drain (WritePoint.StoreClosed AfterWrite.Answer) p = (refl, refl)
+writer-leaves_drain (WritePoint.StoreClosed AfterWrite.Drop) p = (refl, refl)
+writer-leaves_drain (WritePoint.StoreClosed AfterWrite.WakeWriter) p = (refl, refl)
+writer-leaves_drain (WritePoint.StoreClosed (AfterWrite.Round form sum)) p = (refl, refl)
 writer-leaves_drain point p = (refl, refl)
 
 step-noted : (side : Side) (lent : List ℕ) (s : Step) (p : Pipe) (steps : List Step) (t : Noted) → IsSound p → MayLend lent s p → refusal_of s p ≡ None → IsNoted p.capacity side p (s ∷ steps) t → Keeps p.capacity side steps (stepped lent s p) t

@@ -1,21 +1,6 @@
 -- Steps of one side alone, from any point up to the answer, give what remains of the call.
 use Rattle.std.proofs.Common.{◌≡◌, ℕ, zero, suc, ◌<◌, ◌≤◌, List, [], ◌∷◌, ◌++◌, length, Bool, true, false, Option, None, Some, replicate, refl, sym, ap, ◌∙◌, subst, append_assoc, append-nil, arith}
-use Rattle.piper_protocol.specs.declared.table.Side.{Side}
-use Rattle.piper_protocol.specs.declared.table.Side.TheVariants.{Reader, Writer}
-use Rattle.piper_machine.specs.declared.calls.SideState.{SideState}
-use Rattle.piper_machine.specs.declared.calls.SideState.TheVariants.{Busy}
-use Rattle.piper_machine.specs.declared.calls.Step.TheVariants.{Go}
-use Rattle.piper_protocol.specs.declared.answer.Answer.{Answer}
-use Rattle.piper_machine.specs.declared.events.Event.{Event}
-use Rattle.piper_machine.specs.declared.events.Event.TheVariants.{Answered}
-use Rattle.piper_machine.specs.declared.polling.Context.{Context}
-use Rattle.piper_machine.specs.declared.scripted.SourceAct.{SourceAct}
-use Rattle.piper_machine.specs.declared.scripted.SourceAct.TheVariants as source
-use Rattle.piper_protocol.specs.declared.table.ReadPoint.{ReadPoint}
-use Rattle.piper_protocol.specs.declared.table.ReadPoint.TheVariants as at
-use Rattle.piper_protocol.specs.declared.table.WritePoint.{WritePoint}
-use Rattle.piper_protocol.specs.declared.table.WritePoint.TheVariants as on
-use Rattle.piper_protocol.specs.declared.table.AfterWrite.TheVariants as after_write
+use Rattle.piper_machine.specs.Types.{AfterWrite, Side, SideState, Answer, Event, Context, SourceAct, ReadPoint, WritePoint, Reader, Writer, Busy, Go, Answered}
 use Rattle.piper_machine.specs.Log.{answer_event}
 use Rattle.piper_protocol.specs.Table.{read_action, write_action}
 use Rattle.piper_machine.specs.Pipe.{Pipe}
@@ -92,9 +77,9 @@ pub record ReadHears (point : ReadPoint) (p : Pipe) (names : List ℕ) : Type 0 
   pub woken : (read_step point p).pipe.woken ≡ p.woken ++ names_of (logged_of Reader (read_action point) p)
 
 reader-hears : (point : ReadPoint) (p : Pipe) (names : List ℕ) → ReadHears point p names
-reader-hears (at.LookRegister l) p names = record { pipe = refl; answer = refl; events = refl; woken = register-names Reader p.reader_call.context p.woken }
-reader-hears (at.WakeWriter next) p names = record { pipe = refl; answer = refl; events = refl; woken = wake-names p.reader_call.taken p.woken }
-reader-hears at.Yield p names = record { pipe = refl; answer = refl; events = refl; woken = yield-names p.reader_call.context p.woken }
+reader-hears (ReadPoint.LookRegister l) p names = record { pipe = refl; answer = refl; events = refl; woken = register-names Reader p.reader_call.context p.woken }
+reader-hears (ReadPoint.WakeWriter next) p names = record { pipe = refl; answer = refl; events = refl; woken = wake-names p.reader_call.taken p.woken }
+reader-hears ReadPoint.Yield p names = record { pipe = refl; answer = refl; events = refl; woken = yield-names p.reader_call.context p.woken }
 reader-hears point p names = record { pipe = refl; answer = refl; events = refl; woken = quiet p.woken }
 
 read-rest : (point : ReadPoint) (p : Pipe) (drains : Bool) → is_draining point ≡ drains → reader_state point ≡ Busy → ReaderValid point p → let s = read_step point p in reader_alone point p ≡ reader_rest s.answer s.pipe
@@ -136,14 +121,14 @@ pub record WriteHears (point : WritePoint) (lent : List ℕ) (p : Pipe) (names :
   pub woken : (fill_step point lent p).pipe.woken ≡ p.woken ++ names_of (logged_of Writer (write_action point) p)
 
 writer-hears : (point : WritePoint) (lent : List ℕ) (p : Pipe) (names : List ℕ) → WriteHears point lent p names
-writer-hears (on.LookRegister l) lent p names = record { pipe = refl; answer = refl; events = refl; woken = register-names Writer p.writer_call.context p.woken }
-writer-hears (on.WakeReader next) lent p names = record { pipe = refl; answer = refl; events = refl; woken = wake-names p.writer_call.taken p.woken }
-writer-hears on.WakeWriter lent p names = record { pipe = refl; answer = refl; events = refl; woken = wake-names p.writer_call.taken p.woken }
-writer-hears on.Yield lent p names = record { pipe = refl; answer = refl; events = refl; woken = yield-names p.writer_call.context p.woken }
-writer-hears (on.StoreClosed after_write.Answer) lent p names = record { pipe = refl; answer = refl; events = refl; woken = quiet p.woken }
-writer-hears (on.StoreClosed after_write.Drop) lent p names = record { pipe = refl; answer = refl; events = refl; woken = quiet p.woken }
-writer-hears (on.StoreClosed after_write.WakeWriter) lent p names = record { pipe = refl; answer = refl; events = refl; woken = quiet p.woken }
-writer-hears (on.StoreClosed (after_write.Round form sum)) lent p names = record { pipe = refl; answer = refl; events = refl; woken = quiet p.woken }
+writer-hears (WritePoint.LookRegister l) lent p names = record { pipe = refl; answer = refl; events = refl; woken = register-names Writer p.writer_call.context p.woken }
+writer-hears (WritePoint.WakeReader next) lent p names = record { pipe = refl; answer = refl; events = refl; woken = wake-names p.writer_call.taken p.woken }
+writer-hears WritePoint.WakeWriter lent p names = record { pipe = refl; answer = refl; events = refl; woken = wake-names p.writer_call.taken p.woken }
+writer-hears WritePoint.Yield lent p names = record { pipe = refl; answer = refl; events = refl; woken = yield-names p.writer_call.context p.woken }
+writer-hears (WritePoint.StoreClosed AfterWrite.Answer) lent p names = record { pipe = refl; answer = refl; events = refl; woken = quiet p.woken }
+writer-hears (WritePoint.StoreClosed AfterWrite.Drop) lent p names = record { pipe = refl; answer = refl; events = refl; woken = quiet p.woken }
+writer-hears (WritePoint.StoreClosed AfterWrite.WakeWriter) lent p names = record { pipe = refl; answer = refl; events = refl; woken = quiet p.woken }
+writer-hears (WritePoint.StoreClosed (AfterWrite.Round form sum)) lent p names = record { pipe = refl; answer = refl; events = refl; woken = quiet p.woken }
 writer-hears point lent p names = record { pipe = refl; answer = refl; events = refl; woken = quiet p.woken }
 
 write-rest : (point : WritePoint) (lent : List ℕ) (p : Pipe) (fills : Bool) → is_filling point ≡ fills → writer_state point ≡ Busy → WriterValid point p → MayOffer point p.source lent (record p { writer = point })
@@ -162,13 +147,13 @@ writer-rest_of None p = refl
 writer-rest_of (Some answer) p = refl
 
 may-unnamed : (point : WritePoint) (lent names : List ℕ) (p : Pipe) → MayOffer point p.source lent (record p { writer = point; woken = names }) → MayOffer point p.source lent (record p { writer = point })
-may-unnamed (on.CallSource form sum) lent names p may = offers p.source may
+may-unnamed (WritePoint.CallSource form sum) lent names p may = offers p.source may
   where
-    offers : (acts : List SourceAct) → MayOffer (on.CallSource form sum) acts lent (record p { writer = on.CallSource form sum; woken = names }) → MayOffer (on.CallSource form sum) acts lent (record p { writer = on.CallSource form sum })
+    offers : (acts : List SourceAct) → MayOffer (WritePoint.CallSource form sum) acts lent (record p { writer = WritePoint.CallSource form sum; woken = names }) → MayOffer (WritePoint.CallSource form sum) acts lent (record p { writer = WritePoint.CallSource form sum })
     offers [] may = tt
-    offers (source.Fail ∷ acts) may = tt
-    offers (source.Bytes [] ∷ acts) may = tt
-    offers (source.Bytes (byte ∷ bytes) ∷ acts) may = record { at_most = may.at_most; at_least = may.at_least; some = may.some; shut = may.shut }
+    offers (SourceAct.Fail ∷ acts) may = tt
+    offers (SourceAct.Bytes [] ∷ acts) may = tt
+    offers (SourceAct.Bytes (byte ∷ bytes) ∷ acts) may = record { at_most = may.at_most; at_least = may.at_least; some = may.some; shut = may.shut }
 may-unnamed point lent names p may = tt
 
 writer_step : (lent : List ℕ) (p : Pipe) (names : List ℕ) → state_of Writer p ≡ Busy → IsValid Writer p → MayOffer p.writer p.source lent (named names p) → let made = stepped lent (Go Writer) (named names p) in IsHeard Writer p names made made.answer

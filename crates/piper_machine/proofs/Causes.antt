@@ -1,20 +1,7 @@
 -- Who has closed: the reader by its drop; or the writer, by its drop or its close, and then it
 -- publishes nothing more.
 use Rattle.std.proofs.Common.{◌≡◌, ◌⊎◌, inl, inr, ℕ, ◌-◌, List, length, Bool, true, false, ◌==◌, is_some, Result, Ok, Err, refl}
-use Rattle.piper_protocol.specs.declared.table.Side.TheVariants.{Reader, Writer}
-use Rattle.piper_protocol.specs.declared.answer.Failed.{Failed}
-use Rattle.piper_protocol.specs.declared.table.Form.{Form}
-use Rattle.piper_protocol.specs.declared.table.Form.TheVariants.{Try, Polling}
-use Rattle.piper_protocol.specs.declared.table.Purpose.{Purpose}
-use Rattle.piper_protocol.specs.declared.table.Purpose.TheVariants as purpose
-use Rattle.piper_protocol.specs.declared.table.AfterRead.{AfterRead}
-use Rattle.piper_protocol.specs.declared.table.AfterRead.TheVariants as after_read
-use Rattle.piper_protocol.specs.declared.table.AfterWrite.{AfterWrite}
-use Rattle.piper_protocol.specs.declared.table.AfterWrite.TheVariants as after_write
-use Rattle.piper_protocol.specs.declared.table.ReadPoint.{ReadPoint}
-use Rattle.piper_protocol.specs.declared.table.ReadPoint.TheVariants as at
-use Rattle.piper_protocol.specs.declared.table.WritePoint.{WritePoint}
-use Rattle.piper_protocol.specs.declared.table.WritePoint.TheVariants as on
+use Rattle.piper_machine.specs.Types.{Failed, Form, Purpose, AfterRead, AfterWrite, ReadPoint, WritePoint, Reader, Writer, Try, Polling}
 use Rattle.piper_machine.specs.Open.{is_granted}
 use Rattle.piper_protocol.specs.Table.{writer_taken, read_done, writer_is_open, writer_looked, writer_looked_again, writer_registered, reader_taken, own_taken, write_done, write_after, writer_moved, writer_rounds, writer_draws}
 use Rattle.piper_machine.specs.Pipe.{Pipe}
@@ -22,15 +9,15 @@ use Rattle.piper_machine.specs.Step.{went, offering}
 use Rattle.piper_machine.specs.Round.{given, found_of}
 
 abbrev pub read_leaves : ReadPoint → Bool
-read_leaves at.Dropped = true
-read_leaves (at.TakeWriter after_read.Drop) = true
-read_leaves (at.WakeWriter after_read.Drop) = true
+read_leaves ReadPoint.Dropped = true
+read_leaves (ReadPoint.TakeWriter AfterRead.Drop) = true
+read_leaves (ReadPoint.WakeWriter AfterRead.Drop) = true
 read_leaves point = false
 
 abbrev pub write_leaves : WritePoint → Bool
-write_leaves on.Dropped = true
-write_leaves (on.TakeReader after_write.Drop) = true
-write_leaves (on.WakeReader after_write.Drop) = true
+write_leaves WritePoint.Dropped = true
+write_leaves (WritePoint.TakeReader AfterWrite.Drop) = true
+write_leaves (WritePoint.WakeReader AfterWrite.Drop) = true
 write_leaves point = false
 
 abbrev pub IsEnded : Pipe → Type 0
@@ -41,8 +28,8 @@ IsCaused p = (read_leaves p.reader ≡ true) ⊎ IsEnded p
 
 -- the writer stores closed only as it is dropped or closes
 abbrev pub is_known : WritePoint → Bool
-is_known (on.StoreClosed after_write.Answer) = false
-is_known (on.StoreClosed (after_write.Round form sum)) = false
+is_known (WritePoint.StoreClosed AfterWrite.Answer) = false
+is_known (WritePoint.StoreClosed (AfterWrite.Round form sum)) = false
 is_known point = true
 
 -- the reader's own steps
@@ -51,24 +38,24 @@ abbrev pub reader_after : ReadPoint → Pipe → Pipe
 reader_after point p = (went Reader (record p { reader = point })).pipe
 
 pub reader-caused : (point : ReadPoint) (p : Pipe) → (p.is_closed ≡ true → IsCaused (record p { reader = point })) → (reader_after point p).is_closed ≡ true → IsCaused (reader_after point p)
-reader-caused at.Dropped p caused closed = inl refl
-reader-caused at.StoreClosed p caused closed = inl refl
-reader-caused (at.StoreHead n next) p caused closed = elim (caused closed) [ inl leaves ↦ absurd (cc) | inr ended ↦ inr ended ]
-reader-caused (at.TakeWriter next) p caused closed = take-caused next (is_some p.writer_waker) (caused closed)
+reader-caused ReadPoint.Dropped p caused closed = inl refl
+reader-caused ReadPoint.StoreClosed p caused closed = inl refl
+reader-caused (ReadPoint.StoreHead n next) p caused closed = elim (caused closed) [ inl leaves ↦ absurd (cc) | inr ended ↦ inr ended ]
+reader-caused (ReadPoint.TakeWriter next) p caused closed = take-caused next (is_some p.writer_waker) (caused closed)
   where
-    done-caused : (next : AfterRead) → (read_leaves (at.TakeWriter next) ≡ true) ⊎ IsEnded p → (read_leaves (read_done next).point ≡ true) ⊎ IsEnded p
-    done-caused after_read.Answer caused = elim caused [ inl leaves ↦ absurd (cc) | inr ended ↦ inr ended ]
-    done-caused after_read.Drop caused = inl refl
-    done-caused (after_read.Round form sum) caused = elim caused [ inl leaves ↦ absurd (cc) | inr ended ↦ inr ended ]
+    done-caused : (next : AfterRead) → (read_leaves (ReadPoint.TakeWriter next) ≡ true) ⊎ IsEnded p → (read_leaves (read_done next).point ≡ true) ⊎ IsEnded p
+    done-caused AfterRead.Answer caused = elim caused [ inl leaves ↦ absurd (cc) | inr ended ↦ inr ended ]
+    done-caused AfterRead.Drop caused = inl refl
+    done-caused (AfterRead.Round form sum) caused = elim caused [ inl leaves ↦ absurd (cc) | inr ended ↦ inr ended ]
 
-    take-caused : (next : AfterRead) (is_found : Bool) → (read_leaves (at.TakeWriter next) ≡ true) ⊎ IsEnded p → (read_leaves (writer_taken next is_found).point ≡ true) ⊎ IsEnded p
+    take-caused : (next : AfterRead) (is_found : Bool) → (read_leaves (ReadPoint.TakeWriter next) ≡ true) ⊎ IsEnded p → (read_leaves (writer_taken next is_found).point ≡ true) ⊎ IsEnded p
     take-caused next false caused = done-caused next caused
-    take-caused after_read.Answer true caused = elim caused [ inl leaves ↦ absurd (cc) | inr ended ↦ inr ended ]
-    take-caused after_read.Drop true caused = inl refl
-    take-caused (after_read.Round form sum) true caused = elim caused [ inl leaves ↦ absurd (cc) | inr ended ↦ inr ended ]
-reader-caused (at.WakeWriter after_read.Answer) p caused closed = elim (caused closed) [ inl leaves ↦ absurd (cc) | inr ended ↦ inr ended ]
-reader-caused (at.WakeWriter after_read.Drop) p caused closed = inl refl
-reader-caused (at.WakeWriter (after_read.Round form sum)) p caused closed = elim (caused closed) [ inl leaves ↦ absurd (cc) | inr ended ↦ inr ended ]
+    take-caused AfterRead.Answer true caused = elim caused [ inl leaves ↦ absurd (cc) | inr ended ↦ inr ended ]
+    take-caused AfterRead.Drop true caused = inl refl
+    take-caused (AfterRead.Round form sum) true caused = elim caused [ inl leaves ↦ absurd (cc) | inr ended ↦ inr ended ]
+reader-caused (ReadPoint.WakeWriter AfterRead.Answer) p caused closed = elim (caused closed) [ inl leaves ↦ absurd (cc) | inr ended ↦ inr ended ]
+reader-caused (ReadPoint.WakeWriter AfterRead.Drop) p caused closed = inl refl
+reader-caused (ReadPoint.WakeWriter (AfterRead.Round form sum)) p caused closed = elim (caused closed) [ inl leaves ↦ absurd (cc) | inr ended ↦ inr ended ]
 reader-caused point p caused closed = elim (caused closed) [ inl leaves ↦ absurd (cc) | inr ended ↦ inr ended ]
 
 -- the writer's own steps
@@ -79,52 +66,52 @@ writer_after offered point p = (went Writer (offering offered (record p { writer
 
 -- once the writer has closed it stays so
 module _ (p : Pipe) where
-  done-leaves : (next : AfterWrite) → (write_leaves (on.TakeReader next) ≡ true) ⊎ (p.is_shut ≡ true) → (write_leaves (write_done next).point ≡ true) ⊎ (p.is_shut ≡ true)
-  done-leaves after_write.Answer h = elim h [ inl leaves ↦ absurd (cc) | inr shut ↦ inr shut ]
-  done-leaves after_write.Drop h = inl refl
-  done-leaves after_write.WakeWriter h = elim h [ inl leaves ↦ absurd (cc) | inr shut ↦ inr shut ]
-  done-leaves (after_write.Round form sum) h = elim h [ inl leaves ↦ absurd (cc) | inr shut ↦ inr shut ]
+  done-leaves : (next : AfterWrite) → (write_leaves (WritePoint.TakeReader next) ≡ true) ⊎ (p.is_shut ≡ true) → (write_leaves (write_done next).point ≡ true) ⊎ (p.is_shut ≡ true)
+  done-leaves AfterWrite.Answer h = elim h [ inl leaves ↦ absurd (cc) | inr shut ↦ inr shut ]
+  done-leaves AfterWrite.Drop h = inl refl
+  done-leaves AfterWrite.WakeWriter h = elim h [ inl leaves ↦ absurd (cc) | inr shut ↦ inr shut ]
+  done-leaves (AfterWrite.Round form sum) h = elim h [ inl leaves ↦ absurd (cc) | inr shut ↦ inr shut ]
 
-  take-leaves : (next : AfterWrite) (is_found : Bool) → (write_leaves (on.TakeReader next) ≡ true) ⊎ (p.is_shut ≡ true) → (write_leaves (reader_taken next is_found).point ≡ true) ⊎ (p.is_shut ≡ true)
+  take-leaves : (next : AfterWrite) (is_found : Bool) → (write_leaves (WritePoint.TakeReader next) ≡ true) ⊎ (p.is_shut ≡ true) → (write_leaves (reader_taken next is_found).point ≡ true) ⊎ (p.is_shut ≡ true)
   take-leaves next false h = done-leaves next h
-  take-leaves after_write.Answer true h = elim h [ inl leaves ↦ absurd (cc) | inr shut ↦ inr shut ]
-  take-leaves after_write.Drop true h = inl refl
-  take-leaves after_write.WakeWriter true h = elim h [ inl leaves ↦ absurd (cc) | inr shut ↦ inr shut ]
-  take-leaves (after_write.Round form sum) true h = elim h [ inl leaves ↦ absurd (cc) | inr shut ↦ inr shut ]
+  take-leaves AfterWrite.Answer true h = elim h [ inl leaves ↦ absurd (cc) | inr shut ↦ inr shut ]
+  take-leaves AfterWrite.Drop true h = inl refl
+  take-leaves AfterWrite.WakeWriter true h = elim h [ inl leaves ↦ absurd (cc) | inr shut ↦ inr shut ]
+  take-leaves (AfterWrite.Round form sum) true h = elim h [ inl leaves ↦ absurd (cc) | inr shut ↦ inr shut ]
 
 pub writer-ended : (offered : List ℕ) (point : WritePoint) (p : Pipe) → IsEnded (record p { writer = point }) → IsEnded (writer_after offered point p)
-writer-ended offered on.Dropped p h = inl refl
-writer-ended offered (on.TakeReader next) p h = take-leaves p next (is_some p.reader_waker) h
-writer-ended offered (on.WakeReader after_write.Answer) p h = elim h [ inl leaves ↦ absurd (cc) | inr shut ↦ inr shut ]
-writer-ended offered (on.WakeReader after_write.Drop) p h = inl refl
-writer-ended offered (on.WakeReader after_write.WakeWriter) p h = elim h [ inl leaves ↦ absurd (cc) | inr shut ↦ inr shut ]
-writer-ended offered (on.WakeReader (after_write.Round form sum)) p h = elim h [ inl leaves ↦ absurd (cc) | inr shut ↦ inr shut ]
-writer-ended offered (on.StoreClosed (after_write.Round form sum)) p h = elim h [ inl leaves ↦ absurd (cc) | inr shut ↦ inr shut ]
-writer-ended offered (on.StoreClosed after_write.Answer) p h = elim h [ inl leaves ↦ absurd (cc) | inr shut ↦ inr shut ]
-writer-ended offered (on.StoreClosed after_write.Drop) p h = inl refl
-writer-ended offered (on.StoreClosed after_write.WakeWriter) p h = inr refl
+writer-ended offered WritePoint.Dropped p h = inl refl
+writer-ended offered (WritePoint.TakeReader next) p h = take-leaves p next (is_some p.reader_waker) h
+writer-ended offered (WritePoint.WakeReader AfterWrite.Answer) p h = elim h [ inl leaves ↦ absurd (cc) | inr shut ↦ inr shut ]
+writer-ended offered (WritePoint.WakeReader AfterWrite.Drop) p h = inl refl
+writer-ended offered (WritePoint.WakeReader AfterWrite.WakeWriter) p h = elim h [ inl leaves ↦ absurd (cc) | inr shut ↦ inr shut ]
+writer-ended offered (WritePoint.WakeReader (AfterWrite.Round form sum)) p h = elim h [ inl leaves ↦ absurd (cc) | inr shut ↦ inr shut ]
+writer-ended offered (WritePoint.StoreClosed (AfterWrite.Round form sum)) p h = elim h [ inl leaves ↦ absurd (cc) | inr shut ↦ inr shut ]
+writer-ended offered (WritePoint.StoreClosed AfterWrite.Answer) p h = elim h [ inl leaves ↦ absurd (cc) | inr shut ↦ inr shut ]
+writer-ended offered (WritePoint.StoreClosed AfterWrite.Drop) p h = inl refl
+writer-ended offered (WritePoint.StoreClosed AfterWrite.WakeWriter) p h = inr refl
 writer-ended offered point p h = elim h [ inl leaves ↦ absurd (cc) | inr shut ↦ inr shut ]
 
 -- a step leads to a point that stores nothing, but for a round's
 abbrev pub is_ordinary : WritePoint → Bool
-is_ordinary (on.StoreTail n next) = false
-is_ordinary (on.StoreClosed next) = false
+is_ordinary (WritePoint.StoreTail n next) = false
+is_ordinary (WritePoint.StoreClosed next) = false
 is_ordinary point = true
 
 pub open-ordinary : (is_closed none : Bool) (l : Purpose) → is_ordinary (writer_is_open is_closed none l).point ≡ true
 open-ordinary true none l = refl
 open-ordinary false true l = refl
-open-ordinary false false purpose.Poll = refl
-open-ordinary false false (purpose.Copy Try) = refl
-open-ordinary false false (purpose.Copy (Polling is_drawn)) = refl
+open-ordinary false false Purpose.Poll = refl
+open-ordinary false false (Purpose.Copy Try) = refl
+open-ordinary false false (Purpose.Copy (Polling is_drawn)) = refl
 
 pub looks-ordinary : (none : Bool) (l : Purpose) → is_ordinary (writer_looked none l) ≡ true
-looks-ordinary true purpose.Poll = refl
-looks-ordinary false purpose.Poll = refl
-looks-ordinary true (purpose.Copy Try) = refl
-looks-ordinary false (purpose.Copy Try) = refl
-looks-ordinary true (purpose.Copy (Polling is_drawn)) = refl
-looks-ordinary false (purpose.Copy (Polling is_drawn)) = refl
+looks-ordinary true Purpose.Poll = refl
+looks-ordinary false Purpose.Poll = refl
+looks-ordinary true (Purpose.Copy Try) = refl
+looks-ordinary false (Purpose.Copy Try) = refl
+looks-ordinary true (Purpose.Copy (Polling is_drawn)) = refl
+looks-ordinary false (Purpose.Copy (Polling is_drawn)) = refl
 
 pub registers-ordinary : (granted : Bool) (l : Purpose) → is_ordinary (writer_registered granted l).point ≡ true
 registers-ordinary true l = refl
@@ -132,9 +119,9 @@ registers-ordinary false l = refl
 
 pub again-ordinary : (none : Bool) (l : Purpose) → is_ordinary (writer_looked_again none l) ≡ true
 again-ordinary true l = refl
-again-ordinary false purpose.Poll = refl
-again-ordinary false (purpose.Copy Try) = refl
-again-ordinary false (purpose.Copy (Polling is_drawn)) = refl
+again-ordinary false Purpose.Poll = refl
+again-ordinary false (Purpose.Copy Try) = refl
+again-ordinary false (Purpose.Copy (Polling is_drawn)) = refl
 
 pub draws-ordinary : (form : Form) → is_ordinary (writer_draws form) ≡ true
 draws-ordinary Try = refl
@@ -145,15 +132,15 @@ pub moved-ordinary : (none : Bool) (n : ℕ) (form : Form) (sum : ℕ) → is_or
 moved-ordinary true n form sum = refl
 moved-ordinary false n form sum = refl
 
-pub round-ordinary : (given : Result ℕ Failed) (capacity room : ℕ) (form : Form) (sum : ℕ) → is_ordinary (write_after capacity room (on.CallSource form sum) (found_of given)).point ≡ true
+pub round-ordinary : (given : Result ℕ Failed) (capacity room : ℕ) (form : Form) (sum : ℕ) → is_ordinary (write_after capacity room (WritePoint.CallSource form sum) (found_of given)).point ≡ true
 round-ordinary (Ok n) capacity room form sum = moved-ordinary (n == 0) n form sum
 round-ordinary (Err fails) capacity room form sum = refl
 
 pub done-ordinary : (next : AfterWrite) → is_ordinary (write_done next).point ≡ true
-done-ordinary after_write.Answer = refl
-done-ordinary after_write.Drop = refl
-done-ordinary after_write.WakeWriter = refl
-done-ordinary (after_write.Round form sum) = refl
+done-ordinary AfterWrite.Answer = refl
+done-ordinary AfterWrite.Drop = refl
+done-ordinary AfterWrite.WakeWriter = refl
+done-ordinary (AfterWrite.Round form sum) = refl
 
 pub take-ordinary : (next : AfterWrite) (is_found : Bool) → is_ordinary (reader_taken next is_found).point ≡ true
 take-ordinary next false = done-ordinary next
@@ -164,10 +151,10 @@ own-ordinary false = refl
 own-ordinary true = refl
 
 ordinary-known : (point : WritePoint) → is_ordinary point ≡ true → is_known point ≡ true
-ordinary-known (on.StoreClosed after_write.Answer) ordinary = absurd (cc)
-ordinary-known (on.StoreClosed (after_write.Round form sum)) ordinary = absurd (cc)
-ordinary-known (on.StoreClosed after_write.Drop) ordinary = refl
-ordinary-known (on.StoreClosed after_write.WakeWriter) ordinary = refl
+ordinary-known (WritePoint.StoreClosed AfterWrite.Answer) ordinary = absurd (cc)
+ordinary-known (WritePoint.StoreClosed (AfterWrite.Round form sum)) ordinary = absurd (cc)
+ordinary-known (WritePoint.StoreClosed AfterWrite.Drop) ordinary = refl
+ordinary-known (WritePoint.StoreClosed AfterWrite.WakeWriter) ordinary = refl
 ordinary-known point ordinary = refl
 
 rounds-known : (is_closed : Bool) (n : ℕ) (form : Form) (sum : ℕ) → is_known (writer_rounds is_closed n form sum).point ≡ true
@@ -175,22 +162,22 @@ rounds-known true n form sum = refl
 rounds-known false n form sum = refl
 
 pub writer-known : (offered : List ℕ) (point : WritePoint) (p : Pipe) → is_known (writer_after offered point p).writer ≡ true
-writer-known offered (on.LookClosed l) p = ordinary-known (writer_is_open p.is_closed (p.room == 0) l).point (open-ordinary p.is_closed (p.room == 0) l)
-writer-known offered (on.LookHead l) p = ordinary-known (writer_looked (p.capacity - length p.unread == 0) l) (looks-ordinary (p.capacity - length p.unread == 0) l)
-writer-known offered (on.LookRegister l) p = ordinary-known (writer_registered (is_granted p.writer_call.context) l).point (registers-ordinary (is_granted p.writer_call.context) l)
-writer-known offered (on.LookHeadAgain l) p = ordinary-known (writer_looked_again (p.capacity - length p.unread == 0) l) (again-ordinary (p.capacity - length p.unread == 0) l)
-writer-known offered (on.LookTake purpose.Poll) p = refl
-writer-known offered (on.LookTake (purpose.Copy form)) p = ordinary-known (writer_draws form) (draws-ordinary form)
-writer-known offered (on.CallSource form sum) p = ordinary-known (write_after p.capacity p.room (on.CallSource form sum) (found_of (given (length offered) p.source))).point (round-ordinary (given (length offered) p.source) p.capacity p.room form sum)
-writer-known offered (on.RoundClosed n form sum) p = rounds-known p.is_closed n form sum
-writer-known offered (on.TakeReader next) p = ordinary-known (reader_taken next (is_some p.reader_waker)).point (take-ordinary next (is_some p.reader_waker))
-writer-known offered (on.WakeReader next) p = ordinary-known (write_done next).point (done-ordinary next)
-writer-known offered on.TakeWriter p = ordinary-known (own_taken (is_some p.writer_waker)).point (own-ordinary (is_some p.writer_waker))
+writer-known offered (WritePoint.LookClosed l) p = ordinary-known (writer_is_open p.is_closed (p.room == 0) l).point (open-ordinary p.is_closed (p.room == 0) l)
+writer-known offered (WritePoint.LookHead l) p = ordinary-known (writer_looked (p.capacity - length p.unread == 0) l) (looks-ordinary (p.capacity - length p.unread == 0) l)
+writer-known offered (WritePoint.LookRegister l) p = ordinary-known (writer_registered (is_granted p.writer_call.context) l).point (registers-ordinary (is_granted p.writer_call.context) l)
+writer-known offered (WritePoint.LookHeadAgain l) p = ordinary-known (writer_looked_again (p.capacity - length p.unread == 0) l) (again-ordinary (p.capacity - length p.unread == 0) l)
+writer-known offered (WritePoint.LookTake Purpose.Poll) p = refl
+writer-known offered (WritePoint.LookTake (Purpose.Copy form)) p = ordinary-known (writer_draws form) (draws-ordinary form)
+writer-known offered (WritePoint.CallSource form sum) p = ordinary-known (write_after p.capacity p.room (WritePoint.CallSource form sum) (found_of (given (length offered) p.source))).point (round-ordinary (given (length offered) p.source) p.capacity p.room form sum)
+writer-known offered (WritePoint.RoundClosed n form sum) p = rounds-known p.is_closed n form sum
+writer-known offered (WritePoint.TakeReader next) p = ordinary-known (reader_taken next (is_some p.reader_waker)).point (take-ordinary next (is_some p.reader_waker))
+writer-known offered (WritePoint.WakeReader next) p = ordinary-known (write_done next).point (done-ordinary next)
+writer-known offered WritePoint.TakeWriter p = ordinary-known (own_taken (is_some p.writer_waker)).point (own-ordinary (is_some p.writer_waker))
 writer-known offered point p = refl
 
 pub writer-caused : (offered : List ℕ) (point : WritePoint) (p : Pipe) → is_known point ≡ true → (p.is_closed ≡ true → IsCaused (record p { writer = point })) → (writer_after offered point p).is_closed ≡ true → IsCaused (writer_after offered point p)
-writer-caused offered (on.StoreClosed after_write.Answer) p known caused closed = absurd (cc)
-writer-caused offered (on.StoreClosed (after_write.Round form sum)) p known caused closed = absurd (cc)
-writer-caused offered (on.StoreClosed after_write.Drop) p known caused closed = inr (inl refl)
-writer-caused offered (on.StoreClosed after_write.WakeWriter) p known caused closed = inr (inr refl)
+writer-caused offered (WritePoint.StoreClosed AfterWrite.Answer) p known caused closed = absurd (cc)
+writer-caused offered (WritePoint.StoreClosed (AfterWrite.Round form sum)) p known caused closed = absurd (cc)
+writer-caused offered (WritePoint.StoreClosed AfterWrite.Drop) p known caused closed = inr (inl refl)
+writer-caused offered (WritePoint.StoreClosed AfterWrite.WakeWriter) p known caused closed = inr (inr refl)
 writer-caused offered point p known caused closed = elim (caused closed) [ inl leaves ↦ inl leaves | inr ended ↦ inr (writer-ended offered point p ended) ]

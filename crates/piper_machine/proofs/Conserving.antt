@@ -7,21 +7,7 @@ use Rattle.std.proofs.lemmas.List.{take-append-drop}
 use Rattle.std.proofs.lemmas.Grind.{flat_map-append}
 use Rattle.std.proofs.lemmas.Bool.{cases_lt}
 use Rattle.std.proofs.lemmas.Bool.Decides.{nat_tests}
-use Rattle.piper_protocol.specs.declared.table.Side.{Side}
-use Rattle.piper_protocol.specs.declared.table.Side.TheVariants.{Reader, Writer}
-use Rattle.piper_machine.specs.declared.calls.Step.{Step}
-use Rattle.piper_machine.specs.declared.calls.Step.TheVariants.{Begin, Go, Put}
-use Rattle.piper_protocol.specs.declared.answer.Answer.{Answer}
-use Rattle.piper_machine.specs.declared.events.Event.{Event}
-use Rattle.piper_machine.specs.declared.events.Event.TheVariants.{Began}
-use Rattle.piper_machine.specs.declared.polling.Context.{Context}
-use Rattle.piper_protocol.specs.declared.table.Action.{Action}
-use Rattle.piper_protocol.specs.declared.table.Action.TheVariants as does
-use Rattle.piper_protocol.specs.declared.table.ReadPoint.{ReadPoint}
-use Rattle.piper_protocol.specs.declared.table.ReadPoint.TheVariants as at
-use Rattle.piper_protocol.specs.declared.table.WritePoint.{WritePoint}
-use Rattle.piper_protocol.specs.declared.table.WritePoint.TheVariants as on
-use Rattle.piper_protocol.specs.declared.table.AfterWrite.TheVariants as after_write
+use Rattle.piper_machine.specs.Types.{AfterWrite, Side, Step, Answer, Event, Context, Action, ReadPoint, WritePoint, Reader, Writer, Begin, Go, Put, Began}
 use Rattle.piper_protocol.specs.Index.{offset_of}
 use Rattle.piper_machine.specs.Call.{side_of, kind_of, waker_of}
 use Rattle.piper_machine.specs.Pipe.{Pipe}
@@ -79,7 +65,7 @@ yield-rests (Some cx) = woken-rests cx.luck.yield_granted cx.waker
     woken-rests true name = (refl, refl)
     woken-rests false name = (refl, refl)
 
-head_stored : (side : Side) (p : Pipe) (n : ℕ) → p.start < p.capacity → p.known ≤ length p.unread → n ≤ peeked_count p → Moves p (performed side (does.StoreHead n) p) (logged_of side (does.StoreHead n) p)
+head_stored : (side : Side) (p : Pipe) (n : ℕ) → p.start < p.capacity → p.known ≤ length p.unread → n ≤ peeked_count p → Moves p (performed side (Action.StoreHead n) p) (logged_of side (Action.StoreHead n) p)
 head_stored side p n below known within =
     let long : length (take n p.unread) ≡ n = length-take-le n p.unread (omega arith) in
     let one : take n p.unread ++ [] ≡ take n p.unread = append-nil (take n p.unread) in
@@ -90,7 +76,7 @@ head_stored side p n below known within =
       start = ap (λ k. offset_of p.capacity (p.start + k)) (sym (ap (λ (bytes : List ℕ). length bytes) one ∙ long));
     }
 
-tail_stored : (side : Side) (p : Pipe) (n : ℕ) → p.start < p.capacity → Moves p (performed side (does.StoreTail n) p) (logged_of side (does.StoreTail n) p)
+tail_stored : (side : Side) (p : Pipe) (n : ℕ) → p.start < p.capacity → Moves p (performed side (Action.StoreTail n) p) (logged_of side (Action.StoreTail n) p)
 tail_stored side p n below = record {
   capacity = refl;
   bytes = ap (λ (bytes : List ℕ). p.unread ++ bytes) (sym (append-nil (take n p.lent)));
@@ -102,29 +88,29 @@ quiet : (old new : Pipe) (events : List Event) → old.start < old.capacity → 
 quiet old new events below capacity unread start none = rests-moves old new events below (record { capacity = capacity; unread = unread; start = start; consumed = none.0; published = none.1 })
 
 -- a step of a side, by its kind
-action-moves : (side : Side) (action : Action) (p : Pipe) → p.start < p.capacity → p.known ≤ length p.unread → ((n : ℕ) → action ≡ does.StoreHead n → n ≤ peeked_count p) → Moves p (performed side action p) (logged_of side action p)
-action-moves side (does.StoreHead n) p below known within = head_stored side p n below known (within n refl)
-action-moves side (does.StoreTail n) p below known within = tail_stored side p n below
-action-moves side does.Rest p below known within = quiet _ _ _ below refl refl refl (refl, refl)
-action-moves side does.LoadHead p below known within = quiet _ _ _ below refl refl refl (refl, refl)
-action-moves side does.LoadTail p below known within = quiet _ _ _ below refl refl refl (refl, refl)
-action-moves side does.LoadClosed p below known within = quiet _ _ _ below refl refl refl (refl, refl)
-action-moves side (does.StoreClosed true) p below known within = quiet _ _ _ below refl refl refl (refl, refl)
-action-moves side (does.StoreClosed false) p below known within = quiet _ _ _ below refl refl refl (refl, refl)
-action-moves Reader does.LoadIndex p below known within = quiet _ _ _ below refl refl refl (refl, refl)
-action-moves Writer does.LoadIndex p below known within = quiet _ _ _ below refl refl refl (refl, refl)
-action-moves Reader does.Register p below known within = quiet _ _ _ below refl refl refl (registration-rests Reader p.reader_call.context)
-action-moves Writer does.Register p below known within = quiet _ _ _ below refl refl refl (registration-rests Writer p.writer_call.context)
-action-moves Reader (does.Take Reader) p below known within = quiet _ _ _ below refl refl refl (refl, refl)
-action-moves Reader (does.Take Writer) p below known within = quiet _ _ _ below refl refl refl (refl, refl)
-action-moves Writer (does.Take Reader) p below known within = quiet _ _ _ below refl refl refl (refl, refl)
-action-moves Writer (does.Take Writer) p below known within = quiet _ _ _ below refl refl refl (refl, refl)
-action-moves Reader does.Yield p below known within = quiet _ _ _ below refl refl refl (yield-rests p.reader_call.context)
-action-moves Writer does.Yield p below known within = quiet _ _ _ below refl refl refl (yield-rests p.writer_call.context)
-action-moves side does.CallDestination p below known within = quiet _ _ _ below refl refl refl (refl, refl)
-action-moves side does.CallSource p below known within = quiet _ _ _ below refl refl refl (refl, refl)
-action-moves Reader does.Wake p below known within = quiet _ _ _ below refl refl refl (wake-rests p.reader_call.taken)
-action-moves Writer does.Wake p below known within = quiet _ _ _ below refl refl refl (wake-rests p.writer_call.taken)
+action-moves : (side : Side) (action : Action) (p : Pipe) → p.start < p.capacity → p.known ≤ length p.unread → ((n : ℕ) → action ≡ Action.StoreHead n → n ≤ peeked_count p) → Moves p (performed side action p) (logged_of side action p)
+action-moves side (Action.StoreHead n) p below known within = head_stored side p n below known (within n refl)
+action-moves side (Action.StoreTail n) p below known within = tail_stored side p n below
+action-moves side Action.Rest p below known within = quiet _ _ _ below refl refl refl (refl, refl)
+action-moves side Action.LoadHead p below known within = quiet _ _ _ below refl refl refl (refl, refl)
+action-moves side Action.LoadTail p below known within = quiet _ _ _ below refl refl refl (refl, refl)
+action-moves side Action.LoadClosed p below known within = quiet _ _ _ below refl refl refl (refl, refl)
+action-moves side (Action.StoreClosed true) p below known within = quiet _ _ _ below refl refl refl (refl, refl)
+action-moves side (Action.StoreClosed false) p below known within = quiet _ _ _ below refl refl refl (refl, refl)
+action-moves Reader Action.LoadIndex p below known within = quiet _ _ _ below refl refl refl (refl, refl)
+action-moves Writer Action.LoadIndex p below known within = quiet _ _ _ below refl refl refl (refl, refl)
+action-moves Reader Action.Register p below known within = quiet _ _ _ below refl refl refl (registration-rests Reader p.reader_call.context)
+action-moves Writer Action.Register p below known within = quiet _ _ _ below refl refl refl (registration-rests Writer p.writer_call.context)
+action-moves Reader (Action.Take Reader) p below known within = quiet _ _ _ below refl refl refl (refl, refl)
+action-moves Reader (Action.Take Writer) p below known within = quiet _ _ _ below refl refl refl (refl, refl)
+action-moves Writer (Action.Take Reader) p below known within = quiet _ _ _ below refl refl refl (refl, refl)
+action-moves Writer (Action.Take Writer) p below known within = quiet _ _ _ below refl refl refl (refl, refl)
+action-moves Reader Action.Yield p below known within = quiet _ _ _ below refl refl refl (yield-rests p.reader_call.context)
+action-moves Writer Action.Yield p below known within = quiet _ _ _ below refl refl refl (yield-rests p.writer_call.context)
+action-moves side Action.CallDestination p below known within = quiet _ _ _ below refl refl refl (refl, refl)
+action-moves side Action.CallSource p below known within = quiet _ _ _ below refl refl refl (refl, refl)
+action-moves Reader Action.Wake p below known within = quiet _ _ _ below refl refl refl (wake-rests p.reader_call.taken)
+action-moves Writer Action.Wake p below known within = quiet _ _ _ below refl refl refl (wake-rests p.writer_call.taken)
 
 answer-rests : (side : Side) (answer : Option Answer) → (consumed_of (answer_event side answer) ≡ []) × (published_of (answer_event side answer) ≡ [])
 answer-rests side None = (refl, refl)
@@ -146,16 +132,16 @@ module _ (old q new : Pipe) (events : List Event) (side : Side) (answer : Option
     start = rw (consumed_same, start) m.start;
   }
 
-pub read_store : (point : ReadPoint) (n : ℕ) → read_action point ≡ does.StoreHead n → head_store point ≡ n
-read_store (at.StoreHead m next) n e = cc
+pub read_store : (point : ReadPoint) (n : ℕ) → read_action point ≡ Action.StoreHead n → head_store point ≡ n
+read_store (ReadPoint.StoreHead m next) n e = cc
 read_store point n e = absurd (cc)
 
-pub write_store : (point : WritePoint) (n : ℕ) → write_action point ≡ does.StoreTail n → tail_store point ≡ n
-write_store (on.StoreTail m next) n e = cc
-write_store (on.StoreClosed after_write.Answer) n e = absurd (cc)
-write_store (on.StoreClosed after_write.Drop) n e = absurd (cc)
-write_store (on.StoreClosed after_write.WakeWriter) n e = absurd (cc)
-write_store (on.StoreClosed (after_write.Round form sum)) n e = absurd (cc)
+pub write_store : (point : WritePoint) (n : ℕ) → write_action point ≡ Action.StoreTail n → tail_store point ≡ n
+write_store (WritePoint.StoreTail m next) n e = cc
+write_store (WritePoint.StoreClosed AfterWrite.Answer) n e = absurd (cc)
+write_store (WritePoint.StoreClosed AfterWrite.Drop) n e = absurd (cc)
+write_store (WritePoint.StoreClosed AfterWrite.WakeWriter) n e = absurd (cc)
+write_store (WritePoint.StoreClosed (AfterWrite.Round form sum)) n e = absurd (cc)
 write_store point n e = absurd (cc)
 
 pub step-moves : (lent : List ℕ) (s : Step) (p : Pipe) → IsSound p → let new = stepped lent s p in Moves p new.pipe new.events

@@ -2,28 +2,10 @@
 use Rattle.std.proofs.Common.{◌≡◌, ℕ, ◌+◌, ◌-◌, ◌<◌, ◌≤◌, min, List, [], ◌∷◌, ◌++◌, take, drop, length, Bool, true, false, Option, None, Some, ◌==◌, is_some, refl, sym, ap, ◌∙◌, arith, Result, Ok, Err, length-take-le}
 use Rattle.std.proofs.lemmas.Bool.Decides.{nat_tests}
 use Rattle.std.proofs.lemmas.List.{drop-drop, take_at}
-use Rattle.piper_protocol.specs.declared.table.Side.TheVariants.{Reader, Writer}
-use Rattle.piper_protocol.specs.declared.answer.Polled.TheVariants.{Ready}
-use Rattle.piper_protocol.specs.declared.answer.Failed.{Failed}
-use Rattle.piper_machine.specs.declared.scripted.DestAct.{DestAct}
-use Rattle.piper_machine.specs.declared.scripted.DestAct.TheVariants as dest
-use Rattle.piper_machine.specs.declared.scripted.SourceAct.{SourceAct}
-use Rattle.piper_machine.specs.declared.scripted.SourceAct.TheVariants as source
-use Rattle.piper_protocol.specs.declared.table.TheConstants.{MOST_A_ROUND}
-use Rattle.piper_protocol.specs.declared.table.Form.{Form}
-use Rattle.piper_protocol.specs.declared.table.Form.TheVariants.{Try, Polling}
-use Rattle.piper_protocol.specs.declared.table.Purpose.TheVariants as purpose
-use Rattle.piper_protocol.specs.declared.table.AfterRead.TheVariants as after_read
-use Rattle.piper_protocol.specs.declared.table.AfterWrite.TheVariants as after_write
-use Rattle.piper_protocol.specs.declared.table.ReadPoint.{ReadPoint}
-use Rattle.piper_protocol.specs.declared.table.ReadPoint.TheVariants as at
-use Rattle.piper_protocol.specs.declared.table.WritePoint.{WritePoint}
-use Rattle.piper_protocol.specs.declared.table.WritePoint.TheVariants as on
+use Rattle.piper_machine.specs.Types.{AfterRead, AfterWrite, Purpose, Failed, DestAct, SourceAct, Form, ReadPoint, WritePoint, Destination, Reader, Writer, Ready, MOST_A_ROUND, Try, Polling, Slice, Acts, Go}
 use Rattle.piper_protocol.specs.Index.{offset_of}
 use Rattle.piper_machine.specs.Open.{is_granted}
 use Rattle.piper_protocol.specs.Table.{Next, goes_on, count_answer, failed_answer, write_action, reader_looked, reader_looked_again, reader_registered, reader_is_true, reader_moved, writer_taken, read_after, writer_is_open, writer_looked, writer_looked_again, writer_registered, writer_is_true, writer_moved, writer_rounds, reader_taken, tail_store}
-use Rattle.piper_machine.specs.declared.destination.Destination.{Destination}
-use Rattle.piper_machine.specs.declared.destination.Destination.TheVariants.{Slice, Acts}
 use Rattle.piper_machine.specs.Pipe.{Pipe}
 use Rattle.piper_machine.specs.Move.{with_waker, consumed, published, writer_woken, reader_woken}
 use Rattle.piper_machine.specs.Copy.{Copied, answered, waker_after, woken_after, drained, filled, unlent}
@@ -32,7 +14,6 @@ use Rattle.piper_machine.specs.Round.{taken, found_of, unspent}
 use Rattle.piper_machine.specs.Action.{index_loaded_by, registered_in, round_count, destination_called}
 use Rattle.piper_machine.specs.Lend.{Lendable}
 use Rattle.piper_machine.specs.Step.{Stepped, stepped, filled_out, MayOffer}
-use Rattle.piper_machine.specs.declared.calls.Step.TheVariants.{Go}
 use Rattle.piper_machine.specs.Alone.{Ended, heard, moved_answer, reader_left, reader_ended, reader_alone, reader_moves_alone, is_draining, reader_looks_alone, reader_again_alone, reader_granted_alone, reader_done_alone, reader_takes_alone, writer_ended, writer_filled, writer_open_alone, writer_looks_alone, writer_granted_alone, writer_again_alone, writer_takes_alone, writer_done_alone, writer_rounds_alone, writer_alone, writer_moves_alone, is_filling}
 use Rattle.piper_machine.proofs.Indices.{place_below}
 use Rattle.piper_machine.proofs.Alone.{reader_rest, read_step, reader_rest_at, writer_rest, writer_rest_at}
@@ -41,28 +22,28 @@ use Rattle.piper_machine.proofs.Acts.{take-goes_on, take-ends, give-part, give-e
 
 -- the look of a drain
 
-looks-rest : (none : Bool) (form : Form) (p : Pipe) → reader_looks_alone none (purpose.Copy form) (record p { reader = at.Idle }) ≡ reader_rest_at (goes_on (reader_looked none (purpose.Copy form))) p
+looks-rest : (none : Bool) (form : Form) (p : Pipe) → reader_looks_alone none (Purpose.Copy form) (record p { reader = ReadPoint.Idle }) ≡ reader_rest_at (goes_on (reader_looked none (Purpose.Copy form))) p
 looks-rest true Try p = refl
 looks-rest true (Polling drawn) p = refl
 looks-rest false Try p = refl
 looks-rest false (Polling drawn) p = refl
 
-registers-rest : (granted : Bool) (form : Form) (p : Pipe) → reader_granted_alone granted (purpose.Copy form) (record p { reader = at.Idle }) ≡ reader_rest_at (reader_registered granted (purpose.Copy form)) p
+registers-rest : (granted : Bool) (form : Form) (p : Pipe) → reader_granted_alone granted (Purpose.Copy form) (record p { reader = ReadPoint.Idle }) ≡ reader_rest_at (reader_registered granted (Purpose.Copy form)) p
 registers-rest true form p = refl
 registers-rest false form p = refl
 
-again-rest : (none was_closed : Bool) (form : Form) (p : Pipe) → reader_again_alone none (purpose.Copy form) was_closed (record p { reader = at.Idle }) ≡ reader_rest_at (reader_looked_again none (purpose.Copy form) was_closed) p
+again-rest : (none was_closed : Bool) (form : Form) (p : Pipe) → reader_again_alone none (Purpose.Copy form) was_closed (record p { reader = ReadPoint.Idle }) ≡ reader_rest_at (reader_looked_again none (Purpose.Copy form) was_closed) p
 again-rest true was_closed form p = refl
 again-rest false was_closed Try p = refl
 again-rest false was_closed (Polling drawn) p = refl
 
-takes-rest : (form : Form) (p : Pipe) → reader_takes_alone (purpose.Copy form) (record p { reader = at.Idle }) ≡ reader_rest_at (reader_is_true (purpose.Copy form)) (record p { reader_waker = None; reader_call = record p.reader_call { taken = p.reader_waker } })
+takes-rest : (form : Form) (p : Pipe) → reader_takes_alone (Purpose.Copy form) (record p { reader = ReadPoint.Idle }) ≡ reader_rest_at (reader_is_true (Purpose.Copy form)) (record p { reader_waker = None; reader_call = record p.reader_call { taken = p.reader_waker } })
 takes-rest Try p = refl
 takes-rest (Polling true) p = refl
 takes-rest (Polling false) p = refl
 
 -- the wake of a round
-wakes-rest : (form : Form) (sum : ℕ) (name : Option ℕ) (p : Pipe) → reader_done_alone (after_read.Round form sum) (record p { reader = at.Idle; writer_waker = None; woken = with_waker p.woken name }) ≡ reader_rest_at (writer_taken (after_read.Round form sum) (is_some name)) (record p { writer_waker = None; reader_call = record p.reader_call { taken = name } })
+wakes-rest : (form : Form) (sum : ℕ) (name : Option ℕ) (p : Pipe) → reader_done_alone (AfterRead.Round form sum) (record p { reader = ReadPoint.Idle; writer_waker = None; woken = with_waker p.woken name }) ≡ reader_rest_at (writer_taken (AfterRead.Round form sum) (is_some name)) (record p { writer_waker = None; reader_call = record p.reader_call { taken = name } })
 wakes-rest form sum None p = refl
 wakes-rest form sum (Some name) p = refl
 
@@ -93,7 +74,7 @@ count-answer (Polling drawn) sum = refl
 -- one call of the destination
 module _ (form : Form) (sum : ℕ) (p : Pipe) (start : p.start < p.capacity) (known : p.known ≤ p.capacity) where
   abbrev left : Pipe
-  left = reader_left at.Idle p
+  left = reader_left ReadPoint.Idle p
 
   abbrev moving : Copied (Result ℕ Failed) → Ended
   moving moved = record { answer = moved_answer form moved.answer; pipe = moved.pipe }
@@ -101,7 +82,7 @@ module _ (form : Form) (sum : ℕ) (p : Pipe) (start : p.start < p.capacity) (kn
   abbrev counted : ℕ → Pipe → Ended
   counted count q = record { answer = moved_answer form (Ready (Ok count)); pipe = q }
 
-  ended : counted sum left ≡ reader_ended at.Idle (count_answer form sum) p
+  ended : counted sum left ≡ reader_ended ReadPoint.Idle (count_answer form sum) p
   ended = ap (λ answer. record { answer = answer; pipe = left }) (count-answer form sum)
 
   slice : (size : ℕ) (none : Bool) → (min size (round_count p) == 0) ≡ none → let n = min size (round_count p) in
@@ -127,7 +108,7 @@ module _ (form : Form) (sum : ℕ) (p : Pipe) (start : p.start < p.capacity) (kn
       )
 
   act : (most : ℕ) (acts : List DestAct) (none : Bool) → (taken_by most left == 0) ≡ none → let n = taken_by most left in
-      moving (drain_moves_to (dest.Take most ∷ acts) sum left) ≡ reader_rest_at (reader_moved none n form sum) (record p { destination = Acts acts })
+      moving (drain_moves_to (DestAct.Take most ∷ acts) sum left) ≡ reader_rest_at (reader_moved none n form sum) (record p { destination = Acts acts })
   act most acts true test = ap moving (take-ends most sum (taken_by most left) acts left refl (grind (arith, nat_tests))) ∙ ended
   act most acts false test =
       let n = taken_by most left in
@@ -135,25 +116,25 @@ module _ (form : Form) (sum : ℕ) (p : Pipe) (start : p.start < p.capacity) (kn
       ∙ ap (λ (q : Pipe). moving (drain_moves_to acts (sum + n) q)) (woken-drained n left test)
 
 calls-rest : (destination : Destination) (form : Form) (sum : ℕ) (p : Pipe) → p.start < p.capacity → p.known ≤ p.capacity
-    → let q = record p { destination = destination } in reader_moves_alone form sum (record q { reader = at.Idle }) ≡ reader_rest_at (read_after p.capacity (at.CallDestination form sum) (found_of (taken (round_count p) destination))) (destination_called q)
+    → let q = record p { destination = destination } in reader_moves_alone form sum (record q { reader = ReadPoint.Idle }) ≡ reader_rest_at (read_after p.capacity (ReadPoint.CallDestination form sum) (found_of (taken (round_count p) destination))) (destination_called q)
 calls-rest (Slice size) form sum p start known = slice form sum p start known size (min size (round_count p) == 0) refl
 calls-rest (Acts []) Try sum p start known = refl
 calls-rest (Acts []) (Polling drawn) sum p start known = refl
-calls-rest (Acts (dest.Fail ∷ acts)) Try sum p start known = refl
-calls-rest (Acts (dest.Fail ∷ acts)) (Polling drawn) sum p start known = refl
-calls-rest (Acts (dest.Take most ∷ acts)) form sum p start known = act form sum p start known most acts (min most (round_count p) == 0) refl
+calls-rest (Acts (DestAct.Fail ∷ acts)) Try sum p start known = refl
+calls-rest (Acts (DestAct.Fail ∷ acts)) (Polling drawn) sum p start known = refl
+calls-rest (Acts (DestAct.Take most ∷ acts)) form sum p start known = act form sum p start known most acts (min most (round_count p) == 0) refl
 
 pub drain-rest : (point : ReadPoint) (p : Pipe) → is_draining point ≡ true → p.start < p.capacity → p.known ≤ p.capacity → let s = read_step point p in reader_alone point p ≡ reader_rest s.answer s.pipe
-drain-rest (at.LookTail (purpose.Copy form)) p drains start known = looks-rest (length p.unread == 0) form (index_loaded_by Reader p)
-drain-rest (at.LookRegister (purpose.Copy form)) p drains start known = registers-rest (is_granted p.reader_call.context) form (record p { reader_waker = registered_in p.reader_call.context p.reader_waker })
-drain-rest (at.LookClosed (purpose.Copy form)) p drains start known = refl
-drain-rest (at.LookTailAgain (purpose.Copy form) was_closed) p drains start known = again-rest (length p.unread == 0) was_closed form (index_loaded_by Reader p)
-drain-rest (at.LookTake (purpose.Copy form)) p drains start known = takes-rest form p
-drain-rest at.Yield p drains start known = refl
-drain-rest (at.CallDestination form sum) p drains start known = calls-rest p.destination form sum p start known
-drain-rest (at.StoreHead n (after_read.Round form sum)) p drains start known = refl
-drain-rest (at.TakeWriter (after_read.Round form sum)) p drains start known = wakes-rest form sum p.writer_waker p
-drain-rest (at.WakeWriter (after_read.Round form sum)) p drains start known = refl
+drain-rest (ReadPoint.LookTail (Purpose.Copy form)) p drains start known = looks-rest (length p.unread == 0) form (index_loaded_by Reader p)
+drain-rest (ReadPoint.LookRegister (Purpose.Copy form)) p drains start known = registers-rest (is_granted p.reader_call.context) form (record p { reader_waker = registered_in p.reader_call.context p.reader_waker })
+drain-rest (ReadPoint.LookClosed (Purpose.Copy form)) p drains start known = refl
+drain-rest (ReadPoint.LookTailAgain (Purpose.Copy form) was_closed) p drains start known = again-rest (length p.unread == 0) was_closed form (index_loaded_by Reader p)
+drain-rest (ReadPoint.LookTake (Purpose.Copy form)) p drains start known = takes-rest form p
+drain-rest ReadPoint.Yield p drains start known = refl
+drain-rest (ReadPoint.CallDestination form sum) p drains start known = calls-rest p.destination form sum p start known
+drain-rest (ReadPoint.StoreHead n (AfterRead.Round form sum)) p drains start known = refl
+drain-rest (ReadPoint.TakeWriter (AfterRead.Round form sum)) p drains start known = wakes-rest form sum p.writer_waker p
+drain-rest (ReadPoint.WakeWriter (AfterRead.Round form sum)) p drains start known = refl
 drain-rest point p drains start known = absurd (cc)
 
 -- the writer
@@ -162,37 +143,37 @@ drain-rest point p drains start known = absurd (cc)
 abbrev pub fill_rest_at : Next WritePoint → Pipe → Ended
 fill_rest_at next p = writer_rest_at next (record p { lent = filled_out true next.answer p.lent })
 
-open-rest : (is_closed none : Bool) (form : Form) (p : Pipe) → writer_open_alone is_closed none (purpose.Copy form) (record p { writer = on.Idle }) ≡ fill_rest_at (writer_is_open is_closed none (purpose.Copy form)) p
+open-rest : (is_closed none : Bool) (form : Form) (p : Pipe) → writer_open_alone is_closed none (Purpose.Copy form) (record p { writer = WritePoint.Idle }) ≡ fill_rest_at (writer_is_open is_closed none (Purpose.Copy form)) p
 open-rest true none form p = refl
 open-rest false true form p = refl
 open-rest false false Try p = refl
 open-rest false false (Polling drawn) p = refl
 
-loads-rest : (none : Bool) (form : Form) (p : Pipe) → writer_looks_alone none (purpose.Copy form) (record p { writer = on.Idle }) ≡ fill_rest_at (goes_on (writer_looked none (purpose.Copy form))) p
+loads-rest : (none : Bool) (form : Form) (p : Pipe) → writer_looks_alone none (Purpose.Copy form) (record p { writer = WritePoint.Idle }) ≡ fill_rest_at (goes_on (writer_looked none (Purpose.Copy form))) p
 loads-rest true Try p = refl
 loads-rest true (Polling drawn) p = refl
 loads-rest false Try p = refl
 loads-rest false (Polling drawn) p = refl
 
-writer_registers-rest : (granted : Bool) (form : Form) (p : Pipe) → writer_granted_alone granted (purpose.Copy form) (record p { writer = on.Idle }) ≡ fill_rest_at (writer_registered granted (purpose.Copy form)) p
+writer_registers-rest : (granted : Bool) (form : Form) (p : Pipe) → writer_granted_alone granted (Purpose.Copy form) (record p { writer = WritePoint.Idle }) ≡ fill_rest_at (writer_registered granted (Purpose.Copy form)) p
 writer_registers-rest true form p = refl
 writer_registers-rest false form p = refl
 
-writer_again-rest : (none : Bool) (form : Form) (p : Pipe) → writer_again_alone none (purpose.Copy form) (record p { writer = on.Idle }) ≡ fill_rest_at (goes_on (writer_looked_again none (purpose.Copy form))) p
+writer_again-rest : (none : Bool) (form : Form) (p : Pipe) → writer_again_alone none (Purpose.Copy form) (record p { writer = WritePoint.Idle }) ≡ fill_rest_at (goes_on (writer_looked_again none (Purpose.Copy form))) p
 writer_again-rest true form p = refl
 writer_again-rest false Try p = refl
 writer_again-rest false (Polling drawn) p = refl
 
-writer_takes-rest : (form : Form) (p : Pipe) → writer_takes_alone (purpose.Copy form) (record p { writer = on.Idle }) ≡ fill_rest_at (writer_is_true (purpose.Copy form)) (record p { writer_waker = None; writer_call = record p.writer_call { taken = p.writer_waker } })
+writer_takes-rest : (form : Form) (p : Pipe) → writer_takes_alone (Purpose.Copy form) (record p { writer = WritePoint.Idle }) ≡ fill_rest_at (writer_is_true (Purpose.Copy form)) (record p { writer_waker = None; writer_call = record p.writer_call { taken = p.writer_waker } })
 writer_takes-rest Try p = refl
 writer_takes-rest (Polling true) p = refl
 writer_takes-rest (Polling false) p = refl
 
-reader_wakes-rest : (form : Form) (sum : ℕ) (name : Option ℕ) (p : Pipe) → writer_done_alone (after_write.Round form sum) (record p { writer = on.Idle; reader_waker = None; woken = with_waker p.woken name }) ≡ writer_rest_at (reader_taken (after_write.Round form sum) (is_some name)) (record p { reader_waker = None; writer_call = record p.writer_call { taken = name } })
+reader_wakes-rest : (form : Form) (sum : ℕ) (name : Option ℕ) (p : Pipe) → writer_done_alone (AfterWrite.Round form sum) (record p { writer = WritePoint.Idle; reader_waker = None; woken = with_waker p.woken name }) ≡ writer_rest_at (reader_taken (AfterWrite.Round form sum) (is_some name)) (record p { reader_waker = None; writer_call = record p.writer_call { taken = name } })
 reader_wakes-rest form sum None p = refl
 reader_wakes-rest form sum (Some name) p = refl
 
-rounds-rest : (is_closed : Bool) (n : ℕ) (form : Form) (sum : ℕ) (p : Pipe) → writer_rounds_alone is_closed n form sum (record p { writer = on.Idle }) ≡ fill_rest_at (writer_rounds is_closed n form sum) p
+rounds-rest : (is_closed : Bool) (n : ℕ) (form : Form) (sum : ℕ) (p : Pipe) → writer_rounds_alone is_closed n form sum (record p { writer = WritePoint.Idle }) ≡ fill_rest_at (writer_rounds is_closed n form sum) p
 rounds-rest true n form sum p = refl
 rounds-rest false n form sum p = refl
 
@@ -211,17 +192,17 @@ woken-filled n bytes lent p some within front =
 -- one call of the source
 module _ (form : Form) (sum : ℕ) (p : Pipe) (unclosed : p.is_closed ≡ false) where
   abbrev writer_moving : Copied (Result ℕ Failed) → Ended
-  writer_moving moved = writer_ended on.Idle (moved_answer form moved.answer) moved.pipe
+  writer_moving moved = writer_ended WritePoint.Idle (moved_answer form moved.answer) moved.pipe
 
   abbrev spent : Pipe
-  spent = record p { writer = on.Idle; lent = [] }
+  spent = record p { writer = WritePoint.Idle; lent = [] }
 
   writer_counted : writer_moving (answered (Ready (Ok sum)) spent) ≡ writer_filled (count_answer form sum) p
   writer_counted = ap (λ answer. writer_filled answer p) (count-answer form sum)
 
   gives : (byte : ℕ) (bytes : List ℕ) (acts : List SourceAct) (lent : List ℕ) (none : Bool) → let xs = byte ∷ bytes in let n = min (length lent) (length xs) in
       (n == 0) ≡ none → length lent ≤ p.room → (length lent ≡ 0 → p.room ≡ 0) →
-      writer_moving (fill_moves_more sum (source.Bytes xs ∷ acts) p) ≡ fill_rest_at (writer_moved none n form sum) (record p { lent = take n xs ++ drop n lent; source = unspent (drop n xs) acts })
+      writer_moving (fill_moves_more sum (SourceAct.Bytes xs ∷ acts) p) ≡ fill_rest_at (writer_moved none n form sum) (record p { lent = take n xs ++ drop n lent; source = unspent (drop n xs) acts })
   gives byte bytes acts lent true test within least =
       let full : p.room ≡ 0 = least (grind (arith, nat_tests)) in
       let none : min (length (byte ∷ bytes)) p.room ≡ 0 = omega arith in
@@ -233,7 +214,7 @@ module _ (form : Form) (sum : ℕ) (p : Pipe) (unclosed : p.is_closed ≡ false)
   gives byte bytes acts lent false test within least =
       let xs = byte ∷ bytes in
       let n = min (length lent) (length xs) in
-      let q : Pipe = record p { lent = take n xs ++ drop n lent; source = unspent (drop n xs) acts; writer = on.Idle } in
+      let q : Pipe = record p { lent = take n xs ++ drop n lent; source = unspent (drop n xs) acts; writer = WritePoint.Idle } in
       let some : 1 ≤ n = grind (arith, nat_tests) in
       ap writer_moving (give-part sum n xs acts spent some (omega arith) (omega arith))
       ∙ ap (λ (r : Pipe). writer_moving (fill_moves_more (sum + n) (unspent (drop n xs) acts) r)) (woken-filled n xs lent q some (omega arith) refl)
@@ -241,7 +222,7 @@ module _ (form : Form) (sum : ℕ) (p : Pipe) (unclosed : p.is_closed ≡ false)
 
 -- what a fill that runs alone depends on: it has seen the pipe open, and nobody else closes it
 abbrev pub saw_open : WritePoint → Bool
-saw_open (on.LookClosed l) = false
+saw_open (WritePoint.LookClosed l) = false
 saw_open point = is_filling point
 
 pub record WriterValid (point : WritePoint) (p : Pipe) : Type 0 where
@@ -263,23 +244,23 @@ lends_some p n unread start not_shut lendable none =
     let least = lendable.at_least not_shut in
     omega arith
 
-failed-answer : (form : Form) (p : Pipe) → writer_ended on.Idle (moved_answer form (Ready (Err (record {})))) p ≡ writer_ended on.Idle failed_answer p
+failed-answer : (form : Form) (p : Pipe) → writer_ended WritePoint.Idle (moved_answer form (Ready (Err (record {})))) p ≡ writer_ended WritePoint.Idle failed_answer p
 failed-answer Try p = refl
 failed-answer (Polling drawn) p = refl
 
-source-rest : (form : Form) (sum : ℕ) (acts : List SourceAct) (lent : List ℕ) (p : Pipe) → WriterValid (on.CallSource form sum) p → let asked = record p { writer = on.CallSource form sum; source = acts } in MayOffer (on.CallSource form sum) acts lent asked
-    → let s = stepped lent (Go Writer) asked in writer_moves_alone form sum (record p { writer = on.Idle; source = acts }) ≡ writer_rest s.answer s.pipe
-source-rest form sum [] lent p valid may = ap (writer_moving form sum p (valid.unclosed refl)) (give-none sum (record p { writer = on.Idle; lent = [] }) refl) ∙ writer_counted form sum p (valid.unclosed refl)
-source-rest form sum (source.Fail ∷ acts) lent p valid may = ap (writer_moving form sum p (valid.unclosed refl)) (give-fails sum acts (record p { writer = on.Idle; lent = [] }) refl) ∙ failed-answer form (record p { lent = [] })
-source-rest form sum (source.Bytes [] ∷ acts) lent p valid may =
+source-rest : (form : Form) (sum : ℕ) (acts : List SourceAct) (lent : List ℕ) (p : Pipe) → WriterValid (WritePoint.CallSource form sum) p → let asked = record p { writer = WritePoint.CallSource form sum; source = acts } in MayOffer (WritePoint.CallSource form sum) acts lent asked
+    → let s = stepped lent (Go Writer) asked in writer_moves_alone form sum (record p { writer = WritePoint.Idle; source = acts }) ≡ writer_rest s.answer s.pipe
+source-rest form sum [] lent p valid may = ap (writer_moving form sum p (valid.unclosed refl)) (give-none sum (record p { writer = WritePoint.Idle; lent = [] }) refl) ∙ writer_counted form sum p (valid.unclosed refl)
+source-rest form sum (SourceAct.Fail ∷ acts) lent p valid may = ap (writer_moving form sum p (valid.unclosed refl)) (give-fails sum acts (record p { writer = WritePoint.Idle; lent = [] }) refl) ∙ failed-answer form (record p { lent = [] })
+source-rest form sum (SourceAct.Bytes [] ∷ acts) lent p valid may =
     let none : (min (length lent) 0 == 0) ≡ true = grind (arith, nat_tests) in
-    ap (writer_moving form sum p (valid.unclosed refl)) (give-nothing sum acts (record p { writer = on.Idle; lent = [] }) refl)
+    ap (writer_moving form sum p (valid.unclosed refl)) (give-nothing sum acts (record p { writer = WritePoint.Idle; lent = [] }) refl)
     ∙ writer_counted form sum p (valid.unclosed refl)
     ∙ ap (λ (b : Bool). fill_rest_at (writer_moved b (min (length lent) 0) form sum) (record p { lent = take (min (length lent) 0) [] ++ drop (min (length lent) 0) lent; source = unspent (drop (min (length lent) 0) []) acts })) (sym none)
-source-rest form sum (source.Bytes (byte ∷ bytes) ∷ acts) lent p valid may =
+source-rest form sum (SourceAct.Bytes (byte ∷ bytes) ∷ acts) lent p valid may =
     let most = may.at_most in
     gives form sum p (valid.unclosed refl) byte bytes acts lent (min (length lent) (length (byte ∷ bytes)) == 0) refl (omega arith)
-    (lends_some (record p { writer = on.CallSource form sum; source = source.Bytes (byte ∷ bytes) ∷ acts }) (length lent) valid.unread valid.start (not_shut p.is_shut p.is_closed valid.shut (valid.unclosed refl)) may)
+    (lends_some (record p { writer = WritePoint.CallSource form sum; source = SourceAct.Bytes (byte ∷ bytes) ∷ acts }) (length lent) valid.unread valid.start (not_shut p.is_shut p.is_closed valid.shut (valid.unclosed refl)) may)
 
 -- the writer's step from a point, with these bytes in what it lends
 abbrev pub fill_step : WritePoint → List ℕ → Pipe → Stepped
@@ -287,17 +268,17 @@ fill_step point lent p = stepped lent (Go Writer) (heard Writer (write_action po
 
 pub fill-rest : (point : WritePoint) (lent : List ℕ) (p : Pipe) → is_filling point ≡ true → WriterValid point p → MayOffer point p.source lent (record p { writer = point })
     → let s = fill_step point lent p in writer_alone point p ≡ writer_rest s.answer s.pipe
-fill-rest (on.LookClosed (purpose.Copy form)) lent p fills valid may = open-rest p.is_closed (p.room == 0) form p
-fill-rest (on.LookHead (purpose.Copy form)) lent p fills valid may = loads-rest (p.capacity - length p.unread == 0) form (index_loaded_by Writer p)
-fill-rest (on.LookRegister (purpose.Copy form)) lent p fills valid may = writer_registers-rest (is_granted p.writer_call.context) form (record p { writer_waker = registered_in p.writer_call.context p.writer_waker })
-fill-rest (on.LookHeadAgain (purpose.Copy form)) lent p fills valid may = writer_again-rest (p.capacity - length p.unread == 0) form (index_loaded_by Writer p)
-fill-rest (on.LookClosedAgain (purpose.Copy form)) lent p fills valid may = refl
-fill-rest (on.LookTake (purpose.Copy form)) lent p fills valid may = writer_takes-rest form p
-fill-rest on.Yield lent p fills valid may = refl
-fill-rest (on.CallSource form sum) lent p fills valid may = source-rest form sum p.source lent p valid may
-fill-rest (on.RoundClosed n form sum) lent p fills valid may = rounds-rest p.is_closed n form sum p
-fill-rest (on.StoreTail n (after_write.Round form sum)) lent p fills valid may = refl
-fill-rest (on.TakeReader (after_write.Round form sum)) lent p fills valid may = reader_wakes-rest form sum p.reader_waker p
-fill-rest (on.WakeReader (after_write.Round form sum)) lent p fills valid may = refl
-fill-rest (on.StoreClosed (after_write.Round form sum)) lent p fills valid may = refl
+fill-rest (WritePoint.LookClosed (Purpose.Copy form)) lent p fills valid may = open-rest p.is_closed (p.room == 0) form p
+fill-rest (WritePoint.LookHead (Purpose.Copy form)) lent p fills valid may = loads-rest (p.capacity - length p.unread == 0) form (index_loaded_by Writer p)
+fill-rest (WritePoint.LookRegister (Purpose.Copy form)) lent p fills valid may = writer_registers-rest (is_granted p.writer_call.context) form (record p { writer_waker = registered_in p.writer_call.context p.writer_waker })
+fill-rest (WritePoint.LookHeadAgain (Purpose.Copy form)) lent p fills valid may = writer_again-rest (p.capacity - length p.unread == 0) form (index_loaded_by Writer p)
+fill-rest (WritePoint.LookClosedAgain (Purpose.Copy form)) lent p fills valid may = refl
+fill-rest (WritePoint.LookTake (Purpose.Copy form)) lent p fills valid may = writer_takes-rest form p
+fill-rest WritePoint.Yield lent p fills valid may = refl
+fill-rest (WritePoint.CallSource form sum) lent p fills valid may = source-rest form sum p.source lent p valid may
+fill-rest (WritePoint.RoundClosed n form sum) lent p fills valid may = rounds-rest p.is_closed n form sum p
+fill-rest (WritePoint.StoreTail n (AfterWrite.Round form sum)) lent p fills valid may = refl
+fill-rest (WritePoint.TakeReader (AfterWrite.Round form sum)) lent p fills valid may = reader_wakes-rest form sum p.reader_waker p
+fill-rest (WritePoint.WakeReader (AfterWrite.Round form sum)) lent p fills valid may = refl
+fill-rest (WritePoint.StoreClosed (AfterWrite.Round form sum)) lent p fills valid may = refl
 fill-rest point lent p fills valid may = absurd (cc)

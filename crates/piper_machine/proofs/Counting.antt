@@ -1,25 +1,7 @@
 -- What each side knows, and how many steps its call has made, and calls of its destination or
 -- source: what one step does to them.
 use Rattle.std.proofs.Common.{◌≡◌, ℕ, ◌+◌, ◌*◌, ◌≤◌, List, ◌++◌, Bool, true, false, Option, None, Some, ◌==◌, refl, sym, subst, ◌∙◌, arith}
-use Rattle.piper_protocol.specs.declared.table.Side.{Side}
-use Rattle.piper_protocol.specs.declared.table.Side.TheVariants.{Reader, Writer}
-use Rattle.piper_machine.specs.declared.calls.Call.{Call}
-use Rattle.piper_machine.specs.declared.calls.Call.TheVariants as call
-use Rattle.piper_machine.specs.declared.calls.Step.{Step}
-use Rattle.piper_machine.specs.declared.calls.Step.TheVariants.{Begin, Go, Put}
-use Rattle.piper_protocol.specs.declared.answer.Answer.{Answer}
-use Rattle.piper_machine.specs.declared.events.Event.{Event}
-use Rattle.piper_protocol.specs.declared.table.Form.{Form}
-use Rattle.piper_protocol.specs.declared.table.Form.TheVariants.{Try, Polling}
-use Rattle.piper_protocol.specs.declared.table.Purpose.TheVariants as purpose
-use Rattle.piper_protocol.specs.declared.table.AfterWrite.TheVariants as after_write
-use Rattle.piper_protocol.specs.declared.table.ReadPoint.{ReadPoint}
-use Rattle.piper_protocol.specs.declared.table.ReadPoint.TheVariants as at
-use Rattle.piper_protocol.specs.declared.table.WritePoint.{WritePoint}
-use Rattle.piper_protocol.specs.declared.table.WritePoint.TheVariants as on
-use Rattle.piper_protocol.specs.declared.table.Action.{Action}
-use Rattle.piper_protocol.specs.declared.table.Action.TheVariants as does
-use Rattle.piper_machine.specs.declared.refusals.StepRefusal.{StepRefusal}
+use Rattle.piper_machine.specs.Types.{AfterWrite, Purpose, Side, Call, Step, Answer, Event, Form, ReadPoint, WritePoint, Action, StepRefusal, Reader, Writer, Begin, Go, Put, Try, Polling}
 use Rattle.piper_machine.specs.Log.{answer_event}
 use Rattle.piper_protocol.specs.Table.{read_action, write_action, reader_looks_for}
 use Rattle.piper_machine.specs.Pipe.{Pipe}
@@ -55,18 +37,18 @@ Counts Reader p k t calls = ReaderCounts p.reader p.known k t calls
 Counts Writer p k t calls = WriterCounts p.writer p.room k t calls
 
 read_least-found : (found : ℕ) (point : ReadPoint) → read_least found point ≤ found
-read_least-found found (at.LookTail l) = omega arith
-read_least-found found (at.LookRegister l) = omega arith
-read_least-found found (at.LookClosed l) = omega arith
-read_least-found found (at.LookTailAgain l was_closed) = omega arith
+read_least-found found (ReadPoint.LookTail l) = omega arith
+read_least-found found (ReadPoint.LookRegister l) = omega arith
+read_least-found found (ReadPoint.LookClosed l) = omega arith
+read_least-found found (ReadPoint.LookTailAgain l was_closed) = omega arith
 read_least-found found point = omega arith
 
 write_least-found : (found : ℕ) (point : WritePoint) → write_least found point ≤ found
-write_least-found found (on.LookClosed l) = omega arith
-write_least-found found (on.LookHead l) = omega arith
-write_least-found found (on.LookRegister l) = omega arith
-write_least-found found (on.LookHeadAgain l) = omega arith
-write_least-found found (on.LookClosedAgain l) = omega arith
+write_least-found found (WritePoint.LookClosed l) = omega arith
+write_least-found found (WritePoint.LookHead l) = omega arith
+write_least-found found (WritePoint.LookRegister l) = omega arith
+write_least-found found (WritePoint.LookHeadAgain l) = omega arith
+write_least-found found (WritePoint.LookClosedAgain l) = omega arith
 write_least-found found point = omega arith
 
 pub counts-found : (side : Side) (p : Pipe) (k : Knowledge) (t : Tally) (calls : ℕ) → Counts side p k t calls → (t.made ≤ most_of k.found t.call) × (calls ≤ k.found + 1)
@@ -74,31 +56,31 @@ counts-found Reader p k t calls held = let within = held.within k.found (read_le
 counts-found Writer p k t calls held = let within = held.within k.found (write_least-found k.found p.writer) in (omega (arith, within.steps), omega (arith, within.calls))
 
 -- a side's step leaves where the other is, and what it knows
-pub reader_leaves-writer : (action : Action) (p : Pipe) → ((n : ℕ) → action ≡ does.StoreTail n → ⊥) → let q = performed Reader action p in (q.writer ≡ p.writer) × (q.room ≡ p.room) × (q.capacity ≡ p.capacity)
-reader_leaves-writer (does.StoreTail n) p never = absurd (never n refl)
-reader_leaves-writer (does.StoreClosed true) p never = (refl, refl, refl)
-reader_leaves-writer (does.StoreClosed false) p never = (refl, refl, refl)
-reader_leaves-writer (does.Take Reader) p never = (refl, refl, refl)
-reader_leaves-writer (does.Take Writer) p never = (refl, refl, refl)
+pub reader_leaves-writer : (action : Action) (p : Pipe) → ((n : ℕ) → action ≡ Action.StoreTail n → ⊥) → let q = performed Reader action p in (q.writer ≡ p.writer) × (q.room ≡ p.room) × (q.capacity ≡ p.capacity)
+reader_leaves-writer (Action.StoreTail n) p never = absurd (never n refl)
+reader_leaves-writer (Action.StoreClosed true) p never = (refl, refl, refl)
+reader_leaves-writer (Action.StoreClosed false) p never = (refl, refl, refl)
+reader_leaves-writer (Action.Take Reader) p never = (refl, refl, refl)
+reader_leaves-writer (Action.Take Writer) p never = (refl, refl, refl)
 reader_leaves-writer action p never = (refl, refl, refl)
 
-pub writer_leaves-reader : (action : Action) (p : Pipe) → ((n : ℕ) → action ≡ does.StoreHead n → ⊥) → let q = performed Writer action p in (q.reader ≡ p.reader) × (q.known ≡ p.known) × (q.capacity ≡ p.capacity)
-writer_leaves-reader (does.StoreHead n) p never = absurd (never n refl)
-writer_leaves-reader (does.StoreClosed true) p never = (refl, refl, refl)
-writer_leaves-reader (does.StoreClosed false) p never = (refl, refl, refl)
-writer_leaves-reader (does.Take Reader) p never = (refl, refl, refl)
-writer_leaves-reader (does.Take Writer) p never = (refl, refl, refl)
+pub writer_leaves-reader : (action : Action) (p : Pipe) → ((n : ℕ) → action ≡ Action.StoreHead n → ⊥) → let q = performed Writer action p in (q.reader ≡ p.reader) × (q.known ≡ p.known) × (q.capacity ≡ p.capacity)
+writer_leaves-reader (Action.StoreHead n) p never = absurd (never n refl)
+writer_leaves-reader (Action.StoreClosed true) p never = (refl, refl, refl)
+writer_leaves-reader (Action.StoreClosed false) p never = (refl, refl, refl)
+writer_leaves-reader (Action.Take Reader) p never = (refl, refl, refl)
+writer_leaves-reader (Action.Take Writer) p never = (refl, refl, refl)
 writer_leaves-reader action p never = (refl, refl, refl)
 
-pub reader_never-tail : (point : ReadPoint) (n : ℕ) → read_action point ≡ does.StoreTail n → ⊥
-reader_never-tail at.Idle n e = absurd (cc)
+pub reader_never-tail : (point : ReadPoint) (n : ℕ) → read_action point ≡ Action.StoreTail n → ⊥
+reader_never-tail ReadPoint.Idle n e = absurd (cc)
 reader_never-tail point n e = absurd (cc)
 
-pub writer_never-head : (point : WritePoint) (n : ℕ) → write_action point ≡ does.StoreHead n → ⊥
-writer_never-head (on.StoreClosed after_write.Answer) n e = absurd (cc)
-writer_never-head (on.StoreClosed after_write.Drop) n e = absurd (cc)
-writer_never-head (on.StoreClosed after_write.WakeWriter) n e = absurd (cc)
-writer_never-head (on.StoreClosed (after_write.Round form sum)) n e = absurd (cc)
+pub writer_never-head : (point : WritePoint) (n : ℕ) → write_action point ≡ Action.StoreHead n → ⊥
+writer_never-head (WritePoint.StoreClosed AfterWrite.Answer) n e = absurd (cc)
+writer_never-head (WritePoint.StoreClosed AfterWrite.Drop) n e = absurd (cc)
+writer_never-head (WritePoint.StoreClosed AfterWrite.WakeWriter) n e = absurd (cc)
+writer_never-head (WritePoint.StoreClosed (AfterWrite.Round form sum)) n e = absurd (cc)
 writer_never-head point n e = absurd (cc)
 
 -- how a call begins
@@ -111,50 +93,50 @@ abbrev opened_with : Knowledge → Bool → Knowledge
 opened_with k asks = record { known = k.known; found = k.known; is_query = asks }
 
 drains-count : (known : ℕ) (k : Knowledge) (none : Bool) (form : Form) (c : Call) → (known == 0) ≡ none → known ≤ k.known → ((f : ℕ) → most_steps f c ≡ 6 + 4 * f)
-    → ReaderCounts (reader_looks_for none (purpose.Copy form)) known (opened_with k false) (record { made = 0; call = Some c }) 0
+    → ReaderCounts (reader_looks_for none (Purpose.Copy form)) known (opened_with k false) (record { made = 0; call = Some c }) 0
 drains-count known k true form c test enough most = record { sees = refl; enough = enough; within = λ f least. let is = most f in record { steps = omega arith; calls = omega arith } }
 drains-count known k false Try c test enough most = record { sees = tt; enough = enough; within = λ f least. let is = most f in record { steps = omega arith; calls = omega arith } }
 drains-count known k false (Polling is_drawn) c test enough most = record { sees = some-known known test; enough = enough; within = λ f least. let is = most f in record { steps = omega arith; calls = omega arith } }
 
 polls-count : (known : ℕ) (k : Knowledge) (none : Bool) (c : Call) → (known == 0) ≡ none → known ≤ k.known → ((f : ℕ) → most_steps f c ≡ 5)
-    → ReaderCounts (reader_looks_for none purpose.Poll) known (opened_with k false) (record { made = 0; call = Some c }) 0
+    → ReaderCounts (reader_looks_for none Purpose.Poll) known (opened_with k false) (record { made = 0; call = Some c }) 0
 polls-count known k true c test enough most = record { sees = refl; enough = enough; within = λ f least. let is = most f in record { steps = omega arith; calls = omega arith } }
 polls-count known k false c test enough most = record { sees = some-known known test; enough = enough; within = λ f least. let is = most f in record { steps = omega arith; calls = omega arith } }
 
 fills-count : (room : ℕ) (k : Knowledge) (form : Form) (c : Call) → room ≤ k.known → ((f : ℕ) → most_steps f c ≡ 6 + 5 * f)
-    → WriterCounts (on.LookClosed (purpose.Copy form)) room (opened_with k false) (record { made = 0; call = Some c }) 0
+    → WriterCounts (WritePoint.LookClosed (Purpose.Copy form)) room (opened_with k false) (record { made = 0; call = Some c }) 0
 fills-count room k form c enough most = record { sees = (refl, enough); enough = enough; within = λ f least. let is = most f in record { steps = omega arith; calls = omega arith } }
 
-idle_writer : (point : WritePoint) (more : Option StepRefusal) → or_else (cannot_begin (writer_state point)) more ≡ None → point ≡ on.Idle
-idle_writer on.Idle more accepted = refl
+idle_writer : (point : WritePoint) (more : Option StepRefusal) → or_else (cannot_begin (writer_state point)) more ≡ None → point ≡ WritePoint.Idle
+idle_writer WritePoint.Idle more accepted = refl
 idle_writer point more accepted = absurd (cc)
 
-lends-count : (point : WritePoint) (room most : ℕ) (k : Knowledge) → point ≡ on.Idle → room ≤ k.known → WriterCounts point room (opened_with k false) (record { made = 0; call = Some (call.WriteBuf most) }) 0
-lends-count on.Idle room most k idle enough = record { sees = tt; enough = enough; within = λ f least. record { steps = omega arith; calls = omega arith } }
+lends-count : (point : WritePoint) (room most : ℕ) (k : Knowledge) → point ≡ WritePoint.Idle → room ≤ k.known → WriterCounts point room (opened_with k false) (record { made = 0; call = Some (Call.WriteBuf most) }) 0
+lends-count WritePoint.Idle room most k idle enough = record { sees = tt; enough = enough; within = λ f least. record { steps = omega arith; calls = omega arith } }
 lends-count point room most k idle enough = absurd (cc)
 
 -- the call that is opened begins anew, and leaves the other side as it is
 begin-counts : (side : Side) (cap : ℕ) (lent : List ℕ) (c : Call) (p : Pipe) (k : Knowledge) (t : Tally) (calls : ℕ) → refusal_of (Begin c) p ≡ None → Counts side p k t calls
     → let new = stepped lent (Begin c) p in Counts side new.pipe (knowledge_from cap side k new.events) (tallied side t (Begin c)) (called side p (Begin c) calls)
-begin-counts Reader cap lent (call.Query Reader query) p k t calls accepted held = record { sees = refl; enough = held.enough; within = λ f least. plain f 2 (call.Query Reader query) (omega arith) }
-begin-counts Reader cap lent (call.IsClosed Reader) p k t calls accepted held = record { sees = tt; enough = held.enough; within = λ f least. plain f 1 (call.IsClosed Reader) (omega arith) }
-begin-counts Reader cap lent (call.Poll Reader waker luck) p k t calls accepted held = polls-count p.known k (p.known == 0) (call.Poll Reader waker luck) refl held.enough (λ f. refl)
-begin-counts Reader cap lent (call.TryDrain size) p k t calls accepted held = drains-count p.known k (p.known == 0) _ (call.TryDrain size) refl held.enough (λ f. refl)
-begin-counts Reader cap lent (call.PollDrainBytes waker luck size) p k t calls accepted held = drains-count p.known k (p.known == 0) _ (call.PollDrainBytes waker luck size) refl held.enough (λ f. refl)
-begin-counts Reader cap lent (call.PollDrain waker luck acts) p k t calls accepted held = drains-count p.known k (p.known == 0) _ (call.PollDrain waker luck acts) refl held.enough (λ f. refl)
-begin-counts Reader cap lent (call.Consume n) p k t calls accepted held = record { sees = tt; enough = held.enough; within = λ f least. plain f 3 (call.Consume n) (omega arith) }
-begin-counts Reader cap lent (call.Drop Reader) p k t calls accepted held = record { sees = tt; enough = held.enough; within = λ f least. plain f 3 (call.Drop Reader) (omega arith) }
+begin-counts Reader cap lent (Call.Query Reader query) p k t calls accepted held = record { sees = refl; enough = held.enough; within = λ f least. plain f 2 (Call.Query Reader query) (omega arith) }
+begin-counts Reader cap lent (Call.IsClosed Reader) p k t calls accepted held = record { sees = tt; enough = held.enough; within = λ f least. plain f 1 (Call.IsClosed Reader) (omega arith) }
+begin-counts Reader cap lent (Call.Poll Reader waker luck) p k t calls accepted held = polls-count p.known k (p.known == 0) (Call.Poll Reader waker luck) refl held.enough (λ f. refl)
+begin-counts Reader cap lent (Call.TryDrain size) p k t calls accepted held = drains-count p.known k (p.known == 0) _ (Call.TryDrain size) refl held.enough (λ f. refl)
+begin-counts Reader cap lent (Call.PollDrainBytes waker luck size) p k t calls accepted held = drains-count p.known k (p.known == 0) _ (Call.PollDrainBytes waker luck size) refl held.enough (λ f. refl)
+begin-counts Reader cap lent (Call.PollDrain waker luck acts) p k t calls accepted held = drains-count p.known k (p.known == 0) _ (Call.PollDrain waker luck acts) refl held.enough (λ f. refl)
+begin-counts Reader cap lent (Call.Consume n) p k t calls accepted held = record { sees = tt; enough = held.enough; within = λ f least. plain f 3 (Call.Consume n) (omega arith) }
+begin-counts Reader cap lent (Call.Drop Reader) p k t calls accepted held = record { sees = tt; enough = held.enough; within = λ f least. plain f 3 (Call.Drop Reader) (omega arith) }
 begin-counts Reader cap lent c p k t calls accepted held = held
-begin-counts Writer cap lent (call.Query Writer query) p k t calls accepted held = record { sees = refl; enough = held.enough; within = λ f least. plain f 2 (call.Query Writer query) (omega arith) }
-begin-counts Writer cap lent (call.IsClosed Writer) p k t calls accepted held = record { sees = tt; enough = held.enough; within = λ f least. plain f 1 (call.IsClosed Writer) (omega arith) }
-begin-counts Writer cap lent (call.Poll Writer waker luck) p k t calls accepted held = record { sees = (refl, held.enough); enough = held.enough; within = λ f least. plain f 5 (call.Poll Writer waker luck) (omega arith) }
-begin-counts Writer cap lent (call.TryFill bytes) p k t calls accepted held = fills-count p.room k _ (call.TryFill bytes) held.enough (λ f. refl)
-begin-counts Writer cap lent (call.PollFillBytes waker luck bytes) p k t calls accepted held = fills-count p.room k _ (call.PollFillBytes waker luck bytes) held.enough (λ f. refl)
-begin-counts Writer cap lent (call.PollFill waker luck acts) p k t calls accepted held = fills-count p.room k _ (call.PollFill waker luck acts) held.enough (λ f. refl)
-begin-counts Writer cap lent (call.WriteBuf most) p k t calls accepted held = lends-count p.writer p.room most k (idle_writer p.writer _ accepted) held.enough
-begin-counts Writer cap lent (call.Produced n) p k t calls accepted held = record { sees = tt; enough = held.enough; within = λ f least. plain f 3 (call.Produced n) (omega arith) }
-begin-counts Writer cap lent call.Close p k t calls accepted held = record { sees = tt; enough = held.enough; within = λ f least. plain f 5 call.Close (omega arith) }
-begin-counts Writer cap lent (call.Drop Writer) p k t calls accepted held = record { sees = tt; enough = held.enough; within = λ f least. plain f 3 (call.Drop Writer) (omega arith) }
+begin-counts Writer cap lent (Call.Query Writer query) p k t calls accepted held = record { sees = refl; enough = held.enough; within = λ f least. plain f 2 (Call.Query Writer query) (omega arith) }
+begin-counts Writer cap lent (Call.IsClosed Writer) p k t calls accepted held = record { sees = tt; enough = held.enough; within = λ f least. plain f 1 (Call.IsClosed Writer) (omega arith) }
+begin-counts Writer cap lent (Call.Poll Writer waker luck) p k t calls accepted held = record { sees = (refl, held.enough); enough = held.enough; within = λ f least. plain f 5 (Call.Poll Writer waker luck) (omega arith) }
+begin-counts Writer cap lent (Call.TryFill bytes) p k t calls accepted held = fills-count p.room k _ (Call.TryFill bytes) held.enough (λ f. refl)
+begin-counts Writer cap lent (Call.PollFillBytes waker luck bytes) p k t calls accepted held = fills-count p.room k _ (Call.PollFillBytes waker luck bytes) held.enough (λ f. refl)
+begin-counts Writer cap lent (Call.PollFill waker luck acts) p k t calls accepted held = fills-count p.room k _ (Call.PollFill waker luck acts) held.enough (λ f. refl)
+begin-counts Writer cap lent (Call.WriteBuf most) p k t calls accepted held = lends-count p.writer p.room most k (idle_writer p.writer _ accepted) held.enough
+begin-counts Writer cap lent (Call.Produced n) p k t calls accepted held = record { sees = tt; enough = held.enough; within = λ f least. plain f 3 (Call.Produced n) (omega arith) }
+begin-counts Writer cap lent Call.Close p k t calls accepted held = record { sees = tt; enough = held.enough; within = λ f least. plain f 5 Call.Close (omega arith) }
+begin-counts Writer cap lent (Call.Drop Writer) p k t calls accepted held = record { sees = tt; enough = held.enough; within = λ f least. plain f 3 (Call.Drop Writer) (omega arith) }
 begin-counts Writer cap lent c p k t calls accepted held = held
 
 -- what a step reports to a side, with the answer after it

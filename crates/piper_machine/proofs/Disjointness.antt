@@ -1,16 +1,9 @@
 -- The places of the two sides are apart in every sound pipe, and no step of the writer changes a
 -- byte that the reader knows.
-use Rattle.std.proofs.Common.{◌≡◌, ◌≢◌, ℕ, ◌+◌, ◌-◌, ◌<◌, ◌≤◌, List, length, take, true, false, Result, Ok, Err, refl, sym, ap, subst, ◌∙◌, arith}
-use Rattle.std.specs.Prelude.{OnOk, OnErr}
+use Rattle.std.proofs.Common.{◌≡◌, ◌≢◌, ℕ, ◌+◌, ◌-◌, ◌<◌, ◌≤◌, List, length, take, true, false, Result, Ok, Err, refl, sym, ap, subst, ◌∙◌, arith, OnOk, OnErr}
 use Rattle.std.proofs.lemmas.List.{take-append-le}
 use Rattle.std.proofs.lemmas.Bool.Decides.{nat_tests}
-use Rattle.piper_protocol.specs.declared.table.Side.TheVariants.{Reader, Writer}
-use Rattle.piper_machine.specs.declared.events.Event.{Event}
-use Rattle.piper_machine.specs.declared.refusals.StepRefusal.{StepRefusal}
-use Rattle.piper_machine.specs.declared.calls.Step.{Step}
-use Rattle.piper_machine.specs.declared.calls.Step.TheVariants.{Begin, Go, Put}
-use Rattle.piper_protocol.specs.declared.table.Action.{Action}
-use Rattle.piper_protocol.specs.declared.table.Action.TheVariants as does
+use Rattle.piper_machine.specs.Types.{Event, StepRefusal, Step, Action, Reader, Writer, Begin, Go, Put}
 use Rattle.piper_protocol.specs.Index.{offset_of}
 use Rattle.piper_machine.specs.Pipe.{Pipe}
 use Rattle.piper_machine.specs.Sound.{IsSound}
@@ -35,23 +28,23 @@ keeps_all : (p q : Pipe) → q.capacity ≡ p.capacity → q.start ≡ p.start �
 keeps_all p q capacity start known unread = record { capacity = capacity; start = start; known = known; bytes = ap (take p.known) unread }
 
 -- the writer's own kinds of step
-writer-keeps : (action : Action) (p : Pipe) → p.known ≤ length p.unread → ((n : ℕ) → action ≡ does.StoreHead n → ⊥) → KeepsKnown p (performed Writer action p)
-writer-keeps (does.StoreHead n) p known never = absurd (never n refl)
-writer-keeps (does.StoreTail n) p known never = record { capacity = refl; start = refl; known = refl; bytes = take-append-le p.known p.unread (take n p.lent) known }
-writer-keeps does.Rest p known never = keeps_all p _ refl refl refl refl
-writer-keeps does.LoadHead p known never = keeps_all p _ refl refl refl refl
-writer-keeps does.LoadTail p known never = keeps_all p _ refl refl refl refl
-writer-keeps does.LoadIndex p known never = keeps_all p _ refl refl refl refl
-writer-keeps does.LoadClosed p known never = keeps_all p _ refl refl refl refl
-writer-keeps does.Register p known never = keeps_all p _ refl refl refl refl
-writer-keeps (does.StoreClosed true) p known never = keeps_all p _ refl refl refl refl
-writer-keeps (does.StoreClosed false) p known never = keeps_all p _ refl refl refl refl
-writer-keeps (does.Take Reader) p known never = keeps_all p _ refl refl refl refl
-writer-keeps (does.Take Writer) p known never = keeps_all p _ refl refl refl refl
-writer-keeps does.Wake p known never = keeps_all p _ refl refl refl refl
-writer-keeps does.Yield p known never = keeps_all p _ refl refl refl refl
-writer-keeps does.CallDestination p known never = keeps_all p _ refl refl refl refl
-writer-keeps does.CallSource p known never = keeps_all p _ refl refl refl refl
+writer-keeps : (action : Action) (p : Pipe) → p.known ≤ length p.unread → ((n : ℕ) → action ≡ Action.StoreHead n → ⊥) → KeepsKnown p (performed Writer action p)
+writer-keeps (Action.StoreHead n) p known never = absurd (never n refl)
+writer-keeps (Action.StoreTail n) p known never = record { capacity = refl; start = refl; known = refl; bytes = take-append-le p.known p.unread (take n p.lent) known }
+writer-keeps Action.Rest p known never = keeps_all p _ refl refl refl refl
+writer-keeps Action.LoadHead p known never = keeps_all p _ refl refl refl refl
+writer-keeps Action.LoadTail p known never = keeps_all p _ refl refl refl refl
+writer-keeps Action.LoadIndex p known never = keeps_all p _ refl refl refl refl
+writer-keeps Action.LoadClosed p known never = keeps_all p _ refl refl refl refl
+writer-keeps Action.Register p known never = keeps_all p _ refl refl refl refl
+writer-keeps (Action.StoreClosed true) p known never = keeps_all p _ refl refl refl refl
+writer-keeps (Action.StoreClosed false) p known never = keeps_all p _ refl refl refl refl
+writer-keeps (Action.Take Reader) p known never = keeps_all p _ refl refl refl refl
+writer-keeps (Action.Take Writer) p known never = keeps_all p _ refl refl refl refl
+writer-keeps Action.Wake p known never = keeps_all p _ refl refl refl refl
+writer-keeps Action.Yield p known never = keeps_all p _ refl refl refl refl
+writer-keeps Action.CallDestination p known never = keeps_all p _ refl refl refl refl
+writer-keeps Action.CallSource p known never = keeps_all p _ refl refl refl refl
 
 pub step-keeps : (lent : List ℕ) (s : Step) (p : Pipe) → IsSound p → IsWriterStep s → KeepsKnown p (stepped lent s p).pipe
 step-keeps lent (Begin c) p sound writer =

@@ -4,35 +4,15 @@ use Rattle.std.proofs.Common.{◌≡◌, ℕ, ◌+◌, ◌-◌, ◌<◌, ◌≤�
 use Rattle.std.proofs.lemmas.Bool.Decides.{nat_tests}
 use Rattle.std.proofs.lemmas.List.{drop-drop}
 use borrow.Rule.Slice.PartMut.{put_mid}
-use Rattle.piper_protocol.specs.declared.table.Side.TheVariants.{Reader}
-use Rattle.piper_machine.specs.declared.calls.OpenCall.{OpenCall}
-use Rattle.piper_machine.specs.declared.calls.SideState.TheVariants.{Busy}
-use Rattle.piper_protocol.specs.declared.answer.Answer.{Answer}
-use Rattle.piper_machine.specs.declared.polling.Context.{Context}
-use Rattle.piper_machine.specs.declared.scripted.DestAct.TheVariants as dest
-use Rattle.piper_protocol.specs.declared.table.Action.{Action}
-use Rattle.piper_protocol.specs.declared.table.Action.TheVariants as does
-use Rattle.piper_protocol.specs.declared.table.Form.{Form}
-use Rattle.piper_protocol.specs.declared.table.Form.TheVariants.{Try, Polling}
-use Rattle.piper_protocol.specs.declared.table.Purpose.TheVariants as purpose
-use Rattle.piper_protocol.specs.declared.table.AfterRead.TheVariants as after_read
-use Rattle.piper_protocol.specs.declared.table.ReadPoint.{ReadPoint}
-use Rattle.piper_protocol.specs.declared.table.ReadPoint.TheVariants as at
+use Rattle.piper_machine.specs.Types.{AfterRead, Purpose, OpenCall, Answer, Context, Action, Form, ReadPoint, Found, Destination, Polled, DestAct, Reader, Busy, Try, Polling, Nothing as nothing, IndexLoaded as index_loaded, Granted as granted, Waker as waker, Slice, Acts, Ready, Pending, Memory}
 use Rattle.piper_machine.specs.Open.{is_granted}
 use Rattle.piper_protocol.specs.Table.{Next, goes_on, head_store, moved_in, read_action, read_after, reader_is_true, reader_looked, reader_looked_again, reader_looks_for, reader_moved, reader_registered, writer_taken}
-use Rattle.piper_protocol.specs.declared.table.Found.{Found}
-use Rattle.piper_protocol.specs.declared.table.Found.TheVariants.{Nothing as nothing, IndexLoaded as index_loaded, Granted as granted, Waker as waker}
-use Rattle.piper_machine.specs.declared.destination.Destination.{Destination}
-use Rattle.piper_machine.specs.declared.destination.Destination.TheVariants.{Slice, Acts}
 use Rattle.piper_machine.specs.Pipe.{Pipe, begun}
 use Rattle.piper_machine.specs.Sound.{IsSound}
 use Rattle.piper_machine.specs.Move.{with_waker}
 use Rattle.piper_machine.specs.Copy.{Copied, count_of, copied_after, drawn, drain_moves, drain}
 use Rattle.piper_machine.specs.Look.{reader_look, reader_looks, reader_registers}
 use Rattle.piper_machine.specs.LoadIfNone.{tail_loaded_if_empty}
-use Rattle.piper_protocol.specs.declared.answer.Polled.{Polled}
-use Rattle.piper_protocol.specs.declared.answer.Polled.TheVariants.{Ready, Pending, Memory}
-use Rattle.piper_machine.specs.declared.scripted.DestAct.{DestAct}
 use Rattle.piper_machine.specs.Round.{taken, found_of, left_of_acts, left_of_destination}
 use Rattle.piper_machine.specs.Refusal.{reader_state}
 use Rattle.piper_machine.specs.Action.{round_count, destination_called}
@@ -50,7 +30,7 @@ placing destination p = record p { destination = destination }
 
 -- the waker that the call has taken, and calls next
 abbrev pub errand : ReadPoint → OpenCall → Option ℕ
-errand (at.WakeWriter next) c = c.taken
+errand (ReadPoint.WakeWriter next) c = c.taken
 errand point c = None
 
 abbrev pub WakesOne : ReadPoint → Pipe → Type 0
@@ -71,22 +51,22 @@ abbrev IsKept : List ℕ → Option ℕ → Next ReadPoint → OpenCall → Type
 IsKept woken name next c = next.answer ≡ None → (is_draining next.point ≡ true) × HasOneWake (with_waker woken (errand next.point (call_after next.answer c))) name
 
 module _ (woken : List ℕ) (name : Option ℕ) (c : OpenCall) (one : HasOneWake woken name) where
-  looks-kept : (none : Bool) (form : Form) → IsKept woken name (goes_on (reader_looked none (purpose.Copy form))) c
+  looks-kept : (none : Bool) (form : Form) → IsKept woken name (goes_on (reader_looked none (Purpose.Copy form))) c
   looks-kept true Try goes = (refl, one)
   looks-kept true (Polling drawn) goes = (refl, one)
   looks-kept false Try goes = (refl, one)
   looks-kept false (Polling drawn) goes = (refl, one)
 
-  registers-kept : (granted : Bool) (form : Form) → IsKept woken name (reader_registered granted (purpose.Copy form)) c
+  registers-kept : (granted : Bool) (form : Form) → IsKept woken name (reader_registered granted (Purpose.Copy form)) c
   registers-kept true form goes = (refl, one)
   registers-kept false form goes = absurd (cc)
 
-  again-kept : (none was_closed : Bool) (form : Form) → IsKept woken name (reader_looked_again none (purpose.Copy form) was_closed) c
+  again-kept : (none was_closed : Bool) (form : Form) → IsKept woken name (reader_looked_again none (Purpose.Copy form) was_closed) c
   again-kept true was_closed form goes = absurd (cc)
   again-kept false was_closed Try goes = (refl, one)
   again-kept false was_closed (Polling drawn) goes = (refl, one)
 
-  takes-kept : (form : Form) → IsKept woken name (reader_is_true (purpose.Copy form)) c
+  takes-kept : (form : Form) → IsKept woken name (reader_is_true (Purpose.Copy form)) c
   takes-kept Try goes = (refl, one)
   takes-kept (Polling true) goes = (refl, one)
   takes-kept (Polling false) goes = (refl, one)
@@ -95,27 +75,27 @@ module _ (woken : List ℕ) (name : Option ℕ) (c : OpenCall) (one : HasOneWake
   moves-kept n true form sum goes = absurd (cc)
   moves-kept n false form sum goes = (refl, one)
 
-  calls-kept : (destination : Destination) (most : ℕ) (form : Form) (sum capacity : ℕ) → IsKept woken name (read_after capacity (at.CallDestination form sum) (found_of (taken most destination))) c
+  calls-kept : (destination : Destination) (most : ℕ) (form : Form) (sum capacity : ℕ) → IsKept woken name (read_after capacity (ReadPoint.CallDestination form sum) (found_of (taken most destination))) c
   calls-kept (Slice size) most form sum capacity = moves-kept (min size most) (min size most == 0) form sum
   calls-kept (Acts []) most form sum capacity = moves-kept 0 true form sum
-  calls-kept (Acts (dest.Fail ∷ acts)) most form sum capacity = λ goes. absurd (cc)
-  calls-kept (Acts (dest.Take size ∷ acts)) most form sum capacity = moves-kept (min size most) (min size most == 0) form sum
+  calls-kept (Acts (DestAct.Fail ∷ acts)) most form sum capacity = λ goes. absurd (cc)
+  calls-kept (Acts (DestAct.Take size ∷ acts)) most form sum capacity = moves-kept (min size most) (min size most == 0) form sum
 
-wakes-kept : (name : Option ℕ) (form : Form) (sum : ℕ) (woken : List ℕ) (c : OpenCall) → HasOneWake woken name → IsKept woken None (writer_taken (after_read.Round form sum) (is_some name)) (record c { taken = name })
+wakes-kept : (name : Option ℕ) (form : Form) (sum : ℕ) (woken : List ℕ) (c : OpenCall) → HasOneWake woken name → IsKept woken None (writer_taken (AfterRead.Round form sum) (is_some name)) (record c { taken = name })
 wakes-kept None form sum woken c one goes = (refl, one)
 wakes-kept (Some name) form sum woken c one goes = (refl, one)
 
 drain-kept : (point : ReadPoint) (p : Pipe) → is_draining point ≡ true → WakesOne point p → let s = read_step point p in s.answer ≡ None → (is_draining s.pipe.reader ≡ true) × WakesOne s.pipe.reader s.pipe
-drain-kept (at.LookTail (purpose.Copy form)) p drains one goes = looks-kept p.woken p.writer_waker p.reader_call one (length p.unread == 0) form goes
-drain-kept (at.LookRegister (purpose.Copy form)) p drains one goes = registers-kept p.woken p.writer_waker p.reader_call one (is_granted p.reader_call.context) form goes
-drain-kept (at.LookClosed (purpose.Copy form)) p drains one goes = (refl, one)
-drain-kept (at.LookTailAgain (purpose.Copy form) was_closed) p drains one goes = again-kept p.woken p.writer_waker p.reader_call one (length p.unread == 0) was_closed form goes
-drain-kept (at.LookTake (purpose.Copy form)) p drains one goes = takes-kept p.woken p.writer_waker (record p.reader_call { taken = p.reader_waker }) one form goes
-drain-kept at.Yield p drains one goes = absurd (cc)
-drain-kept (at.CallDestination form sum) p drains one goes = calls-kept p.woken p.writer_waker p.reader_call one p.destination (round_count p) form sum p.capacity goes
-drain-kept (at.StoreHead n (after_read.Round form sum)) p drains one goes = (refl, one)
-drain-kept (at.TakeWriter (after_read.Round form sum)) p drains one goes = wakes-kept p.writer_waker form sum p.woken p.reader_call one goes
-drain-kept (at.WakeWriter (after_read.Round form sum)) p drains one goes = (refl, one)
+drain-kept (ReadPoint.LookTail (Purpose.Copy form)) p drains one goes = looks-kept p.woken p.writer_waker p.reader_call one (length p.unread == 0) form goes
+drain-kept (ReadPoint.LookRegister (Purpose.Copy form)) p drains one goes = registers-kept p.woken p.writer_waker p.reader_call one (is_granted p.reader_call.context) form goes
+drain-kept (ReadPoint.LookClosed (Purpose.Copy form)) p drains one goes = (refl, one)
+drain-kept (ReadPoint.LookTailAgain (Purpose.Copy form) was_closed) p drains one goes = again-kept p.woken p.writer_waker p.reader_call one (length p.unread == 0) was_closed form goes
+drain-kept (ReadPoint.LookTake (Purpose.Copy form)) p drains one goes = takes-kept p.woken p.writer_waker (record p.reader_call { taken = p.reader_waker }) one form goes
+drain-kept ReadPoint.Yield p drains one goes = absurd (cc)
+drain-kept (ReadPoint.CallDestination form sum) p drains one goes = calls-kept p.woken p.writer_waker p.reader_call one p.destination (round_count p) form sum p.capacity goes
+drain-kept (ReadPoint.StoreHead n (AfterRead.Round form sum)) p drains one goes = (refl, one)
+drain-kept (ReadPoint.TakeWriter (AfterRead.Round form sum)) p drains one goes = wakes-kept p.writer_waker form sum p.woken p.reader_call one goes
+drain-kept (ReadPoint.WakeWriter (AfterRead.Round form sum)) p drains one goes = (refl, one)
 drain-kept point p drains one goes = absurd (cc)
 
 -- a drain that was opened at p has come to u
@@ -159,8 +139,8 @@ pub record IsApart (point : ReadPoint) (destination : Destination) (p : Pipe) : 
   pub pipe : (read_step point (placing destination p)).pipe ≡ placing (destination_after (read_step point p).answer destination) (read_step point p).pipe
   pub destination_is : (read_step point p).pipe.destination ≡ destination_after (read_step point p).answer p.destination
 
-apart : (point : ReadPoint) (destination : Destination) (p : Pipe) → (read_action point ≡ does.CallDestination → ⊥) → IsApart point destination p
-apart (at.CallDestination form sum) destination p other = absurd (other refl)
+apart : (point : ReadPoint) (destination : Destination) (p : Pipe) → (read_action point ≡ Action.CallDestination → ⊥) → IsApart point destination p
+apart (ReadPoint.CallDestination form sum) destination p other = absurd (other refl)
 apart point destination p other = record { answer = refl; pipe = refl; destination_is = refl }
 
 -- the same of a pipe whose call holds no destination
@@ -194,7 +174,7 @@ settled-destination (Some answer) left held is = is
 
 -- a step that the machine makes with no destination of its own: the waker that it calls is heard,
 -- and then it goes
-pub goes-on : (p q h r : Pipe) (destination : Destination) (answer : Option Answer) → Draining p (placing destination q) → (read_action q.reader ≡ does.CallDestination → ⊥) → h ≡ heard Reader (read_action q.reader) q
+pub goes-on : (p q h r : Pipe) (destination : Destination) (answer : Option Answer) → Draining p (placing destination q) → (read_action q.reader ≡ Action.CallDestination → ⊥) → h ≡ heard Reader (read_action q.reader) q
     → answer ≡ (went Reader h).answer → r ≡ (went Reader h).pipe → IsGoneOn p destination q answer r
 goes-on p q h r destination answer draining other hears answers after =
     let s = read_step q.reader q in
@@ -212,8 +192,8 @@ pub record IsCalled (point : ReadPoint) (p : Pipe) : Type 0 where
   pub answer : (read_step point p).answer ≡ drain_answer (found_of (taken (round_count p) p.destination)) (record p { reader = point })
   pub pipe : (read_step point p).pipe ≡ drain_left (found_of (taken (round_count p) p.destination)) (destination_called (record p { reader = point }))
 
-call-step : (point : ReadPoint) (p : Pipe) → read_action point ≡ does.CallDestination → IsCalled point p
-call-step (at.CallDestination form sum) p calls = record { answer = refl; pipe = refl }
+call-step : (point : ReadPoint) (p : Pipe) → read_action point ≡ Action.CallDestination → IsCalled point p
+call-step (ReadPoint.CallDestination form sum) p calls = record { answer = refl; pipe = refl }
 call-step point p calls = absurd (cc)
 
 -- what a call of the destination finds leads to r
@@ -221,7 +201,7 @@ pub record IsRound (found : Found) (q : Pipe) (answer : Option Answer) (r : Pipe
   pub answer_is : answer ≡ drain_answer found q
   pub after : r ≡ drain_left found q
 
-pub called : (destination : Destination) (found : Found) (p q r : Pipe) (answer : Option Answer) → read_action q.reader ≡ does.CallDestination → Draining p (placing destination q)
+pub called : (destination : Destination) (found : Found) (p q r : Pipe) (answer : Option Answer) → read_action q.reader ≡ Action.CallDestination → Draining p (placing destination q)
     → found_of (taken (round_count q) destination) ≡ found → IsRound found q answer r → IsGoneOn p (left_of_destination (round_count q) destination) q answer r
 called destination found p q r answer calls draining found_is round =
     let u = placing destination q in
@@ -240,17 +220,17 @@ called destination found p q r answer calls draining found_is round =
 no-store : (capacity : ℕ) (point : ReadPoint) (found : Found) → reader_state point ≡ Busy → moved_in found ≡ 0 → head_store (read_after capacity point found).point ≡ 0
 no-store capacity point found busy none = let store = (reads-on capacity point found busy).store in omega arith
 
-pub calls-store : (point : ReadPoint) → read_action point ≡ does.CallDestination → head_store point ≡ 0
-calls-store (at.CallDestination form sum) calls = refl
+pub calls-store : (point : ReadPoint) → read_action point ≡ Action.CallDestination → head_store point ≡ 0
+calls-store (ReadPoint.CallDestination form sum) calls = refl
 calls-store point calls = absurd (cc)
 
 -- how many bytes such a step takes in, where a slice has so many places left
 abbrev pub took : Action → ℕ → Pipe → ℕ
-took does.CallDestination size p = min size (round_count p)
+took Action.CallDestination size p = min size (round_count p)
 took action size p = 0
 
-pub took-none : (action : Action) (size : ℕ) (p : Pipe) → (action ≡ does.CallDestination → ⊥) → took action size p ≡ 0
-took-none does.CallDestination size p other = absurd (other refl)
+pub took-none : (action : Action) (size : ℕ) (p : Pipe) → (action ≡ Action.CallDestination → ⊥) → took action size p ≡ 0
+took-none Action.CallDestination size p other = absurd (other refl)
 took-none action size p other = refl
 
 record Reads (store n size : ℕ) (unread : List ℕ) (s : Stepped) : Type 0 where
@@ -273,19 +253,19 @@ moves-read n true form sum unread test = let none : 0 ≡ n = grind (arith, nat_
 moves-read n false form sum unread test = (refl, λ ends. absurd (cc))
 
 reads : (point : ReadPoint) (size : ℕ) (p : Pipe) → is_draining point ≡ true → Reads (head_store point) (took (read_action point) size p) size p.unread (read_step point (placing (Slice size) p))
-reads (at.LookTail (purpose.Copy form)) size p drains = reads-none 0 size p.unread (read_step (at.LookTail (purpose.Copy form)) (placing (Slice size) p)) (no-store p.capacity (at.LookTail (purpose.Copy form)) (index_loaded (length p.unread == 0)) refl refl) refl refl
-reads (at.LookRegister (purpose.Copy form)) size p drains = reads-none 0 size p.unread (read_step (at.LookRegister (purpose.Copy form)) (placing (Slice size) p)) (no-store p.capacity (at.LookRegister (purpose.Copy form)) (granted (is_granted p.reader_call.context)) refl refl) refl refl
-reads (at.LookClosed (purpose.Copy form)) size p drains = reads-none 0 size p.unread (read_step (at.LookClosed (purpose.Copy form)) (placing (Slice size) p)) refl refl refl
-reads (at.LookTailAgain (purpose.Copy form) was_closed) size p drains = reads-none 0 size p.unread (read_step (at.LookTailAgain (purpose.Copy form) was_closed) (placing (Slice size) p)) (no-store p.capacity (at.LookTailAgain (purpose.Copy form) was_closed) (index_loaded (length p.unread == 0)) refl refl) refl refl
-reads (at.LookTake (purpose.Copy form)) size p drains = reads-none 0 size p.unread (read_step (at.LookTake (purpose.Copy form)) (placing (Slice size) p)) (no-store p.capacity (at.LookTake (purpose.Copy form)) nothing refl refl) refl refl
-reads at.Yield size p drains = reads-none 0 size p.unread (read_step at.Yield (placing (Slice size) p)) refl refl refl
-reads (at.CallDestination form sum) size p drains =
+reads (ReadPoint.LookTail (Purpose.Copy form)) size p drains = reads-none 0 size p.unread (read_step (ReadPoint.LookTail (Purpose.Copy form)) (placing (Slice size) p)) (no-store p.capacity (ReadPoint.LookTail (Purpose.Copy form)) (index_loaded (length p.unread == 0)) refl refl) refl refl
+reads (ReadPoint.LookRegister (Purpose.Copy form)) size p drains = reads-none 0 size p.unread (read_step (ReadPoint.LookRegister (Purpose.Copy form)) (placing (Slice size) p)) (no-store p.capacity (ReadPoint.LookRegister (Purpose.Copy form)) (granted (is_granted p.reader_call.context)) refl refl) refl refl
+reads (ReadPoint.LookClosed (Purpose.Copy form)) size p drains = reads-none 0 size p.unread (read_step (ReadPoint.LookClosed (Purpose.Copy form)) (placing (Slice size) p)) refl refl refl
+reads (ReadPoint.LookTailAgain (Purpose.Copy form) was_closed) size p drains = reads-none 0 size p.unread (read_step (ReadPoint.LookTailAgain (Purpose.Copy form) was_closed) (placing (Slice size) p)) (no-store p.capacity (ReadPoint.LookTailAgain (Purpose.Copy form) was_closed) (index_loaded (length p.unread == 0)) refl refl) refl refl
+reads (ReadPoint.LookTake (Purpose.Copy form)) size p drains = reads-none 0 size p.unread (read_step (ReadPoint.LookTake (Purpose.Copy form)) (placing (Slice size) p)) (no-store p.capacity (ReadPoint.LookTake (Purpose.Copy form)) nothing refl refl) refl refl
+reads ReadPoint.Yield size p drains = reads-none 0 size p.unread (read_step ReadPoint.Yield (placing (Slice size) p)) refl refl refl
+reads (ReadPoint.CallDestination form sum) size p drains =
     let n = min size (round_count p) in
     let moved = moves-read n (n == 0) form sum p.unread refl in
     record { unread_is = moved.0; ends = moved.1; destination = refl }
-reads (at.StoreHead n (after_read.Round form sum)) size p drains = reads-none n size p.unread (read_step (at.StoreHead n (after_read.Round form sum)) (placing (Slice size) p)) refl refl refl
-reads (at.TakeWriter (after_read.Round form sum)) size p drains = reads-none 0 size p.unread (read_step (at.TakeWriter (after_read.Round form sum)) (placing (Slice size) p)) (no-store p.capacity (at.TakeWriter (after_read.Round form sum)) (waker (is_some p.writer_waker)) refl refl) refl refl
-reads (at.WakeWriter (after_read.Round form sum)) size p drains = reads-none 0 size p.unread (read_step (at.WakeWriter (after_read.Round form sum)) (placing (Slice size) p)) refl refl refl
+reads (ReadPoint.StoreHead n (AfterRead.Round form sum)) size p drains = reads-none n size p.unread (read_step (ReadPoint.StoreHead n (AfterRead.Round form sum)) (placing (Slice size) p)) refl refl refl
+reads (ReadPoint.TakeWriter (AfterRead.Round form sum)) size p drains = reads-none 0 size p.unread (read_step (ReadPoint.TakeWriter (AfterRead.Round form sum)) (placing (Slice size) p)) (no-store p.capacity (ReadPoint.TakeWriter (AfterRead.Round form sum)) (waker (is_some p.writer_waker)) refl refl) refl refl
+reads (ReadPoint.WakeWriter (AfterRead.Round form sum)) size p drains = reads-none 0 size p.unread (read_step (ReadPoint.WakeWriter (AfterRead.Round form sum)) (placing (Slice size) p)) refl refl refl
 reads point size p drains = absurd (cc)
 
 -- so many bytes have left the pipe, or leave it by the store that is next
@@ -353,22 +333,22 @@ drained-bytes n before after dest so_far known left is =
     is ∙ ap (λ (k : ℕ). take k before ++ drop k dest) count
 
 -- a drain is opened
-looks-drain : (none : Bool) (form : Form) → is_draining (reader_looks_for none (purpose.Copy form)) ≡ true
+looks-drain : (none : Bool) (form : Form) → is_draining (reader_looks_for none (Purpose.Copy form)) ≡ true
 looks-drain true form = refl
 looks-drain false Try = refl
 looks-drain false (Polling drawn) = refl
 
-looks-busy : (none : Bool) (form : Form) → reader_state (reader_looks_for none (purpose.Copy form)) ≡ Busy
+looks-busy : (none : Bool) (form : Form) → reader_state (reader_looks_for none (Purpose.Copy form)) ≡ Busy
 looks-busy true form = refl
 looks-busy false Try = refl
 looks-busy false (Polling drawn) = refl
 
-looks-store : (none : Bool) (form : Form) → head_store (reader_looks_for none (purpose.Copy form)) ≡ 0
+looks-store : (none : Bool) (form : Form) → head_store (reader_looks_for none (Purpose.Copy form)) ≡ 0
 looks-store true form = refl
 looks-store false Try = refl
 looks-store false (Polling drawn) = refl
 
-looks-errand : (none : Bool) (form : Form) (c : OpenCall) → errand (reader_looks_for none (purpose.Copy form)) c ≡ None
+looks-errand : (none : Bool) (form : Form) (c : OpenCall) → errand (reader_looks_for none (Purpose.Copy form)) c ≡ None
 looks-errand true form c = refl
 looks-errand false Try c = refl
 looks-errand false (Polling drawn) c = refl

@@ -3,12 +3,9 @@ use Rattle.std.proofs.Common.{◌≡◌, ◌⊎◌, inl, inr, ℕ, zero, suc, Li
 use Rattle.std.specs.Bool.{⊤}
 use Rattle.std.specs.List.{All}
 use Rattle.std.proofs.lemmas.List.Elements.{All-nil, All-cons}
-use Rattle.piper_protocol.specs.declared.table.Side.TheVariants.{Reader}
+use Rattle.piper_machine.specs.Types.{Event, Reader, Looked, Answered, Ready}
 use Rattle.piper_protocol.specs.declared.answer.Answer.TheVariants.{Poll}
-use Rattle.piper_machine.specs.declared.events.Event.{Event}
-use Rattle.piper_machine.specs.declared.events.Event.TheVariants.{Looked, Answered}
 use Rattle.piper_machine.specs.declared.events.Seen.TheVariants.{Tail}
-use Rattle.piper_protocol.specs.declared.answer.Polled.TheVariants.{Ready}
 use Rattle.piper_machine.specs.End.{saw_closed_after, saw_closed_from, found_none}
 use Rattle.piper_machine.specs.Final.{IsAfterEnd}
 

@@ -1,26 +1,9 @@
 -- A fill run whole: its source stays with the caller, and each step is that of a call which holds
 -- this source.
 use Rattle.std.proofs.Common.{◌≡◌, ℕ, ◌-◌, ◌<◌, ◌≤◌, min, List, [], ◌∷◌, take, length, Bool, true, false, Option, None, Some, ◌==◌, is_some, refl, sym, ap, subst, ◌∙◌, arith, Result, Ok, Err, length-append}
-use Rattle.piper_machine.specs.declared.calls.OpenCall.{OpenCall}
-use Rattle.piper_protocol.specs.declared.table.Side.TheVariants.{Writer}
-use Rattle.piper_machine.specs.declared.calls.Step.TheVariants.{Go}
-use Rattle.piper_machine.specs.declared.calls.SideState.TheVariants.{Busy}
-use Rattle.piper_protocol.specs.declared.answer.Answer.{Answer}
-use Rattle.piper_protocol.specs.declared.answer.Failed.{Failed}
-use Rattle.piper_machine.specs.declared.scripted.SourceAct.{SourceAct}
-use Rattle.piper_machine.specs.declared.scripted.SourceAct.TheVariants as source
-use Rattle.piper_protocol.specs.declared.table.TheConstants.{MOST_A_ROUND}
-use Rattle.piper_protocol.specs.declared.table.Action.TheVariants as does
-use Rattle.piper_protocol.specs.declared.table.Form.{Form}
-use Rattle.piper_protocol.specs.declared.table.Form.TheVariants.{Try, Polling}
-use Rattle.piper_protocol.specs.declared.table.Purpose.TheVariants as purpose
-use Rattle.piper_protocol.specs.declared.table.AfterWrite.TheVariants as after_read
-use Rattle.piper_protocol.specs.declared.table.WritePoint.{WritePoint}
-use Rattle.piper_protocol.specs.declared.table.WritePoint.TheVariants as at
+use Rattle.piper_machine.specs.Types.{Action, AfterWrite, Purpose, OpenCall, Answer, Failed, SourceAct, Form, WritePoint, Found, Context, Writer, Go, Busy, MOST_A_ROUND, Try, Polling}
 use Rattle.piper_machine.specs.Open.{is_granted}
-use Rattle.piper_protocol.specs.declared.table.Found.{Found}
 use Rattle.piper_protocol.specs.Table.{Next, goes_on, write_action, write_after, writer_is_open, writer_looked, writer_looked_again, writer_registered, writer_is_true, writer_moved, writer_rounds, reader_taken}
-use Rattle.piper_machine.specs.declared.polling.Context.{Context}
 use Rattle.piper_machine.specs.Pipe.{Pipe}
 use Rattle.piper_machine.specs.Sound.{IsSound}
 use Rattle.piper_machine.specs.Lend.{Lendable, lending}
@@ -44,7 +27,7 @@ giving acts p = record p { source = acts }
 
 -- the waker that the call has taken, and calls next
 abbrev pub errand : WritePoint → OpenCall → Option ℕ
-errand (at.WakeReader next) c = c.taken
+errand (WritePoint.WakeReader next) c = c.taken
 errand point c = None
 
 abbrev pub WakesOne : WritePoint → Pipe → Type 0
@@ -65,28 +48,28 @@ abbrev IsKept : List ℕ → Option ℕ → Next WritePoint → OpenCall → Typ
 IsKept woken waker next c = next.answer ≡ None → (is_filling next.point ≡ true) × HasOneWake (with_waker woken (errand next.point (call_after next.answer c))) waker
 
 module _ (woken : List ℕ) (waker : Option ℕ) (c : OpenCall) (one : HasOneWake woken waker) where
-  open-kept : (is_closed none : Bool) (form : Form) → IsKept woken waker (writer_is_open is_closed none (purpose.Copy form)) c
+  open-kept : (is_closed none : Bool) (form : Form) → IsKept woken waker (writer_is_open is_closed none (Purpose.Copy form)) c
   open-kept true none form goes = absurd (cc)
   open-kept false true form goes = (refl, one)
   open-kept false false Try goes = (refl, one)
   open-kept false false (Polling drawn) goes = (refl, one)
 
-  loads-kept : (none : Bool) (form : Form) → IsKept woken waker (goes_on (writer_looked none (purpose.Copy form))) c
+  loads-kept : (none : Bool) (form : Form) → IsKept woken waker (goes_on (writer_looked none (Purpose.Copy form))) c
   loads-kept true Try goes = (refl, one)
   loads-kept true (Polling drawn) goes = (refl, one)
   loads-kept false Try goes = (refl, one)
   loads-kept false (Polling drawn) goes = (refl, one)
 
-  registers-kept : (granted : Bool) (form : Form) → IsKept woken waker (writer_registered granted (purpose.Copy form)) c
+  registers-kept : (granted : Bool) (form : Form) → IsKept woken waker (writer_registered granted (Purpose.Copy form)) c
   registers-kept true form goes = (refl, one)
   registers-kept false form goes = absurd (cc)
 
-  again-kept : (none : Bool) (form : Form) → IsKept woken waker (goes_on (writer_looked_again none (purpose.Copy form))) c
+  again-kept : (none : Bool) (form : Form) → IsKept woken waker (goes_on (writer_looked_again none (Purpose.Copy form))) c
   again-kept true form goes = (refl, one)
   again-kept false Try goes = (refl, one)
   again-kept false (Polling drawn) goes = (refl, one)
 
-  takes-kept : (form : Form) → IsKept woken waker (writer_is_true (purpose.Copy form)) c
+  takes-kept : (form : Form) → IsKept woken waker (writer_is_true (Purpose.Copy form)) c
   takes-kept Try goes = (refl, one)
   takes-kept (Polling true) goes = (refl, one)
   takes-kept (Polling false) goes = (refl, one)
@@ -95,33 +78,33 @@ module _ (woken : List ℕ) (waker : Option ℕ) (c : OpenCall) (one : HasOneWak
   moves-kept n true form sum goes = absurd (cc)
   moves-kept n false form sum goes = (refl, one)
 
-  gives-kept : (most : ℕ) (acts : List SourceAct) (form : Form) (sum capacity room : ℕ) → IsKept woken waker (write_after capacity room (at.CallSource form sum) (found_of (given most acts))) c
+  gives-kept : (most : ℕ) (acts : List SourceAct) (form : Form) (sum capacity room : ℕ) → IsKept woken waker (write_after capacity room (WritePoint.CallSource form sum) (found_of (given most acts))) c
   gives-kept most [] form sum capacity room = moves-kept 0 true form sum
-  gives-kept most (source.Fail ∷ acts) form sum capacity room = λ goes. absurd (cc)
-  gives-kept most (source.Bytes bytes ∷ acts) form sum capacity room = moves-kept (min most (length bytes)) (min most (length bytes) == 0) form sum
+  gives-kept most (SourceAct.Fail ∷ acts) form sum capacity room = λ goes. absurd (cc)
+  gives-kept most (SourceAct.Bytes bytes ∷ acts) form sum capacity room = moves-kept (min most (length bytes)) (min most (length bytes) == 0) form sum
 
   rounds-kept : (is_closed : Bool) (n : ℕ) (form : Form) (sum : ℕ) → IsKept woken waker (writer_rounds is_closed n form sum) c
   rounds-kept true n form sum goes = absurd (cc)
   rounds-kept false n form sum goes = (refl, one)
 
-wakes-kept : (name : Option ℕ) (form : Form) (sum : ℕ) (woken : List ℕ) (c : OpenCall) → HasOneWake woken name → IsKept woken None (reader_taken (after_read.Round form sum) (is_some name)) (record c { taken = name })
+wakes-kept : (name : Option ℕ) (form : Form) (sum : ℕ) (woken : List ℕ) (c : OpenCall) → HasOneWake woken name → IsKept woken None (reader_taken (AfterWrite.Round form sum) (is_some name)) (record c { taken = name })
 wakes-kept None form sum woken c one goes = (refl, one)
 wakes-kept (Some name) form sum woken c one goes = (refl, one)
 
 fill-kept : (point : WritePoint) (lent : List ℕ) (p : Pipe) → is_filling point ≡ true → closes_round point ≡ false → WakesOne point p
     → let s = fill_step point lent p in s.answer ≡ None → (is_filling s.pipe.writer ≡ true) × WakesOne s.pipe.writer s.pipe
-fill-kept (at.LookClosed (purpose.Copy form)) lent p fills plain one goes = open-kept p.woken p.reader_waker p.writer_call one p.is_closed (p.room == 0) form goes
-fill-kept (at.LookHead (purpose.Copy form)) lent p fills plain one goes = loads-kept p.woken p.reader_waker p.writer_call one (p.capacity - length p.unread == 0) form goes
-fill-kept (at.LookRegister (purpose.Copy form)) lent p fills plain one goes = registers-kept p.woken p.reader_waker p.writer_call one (is_granted p.writer_call.context) form goes
-fill-kept (at.LookHeadAgain (purpose.Copy form)) lent p fills plain one goes = again-kept p.woken p.reader_waker p.writer_call one (p.capacity - length p.unread == 0) form goes
-fill-kept (at.LookClosedAgain (purpose.Copy form)) lent p fills plain one goes = absurd (cc)
-fill-kept (at.LookTake (purpose.Copy form)) lent p fills plain one goes = takes-kept p.woken p.reader_waker (record p.writer_call { taken = p.writer_waker }) one form goes
-fill-kept at.Yield lent p fills plain one goes = absurd (cc)
-fill-kept (at.CallSource form sum) lent p fills plain one goes = gives-kept p.woken p.reader_waker p.writer_call one (length lent) p.source form sum p.capacity p.room goes
-fill-kept (at.RoundClosed n form sum) lent p fills plain one goes = rounds-kept p.woken p.reader_waker p.writer_call one p.is_closed n form sum goes
-fill-kept (at.StoreTail n (after_read.Round form sum)) lent p fills plain one goes = (refl, one)
-fill-kept (at.TakeReader (after_read.Round form sum)) lent p fills plain one goes = wakes-kept p.reader_waker form sum p.woken p.writer_call one goes
-fill-kept (at.WakeReader (after_read.Round form sum)) lent p fills plain one goes = (refl, one)
+fill-kept (WritePoint.LookClosed (Purpose.Copy form)) lent p fills plain one goes = open-kept p.woken p.reader_waker p.writer_call one p.is_closed (p.room == 0) form goes
+fill-kept (WritePoint.LookHead (Purpose.Copy form)) lent p fills plain one goes = loads-kept p.woken p.reader_waker p.writer_call one (p.capacity - length p.unread == 0) form goes
+fill-kept (WritePoint.LookRegister (Purpose.Copy form)) lent p fills plain one goes = registers-kept p.woken p.reader_waker p.writer_call one (is_granted p.writer_call.context) form goes
+fill-kept (WritePoint.LookHeadAgain (Purpose.Copy form)) lent p fills plain one goes = again-kept p.woken p.reader_waker p.writer_call one (p.capacity - length p.unread == 0) form goes
+fill-kept (WritePoint.LookClosedAgain (Purpose.Copy form)) lent p fills plain one goes = absurd (cc)
+fill-kept (WritePoint.LookTake (Purpose.Copy form)) lent p fills plain one goes = takes-kept p.woken p.reader_waker (record p.writer_call { taken = p.writer_waker }) one form goes
+fill-kept WritePoint.Yield lent p fills plain one goes = absurd (cc)
+fill-kept (WritePoint.CallSource form sum) lent p fills plain one goes = gives-kept p.woken p.reader_waker p.writer_call one (length lent) p.source form sum p.capacity p.room goes
+fill-kept (WritePoint.RoundClosed n form sum) lent p fills plain one goes = rounds-kept p.woken p.reader_waker p.writer_call one p.is_closed n form sum goes
+fill-kept (WritePoint.StoreTail n (AfterWrite.Round form sum)) lent p fills plain one goes = (refl, one)
+fill-kept (WritePoint.TakeReader (AfterWrite.Round form sum)) lent p fills plain one goes = wakes-kept p.reader_waker form sum p.woken p.writer_call one goes
+fill-kept (WritePoint.WakeReader (AfterWrite.Round form sum)) lent p fills plain one goes = (refl, one)
 fill-kept point lent p fills plain one goes = absurd (cc)
 
 -- a fill that was opened at p has come to u
@@ -161,8 +144,8 @@ filled-by p u lent (Some answer) filling may is =
     filling.rest ∙ fill-rest u.writer lent u filling.fills filling.valid may ∙ ap (λ (a : Option Answer). writer_rest a s.pipe) is
 
 -- a step that does not call the source leaves it as it is
-may-go : (point : WritePoint) (acts : List SourceAct) (lent : List ℕ) (p : Pipe) → (write_action point ≡ does.CallSource → ⊥) → MayOffer point acts lent p
-may-go (at.CallSource form sum) acts lent p other = absurd (other refl)
+may-go : (point : WritePoint) (acts : List SourceAct) (lent : List ℕ) (p : Pipe) → (write_action point ≡ Action.CallSource → ⊥) → MayOffer point acts lent p
+may-go (WritePoint.CallSource form sum) acts lent p other = absurd (other refl)
 may-go point acts lent p other = tt
 
 pub record IsApart (point : WritePoint) (lent : List ℕ) (acts : List SourceAct) (p : Pipe) : Type 0 where
@@ -170,12 +153,12 @@ pub record IsApart (point : WritePoint) (lent : List ℕ) (acts : List SourceAct
   pub pipe : (fill_step point lent (giving acts p)).pipe ≡ giving (source_after (fill_step point lent p).answer acts) (fill_step point lent p).pipe
   pub source : (fill_step point lent p).pipe.source ≡ source_after (fill_step point lent p).answer p.source
 
-apart : (point : WritePoint) (lent : List ℕ) (acts : List SourceAct) (p : Pipe) → (write_action point ≡ does.CallSource → ⊥) → IsApart point lent acts p
-apart (at.CallSource form sum) lent acts p other = absurd (other refl)
-apart (at.StoreClosed after_read.Answer) lent acts p other = record { answer = refl; pipe = refl; source = refl }
-apart (at.StoreClosed after_read.Drop) lent acts p other = record { answer = refl; pipe = refl; source = refl }
-apart (at.StoreClosed after_read.WakeWriter) lent acts p other = record { answer = refl; pipe = refl; source = refl }
-apart (at.StoreClosed (after_read.Round form sum)) lent acts p other = record { answer = refl; pipe = refl; source = refl }
+apart : (point : WritePoint) (lent : List ℕ) (acts : List SourceAct) (p : Pipe) → (write_action point ≡ Action.CallSource → ⊥) → IsApart point lent acts p
+apart (WritePoint.CallSource form sum) lent acts p other = absurd (other refl)
+apart (WritePoint.StoreClosed AfterWrite.Answer) lent acts p other = record { answer = refl; pipe = refl; source = refl }
+apart (WritePoint.StoreClosed AfterWrite.Drop) lent acts p other = record { answer = refl; pipe = refl; source = refl }
+apart (WritePoint.StoreClosed AfterWrite.WakeWriter) lent acts p other = record { answer = refl; pipe = refl; source = refl }
+apart (WritePoint.StoreClosed (AfterWrite.Round form sum)) lent acts p other = record { answer = refl; pipe = refl; source = refl }
 apart point lent acts p other = record { answer = refl; pipe = refl; source = refl }
 
 -- the same of a pipe whose call holds no source
@@ -209,7 +192,7 @@ settled-source (Some answer) acts held is = is
 
 -- a step that the machine makes with no source of its own: the waker that it calls is heard, and
 -- then it goes
-pub goes-on : (p q h r : Pipe) (acts : List SourceAct) (answer : Option Answer) → Filling p (giving acts q) → (write_action q.writer ≡ does.CallSource → ⊥) → h ≡ heard Writer (write_action q.writer) q
+pub goes-on : (p q h r : Pipe) (acts : List SourceAct) (answer : Option Answer) → Filling p (giving acts q) → (write_action q.writer ≡ Action.CallSource → ⊥) → h ≡ heard Writer (write_action q.writer) q
     → answer ≡ (stepped r.lent (Go Writer) h).answer → r ≡ (stepped r.lent (Go Writer) h).pipe → IsGoneOn p acts q answer r
 goes-on p q h r acts answer filling other hears answers after =
     let lent = r.lent in
@@ -225,22 +208,22 @@ goes-on p q h r acts answer filling other hears answers after =
 
 -- a call of the source
 may-call : (point : WritePoint) (acts : List SourceAct) (lent : List ℕ) (p : Pipe) → Lendable MOST_A_ROUND p (length lent) → MayOffer point acts lent p
-may-call (at.CallSource form sum) [] lent p lendable = tt
-may-call (at.CallSource form sum) (source.Fail ∷ acts) lent p lendable = tt
-may-call (at.CallSource form sum) (source.Bytes [] ∷ acts) lent p lendable = tt
-may-call (at.CallSource form sum) (source.Bytes (byte ∷ bytes) ∷ acts) lent p lendable = lendable
+may-call (WritePoint.CallSource form sum) [] lent p lendable = tt
+may-call (WritePoint.CallSource form sum) (SourceAct.Fail ∷ acts) lent p lendable = tt
+may-call (WritePoint.CallSource form sum) (SourceAct.Bytes [] ∷ acts) lent p lendable = tt
+may-call (WritePoint.CallSource form sum) (SourceAct.Bytes (byte ∷ bytes) ∷ acts) lent p lendable = lendable
 may-call point acts lent p lendable = tt
 
 pub record IsCalled (point : WritePoint) (lent : List ℕ) (p : Pipe) : Type 0 where
   pub answer : (fill_step point lent p).answer ≡ round_answer (found_of (given (length lent) p.source)) (record p { writer = point })
   pub pipe : (fill_step point lent p).pipe ≡ round_left (found_of (given (length lent) p.source)) (source_called (lending lent (record p { writer = point })))
 
-call-step : (point : WritePoint) (lent : List ℕ) (p : Pipe) → write_action point ≡ does.CallSource → IsCalled point lent p
-call-step (at.CallSource form sum) lent p calls = record { answer = refl; pipe = refl }
-call-step (at.StoreClosed after_read.Answer) lent p calls = absurd (cc)
-call-step (at.StoreClosed after_read.Drop) lent p calls = absurd (cc)
-call-step (at.StoreClosed after_read.WakeWriter) lent p calls = absurd (cc)
-call-step (at.StoreClosed (after_read.Round form sum)) lent p calls = absurd (cc)
+call-step : (point : WritePoint) (lent : List ℕ) (p : Pipe) → write_action point ≡ Action.CallSource → IsCalled point lent p
+call-step (WritePoint.CallSource form sum) lent p calls = record { answer = refl; pipe = refl }
+call-step (WritePoint.StoreClosed AfterWrite.Answer) lent p calls = absurd (cc)
+call-step (WritePoint.StoreClosed AfterWrite.Drop) lent p calls = absurd (cc)
+call-step (WritePoint.StoreClosed AfterWrite.WakeWriter) lent p calls = absurd (cc)
+call-step (WritePoint.StoreClosed (AfterWrite.Round form sum)) lent p calls = absurd (cc)
 call-step point lent p calls = absurd (cc)
 
 -- what a call of the source finds in w, which was lent to it, leads to r
@@ -248,7 +231,7 @@ pub record IsRound (found : Found) (w : Pipe) (answer : Option Answer) (r : Pipe
   pub answer_is : answer ≡ round_answer found w
   pub after : r ≡ round_left found w
 
-pub called : (acts rest : List SourceAct) (found : Found) (p q w r : Pipe) (answer : Option Answer) → write_action q.writer ≡ does.CallSource → Filling p (giving acts q)
+pub called : (acts rest : List SourceAct) (found : Found) (p q w r : Pipe) (answer : Option Answer) → write_action q.writer ≡ Action.CallSource → Filling p (giving acts q)
     → Lendable MOST_A_ROUND q (length w.lent) → w ≡ lending w.lent q → giving rest w ≡ source_called (lending w.lent (giving acts q)) → found_of (given (length w.lent) acts) ≡ found → IsRound found w answer r → IsGoneOn p rest q answer r
 called acts rest found p q w r answer calls filling lendable lent given_is found_is round =
     let u = giving acts q in
@@ -267,15 +250,15 @@ called acts rest found p q w r answer calls filling lendable lent given_is found
 -- it gives n bytes, or fails
 pub gives : (most n : ℕ) (acts : List SourceAct) → is_failing acts ≡ false → n ≡ min most (length (bytes_of acts)) → Ok n ≡ given most acts
 gives most n [] works is = let none : n ≡ 0 = omega arith in ap Ok none
-gives most n (source.Fail ∷ acts) works is = absurd (cc)
-gives most n (source.Bytes bytes ∷ acts) works is = ap Ok is
+gives most n (SourceAct.Fail ∷ acts) works is = absurd (cc)
+gives most n (SourceAct.Bytes bytes ∷ acts) works is = ap Ok is
 
 pub fails : (most : ℕ) (acts : List SourceAct) → is_failing acts ≡ true → Err (record {}) ≡ given most acts
 fails most [] failing = absurd (cc)
-fails most (source.Fail ∷ acts) failing = refl
-fails most (source.Bytes bytes ∷ acts) failing = absurd (cc)
+fails most (SourceAct.Fail ∷ acts) failing = refl
+fails most (SourceAct.Bytes bytes ∷ acts) failing = absurd (cc)
 
-pub gave : (acts rest : List SourceAct) (n : ℕ) (given_now : Result ℕ Failed) (p q w r : Pipe) (answer : Option Answer) → write_action q.writer ≡ does.CallSource → Filling p (giving acts q)
+pub gave : (acts rest : List SourceAct) (n : ℕ) (given_now : Result ℕ Failed) (p q w r : Pipe) (answer : Option Answer) → write_action q.writer ≡ Action.CallSource → Filling p (giving acts q)
     → Lendable MOST_A_ROUND q (length w.lent) → w ≡ lending w.lent q → n ≡ min (length w.lent) (length (bytes_of acts)) → take n w.lent ≡ take n (bytes_of acts) → rest ≡ left_of_source n acts
     → given_now ≡ given (length w.lent) acts → IsRound (found_of given_now) w answer r → IsGoneOn p rest q answer r
 gave acts rest n given_now p q w r answer calls filling lendable lent count front left is round =

@@ -2,28 +2,7 @@
 -- nothing lent that could still be published.
 use Rattle.std.proofs.Common.{◌≡◌, inl, inr, ℕ, List, [], ◌∷◌, ◌++◌, length, take, Bool, true, false, Option, None, Some, ◌==◌, refl, sym, ap, subst, ◌∙◌, slice_set, arith}
 use Rattle.std.proofs.lemmas.Bool.Decides.{nat_tests}
-use Rattle.piper_protocol.specs.declared.table.Side.TheVariants.{Reader, Writer}
-use Rattle.piper_machine.specs.declared.calls.OpenCall.{OpenCall}
-use Rattle.piper_machine.specs.declared.calls.Call.{Call}
-use Rattle.piper_machine.specs.declared.calls.Call.TheVariants as call
-use Rattle.piper_machine.specs.declared.calls.Step.{Step}
-use Rattle.piper_machine.specs.declared.calls.Step.TheVariants.{Begin, Go, Put}
-use Rattle.piper_protocol.specs.declared.answer.Answer.{Answer}
-use Rattle.piper_machine.specs.declared.events.Event.{Event}
-use Rattle.piper_machine.specs.declared.polling.Context.{Context}
-use Rattle.piper_protocol.specs.declared.table.Action.{Action}
-use Rattle.piper_protocol.specs.declared.table.Action.TheVariants as does
-use Rattle.piper_machine.specs.declared.scripted.SourceAct.{SourceAct}
-use Rattle.piper_machine.specs.declared.scripted.SourceAct.TheVariants as source
-use Rattle.piper_protocol.specs.declared.table.Form.TheVariants.{Try, Polling}
-use Rattle.piper_protocol.specs.declared.table.Purpose.{Purpose}
-use Rattle.piper_protocol.specs.declared.table.Purpose.TheVariants as purpose
-use Rattle.piper_protocol.specs.declared.table.AfterRead.TheVariants as after_read
-use Rattle.piper_protocol.specs.declared.table.AfterWrite.TheVariants as after_write
-use Rattle.piper_protocol.specs.declared.table.ReadPoint.{ReadPoint}
-use Rattle.piper_protocol.specs.declared.table.ReadPoint.TheVariants as at
-use Rattle.piper_protocol.specs.declared.table.WritePoint.{WritePoint}
-use Rattle.piper_protocol.specs.declared.table.WritePoint.TheVariants as on
+use Rattle.piper_machine.specs.Types.{AfterRead, AfterWrite, OpenCall, Call, Step, Answer, Event, Context, Action, SourceAct, Purpose, ReadPoint, WritePoint, Destination, Reader, Writer, Begin, Go, Put, Try, Polling, Slice, Acts}
 use Rattle.piper_machine.specs.Open.{called_with}
 use Rattle.piper_protocol.specs.Table.{read_action, write_action, reader_looks_for}
 use Rattle.piper_machine.specs.Log.{answer_event}
@@ -31,8 +10,6 @@ use Rattle.piper_machine.specs.Pipe.{Pipe, fresh}
 use Rattle.piper_machine.specs.Sound.{IsSound}
 use Rattle.piper_machine.specs.Action.{logged_of}
 use Rattle.piper_machine.specs.Step.{Stepped, went, stepped, offering, lent_at}
-use Rattle.piper_machine.specs.declared.destination.Destination.{Destination}
-use Rattle.piper_machine.specs.declared.destination.Destination.TheVariants.{Slice, Acts}
 use Rattle.piper_machine.specs.Refusal.{refusal_of}
 use Rattle.piper_machine.specs.Look.{context}
 use Rattle.piper_machine.specs.Lend.{lending}
@@ -61,54 +38,54 @@ stored_none : (n : ℕ) (xs ys : List ℕ) → xs ≡ [] → ys ≡ [] → xs ++
 stored_none n xs ys h k = rw (h, take_none n ys k) refl
 
 writer-over : (offered : List ℕ) (point : WritePoint) (p : Pipe) → IsSound (record p { writer = point }) → Over (record p { writer = point }) → Over (writer_after offered point p)
-writer-over offered (on.StoreTail n next) p sound o =
-    let lent = none_lent (record p { writer = on.StoreTail n next }) sound refl o.ended in
-    record { closed = o.closed; ended = writer-ended offered (on.StoreTail n next) p o.ended; unread = stored_none n p.unread p.lent o.unread lent; valid = o.valid }
-writer-over offered (on.StoreClosed after_write.Answer) p sound o = record { closed = refl; ended = writer-ended offered (on.StoreClosed after_write.Answer) p o.ended; unread = o.unread; valid = o.valid }
-writer-over offered (on.StoreClosed (after_write.Round form sum)) p sound o = record { closed = refl; ended = writer-ended offered (on.StoreClosed (after_write.Round form sum)) p o.ended; unread = o.unread; valid = o.valid }
-writer-over offered (on.StoreClosed after_write.Drop) p sound o = record { closed = refl; ended = writer-ended offered (on.StoreClosed after_write.Drop) p o.ended; unread = o.unread; valid = o.valid }
-writer-over offered (on.StoreClosed after_write.WakeWriter) p sound o = record { closed = refl; ended = writer-ended offered (on.StoreClosed after_write.WakeWriter) p o.ended; unread = o.unread; valid = o.valid }
+writer-over offered (WritePoint.StoreTail n next) p sound o =
+    let lent = none_lent (record p { writer = WritePoint.StoreTail n next }) sound refl o.ended in
+    record { closed = o.closed; ended = writer-ended offered (WritePoint.StoreTail n next) p o.ended; unread = stored_none n p.unread p.lent o.unread lent; valid = o.valid }
+writer-over offered (WritePoint.StoreClosed AfterWrite.Answer) p sound o = record { closed = refl; ended = writer-ended offered (WritePoint.StoreClosed AfterWrite.Answer) p o.ended; unread = o.unread; valid = o.valid }
+writer-over offered (WritePoint.StoreClosed (AfterWrite.Round form sum)) p sound o = record { closed = refl; ended = writer-ended offered (WritePoint.StoreClosed (AfterWrite.Round form sum)) p o.ended; unread = o.unread; valid = o.valid }
+writer-over offered (WritePoint.StoreClosed AfterWrite.Drop) p sound o = record { closed = refl; ended = writer-ended offered (WritePoint.StoreClosed AfterWrite.Drop) p o.ended; unread = o.unread; valid = o.valid }
+writer-over offered (WritePoint.StoreClosed AfterWrite.WakeWriter) p sound o = record { closed = refl; ended = writer-ended offered (WritePoint.StoreClosed AfterWrite.WakeWriter) p o.ended; unread = o.unread; valid = o.valid }
 writer-over offered point p sound o = record { closed = o.closed; ended = writer-ended offered point p o.ended; unread = o.unread; valid = o.valid }
 
 -- what the writer's step logs, and returns
 
 module _ (saw ended : Bool) (q : Pipe) (unread : ended ≡ true → q.unread ≡ []) (closed : ended ≡ true → q.is_closed ≡ true) where
-  writer-logs : (action : Action) → ((n : ℕ) → action ≡ does.StoreTail n → ended ≡ true → q.lent ≡ []) → Quiet saw ended (logged_of Writer action q)
-  writer-logs does.Rest unlent = (tt, refl, refl)
-  writer-logs does.LoadHead unlent = ((λ t. rw (unread t) refl, tt), refl, refl)
-  writer-logs does.LoadTail unlent = ((λ t. rw (unread t) refl, tt), refl, refl)
-  writer-logs does.LoadIndex unlent = ((λ t. rw (unread t) refl, tt), refl, refl)
-  writer-logs does.LoadClosed unlent = ((closed, tt), refl, refl)
-  writer-logs does.Register unlent = context-quiet saw ended Writer q.writer_call.context
-  writer-logs (does.StoreHead n) unlent = ((λ t. take_none n q.unread (unread t), tt), refl, refl)
-  writer-logs (does.StoreTail n) unlent = ((λ t. take_none n q.lent (unlent n refl t), tt), refl, refl)
-  writer-logs (does.StoreClosed is_shut) unlent = ((λ t. tt, tt), refl, refl)
-  writer-logs (does.Take slot) unlent = (tt, refl, refl)
-  writer-logs does.Wake unlent = wake-quiet saw ended q.writer_call.taken
-  writer-logs does.Yield unlent = yield-quiet saw ended q.writer_call.context
-  writer-logs does.CallDestination unlent = (tt, refl, refl)
-  writer-logs does.CallSource unlent = (tt, refl, refl)
+  writer-logs : (action : Action) → ((n : ℕ) → action ≡ Action.StoreTail n → ended ≡ true → q.lent ≡ []) → Quiet saw ended (logged_of Writer action q)
+  writer-logs Action.Rest unlent = (tt, refl, refl)
+  writer-logs Action.LoadHead unlent = ((λ t. rw (unread t) refl, tt), refl, refl)
+  writer-logs Action.LoadTail unlent = ((λ t. rw (unread t) refl, tt), refl, refl)
+  writer-logs Action.LoadIndex unlent = ((λ t. rw (unread t) refl, tt), refl, refl)
+  writer-logs Action.LoadClosed unlent = ((closed, tt), refl, refl)
+  writer-logs Action.Register unlent = context-quiet saw ended Writer q.writer_call.context
+  writer-logs (Action.StoreHead n) unlent = ((λ t. take_none n q.unread (unread t), tt), refl, refl)
+  writer-logs (Action.StoreTail n) unlent = ((λ t. take_none n q.lent (unlent n refl t), tt), refl, refl)
+  writer-logs (Action.StoreClosed is_shut) unlent = ((λ t. tt, tt), refl, refl)
+  writer-logs (Action.Take slot) unlent = (tt, refl, refl)
+  writer-logs Action.Wake unlent = wake-quiet saw ended q.writer_call.taken
+  writer-logs Action.Yield unlent = yield-quiet saw ended q.writer_call.context
+  writer-logs Action.CallDestination unlent = (tt, refl, refl)
+  writer-logs Action.CallSource unlent = (tt, refl, refl)
 
 writer-answers : (saw ended : Bool) (answer : Option Answer) → Quiet saw ended (answer_event Writer answer)
 writer-answers saw ended None = (tt, refl, refl)
 writer-answers saw ended (Some answer) = ((λ t. tt, tt), refl, refl)
 
-writer-publishes : (point : WritePoint) (n : ℕ) → write_action point ≡ does.StoreTail n → write_leaves point ≡ false
-writer-publishes (on.StoreTail m next) n e = refl
-writer-publishes (on.StoreClosed after_write.Answer) n e = absurd (cc)
-writer-publishes (on.StoreClosed (after_write.Round form sum)) n e = absurd (cc)
-writer-publishes (on.StoreClosed after_write.Drop) n e = absurd (cc)
-writer-publishes (on.StoreClosed after_write.WakeWriter) n e = absurd (cc)
+writer-publishes : (point : WritePoint) (n : ℕ) → write_action point ≡ Action.StoreTail n → write_leaves point ≡ false
+writer-publishes (WritePoint.StoreTail m next) n e = refl
+writer-publishes (WritePoint.StoreClosed AfterWrite.Answer) n e = absurd (cc)
+writer-publishes (WritePoint.StoreClosed (AfterWrite.Round form sum)) n e = absurd (cc)
+writer-publishes (WritePoint.StoreClosed AfterWrite.Drop) n e = absurd (cc)
+writer-publishes (WritePoint.StoreClosed AfterWrite.WakeWriter) n e = absurd (cc)
 writer-publishes point n e = absurd (cc)
 
 -- a store publishes what was lent before
-publishes-lent : (point : WritePoint) (n : ℕ) (offered lent : List ℕ) → write_action point ≡ does.StoreTail n → lent_at point offered lent ≡ lent
-publishes-lent (on.StoreTail m next) n offered lent e = refl
-publishes-lent (on.StoreClosed after_write.Answer) n offered lent e = refl
-publishes-lent (on.StoreClosed (after_write.Round form sum)) n offered lent e = refl
-publishes-lent (on.StoreClosed after_write.Drop) n offered lent e = refl
-publishes-lent (on.StoreClosed after_write.WakeWriter) n offered lent e = refl
-publishes-lent (on.CallSource form sum) n offered lent e = absurd (cc)
+publishes-lent : (point : WritePoint) (n : ℕ) (offered lent : List ℕ) → write_action point ≡ Action.StoreTail n → lent_at point offered lent ≡ lent
+publishes-lent (WritePoint.StoreTail m next) n offered lent e = refl
+publishes-lent (WritePoint.StoreClosed AfterWrite.Answer) n offered lent e = refl
+publishes-lent (WritePoint.StoreClosed (AfterWrite.Round form sum)) n offered lent e = refl
+publishes-lent (WritePoint.StoreClosed AfterWrite.Drop) n offered lent e = refl
+publishes-lent (WritePoint.StoreClosed AfterWrite.WakeWriter) n offered lent e = refl
+publishes-lent (WritePoint.CallSource form sum) n offered lent e = absurd (cc)
 publishes-lent point n offered lent e = refl
 
 -- a call is opened outside any other call of its side
@@ -121,7 +98,7 @@ none_known : (p : Pipe) → IsSound p → p.unread ≡ [] → (p.known == 0) ≡
 none_known p sound empty = let zero : length p.unread ≡ 0 = ap (λ (xs : List ℕ). length xs) empty in let within = sound.known in grind (arith, nat_tests)
 
 module _ (p : Pipe) (saw ended : Bool) (h : Lasts p saw ended) where
-  reader-opens : (point : ReadPoint) (c : OpenCall) (destination : Destination) → p.reader ≡ at.Idle → (p.unread ≡ [] → is_over point ≡ true) → loaded point ≡ None
+  reader-opens : (point : ReadPoint) (c : OpenCall) (destination : Destination) → p.reader ≡ ReadPoint.Idle → (p.unread ≡ [] → is_over point ≡ true) → loaded point ≡ None
       → Lasts (record p { reader = point; reader_call = c; destination = destination }) false ended
   reader-opens point c destination idle valid unloaded = record {
     known = h.known;
@@ -130,10 +107,10 @@ module _ (p : Pipe) (saw ended : Bool) (h : Lasts p saw ended) where
     sees = (λ seen. absurd (cc), unlinked _ _ unloaded);
   }
 
-  stays-ended : p.writer ≡ on.Idle → (point : WritePoint) → IsEnded p → IsEnded (record p { writer = point })
+  stays-ended : p.writer ≡ WritePoint.Idle → (point : WritePoint) → IsEnded p → IsEnded (record p { writer = point })
   stays-ended idle point is_ended = elim is_ended [ inl leaves ↦ absurd (let stays = ap write_leaves idle in cc) | inr shut ↦ inr shut ]
 
-  writer-opens : (point : WritePoint) (c : OpenCall) (source : List SourceAct) → p.writer ≡ on.Idle → is_known point ≡ true → Lasts (record p { writer = point; writer_call = c; source = source }) saw ended
+  writer-opens : (point : WritePoint) (c : OpenCall) (source : List SourceAct) → p.writer ≡ WritePoint.Idle → is_known point ≡ true → Lasts (record p { writer = point; writer_call = c; source = source }) saw ended
   writer-opens point c source idle known = record {
     known = known;
     caused = λ closed. elim (h.caused closed) [ inl leaves ↦ inl leaves | inr is_ended ↦ inr (stays-ended idle point is_ended) ];
@@ -144,34 +121,34 @@ module _ (p : Pipe) (saw ended : Bool) (h : Lasts p saw ended) where
   lends : (lent : List ℕ) → Lasts (lending lent p) saw ended
   lends lent = record { known = h.known; caused = h.caused; over = λ t. let o = h.over t in record { closed = o.closed; ended = o.ended; unread = o.unread; valid = o.valid }; sees = h.sees }
 
-  looks : (l : Purpose) (context : Option Context) (destination : Destination) → IsSound p → p.reader ≡ at.Idle → Lasts (record p { reader = reader_looks_for (p.known == 0) l; reader_call = called_with context; destination = destination }) false ended
+  looks : (l : Purpose) (context : Option Context) (destination : Destination) → IsSound p → p.reader ≡ ReadPoint.Idle → Lasts (record p { reader = reader_looks_for (p.known == 0) l; reader_call = called_with context; destination = destination }) false ended
   looks l context destination sound idle = reader-opens (reader_looks_for (p.known == 0) l) (called_with context) destination idle (λ empty. opens-over (p.known == 0) l (none_known p sound empty)) (opens-unloaded (p.known == 0) l)
 
-  fills : (l : Purpose) (context : Option Context) (source : List SourceAct) → p.writer ≡ on.Idle → Lasts (record p { writer = on.LookClosed l; writer_call = called_with context; source = source }) saw ended
-  fills l context source idle = writer-opens (on.LookClosed l) (called_with context) source idle refl
+  fills : (l : Purpose) (context : Option Context) (source : List SourceAct) → p.writer ≡ WritePoint.Idle → Lasts (record p { writer = WritePoint.LookClosed l; writer_call = called_with context; source = source }) saw ended
+  fills l context source idle = writer-opens (WritePoint.LookClosed l) (called_with context) source idle refl
 
 abbrev Adds : Bool → Bool → Stepped → Type 0
 Adds saw ended new = IsFinalFrom saw ended new.events × Lasts new.pipe (saw_closed_from Reader saw new.events) (ended_from saw ended new.events)
 
 begin-lasts : (lent : List ℕ) (c : Call) (p : Pipe) (saw ended : Bool) → IsSound p → refusal_of (Begin c) p ≡ None → Lasts p saw ended → Adds saw ended (stepped lent (Begin c) p)
-begin-lasts lent (call.Query Reader query) p saw ended sound accepted h = ((λ t. tt, tt), reader-opens p saw ended h (at.QueryHead query) p.reader_call p.destination (reader-idle p.reader _ accepted) (λ empty. refl) refl)
-begin-lasts lent (call.IsClosed Reader) p saw ended sound accepted h = ((λ t. tt, tt), reader-opens p saw ended h at.QueryClosed p.reader_call p.destination (reader-idle p.reader _ accepted) (λ empty. refl) refl)
-begin-lasts lent (call.Poll Reader waker luck) p saw ended sound accepted h = ((λ t. tt, tt), looks p saw ended h purpose.Poll (Some (context waker luck)) p.destination sound (reader-idle p.reader _ accepted))
-begin-lasts lent (call.TryDrain size) p saw ended sound accepted h = ((λ t. tt, tt), looks p saw ended h (purpose.Copy Try) None (Slice size) sound (reader-idle p.reader _ accepted))
-begin-lasts lent (call.PollDrainBytes waker luck size) p saw ended sound accepted h = ((λ t. tt, tt), looks p saw ended h (purpose.Copy (Polling (luck.draw == 0))) (Some (context waker luck)) (Slice size) sound (reader-idle p.reader _ accepted))
-begin-lasts lent (call.PollDrain waker luck acts) p saw ended sound accepted h = ((λ t. tt, tt), looks p saw ended h (purpose.Copy (Polling (luck.draw == 0))) (Some (context waker luck)) (Acts acts) sound (reader-idle p.reader _ accepted))
-begin-lasts lent (call.Consume n) p saw ended sound accepted h = ((λ t. tt, tt), reader-opens p saw ended h (at.StoreHead n after_read.Answer) p.reader_call p.destination (reader-idle p.reader _ accepted) (λ empty. refl) refl)
-begin-lasts lent (call.Drop Reader) p saw ended sound accepted h = ((λ t. tt, tt), reader-opens p saw ended h at.StoreClosed p.reader_call p.destination (reader-idle p.reader _ accepted) (λ empty. refl) refl)
-begin-lasts lent (call.Query Writer query) p saw ended sound accepted h = ((λ t. tt, tt), writer-opens p saw ended h (on.QueryHead query) p.writer_call p.source (writer-idle p.writer _ accepted) refl)
-begin-lasts lent (call.IsClosed Writer) p saw ended sound accepted h = ((λ t. tt, tt), writer-opens p saw ended h on.QueryClosed p.writer_call p.source (writer-idle p.writer _ accepted) refl)
-begin-lasts lent (call.Poll Writer waker luck) p saw ended sound accepted h = ((λ t. tt, tt), fills p saw ended h purpose.Poll (Some (context waker luck)) p.source (writer-idle p.writer _ accepted))
-begin-lasts lent (call.TryFill bytes) p saw ended sound accepted h = ((λ t. tt, tt), fills p saw ended h (purpose.Copy Try) None (source.Bytes bytes ∷ []) (writer-idle p.writer _ accepted))
-begin-lasts lent (call.PollFillBytes waker luck bytes) p saw ended sound accepted h = ((λ t. tt, tt), fills p saw ended h (purpose.Copy (Polling (luck.draw == 0))) (Some (context waker luck)) (source.Bytes bytes ∷ []) (writer-idle p.writer _ accepted))
-begin-lasts lent (call.PollFill waker luck acts) p saw ended sound accepted h = ((λ t. tt, tt), fills p saw ended h (purpose.Copy (Polling (luck.draw == 0))) (Some (context waker luck)) acts (writer-idle p.writer _ accepted))
-begin-lasts lent (call.WriteBuf most) p saw ended sound accepted h = ((λ t. tt, (λ t. tt, tt)), lends p saw ended h lent)
-begin-lasts lent (call.Produced n) p saw ended sound accepted h = ((λ t. tt, tt), writer-opens p saw ended h (on.StoreTail n after_write.Answer) p.writer_call p.source (writer-idle p.writer _ accepted) refl)
-begin-lasts lent call.Close p saw ended sound accepted h = ((λ t. tt, tt), writer-opens p saw ended h (on.StoreClosed after_write.WakeWriter) p.writer_call p.source (writer-idle p.writer _ accepted) refl)
-begin-lasts lent (call.Drop Writer) p saw ended sound accepted h = ((λ t. tt, tt), writer-opens p saw ended h (on.StoreClosed after_write.Drop) p.writer_call p.source (writer-idle p.writer _ accepted) refl)
+begin-lasts lent (Call.Query Reader query) p saw ended sound accepted h = ((λ t. tt, tt), reader-opens p saw ended h (ReadPoint.QueryHead query) p.reader_call p.destination (reader-idle p.reader _ accepted) (λ empty. refl) refl)
+begin-lasts lent (Call.IsClosed Reader) p saw ended sound accepted h = ((λ t. tt, tt), reader-opens p saw ended h ReadPoint.QueryClosed p.reader_call p.destination (reader-idle p.reader _ accepted) (λ empty. refl) refl)
+begin-lasts lent (Call.Poll Reader waker luck) p saw ended sound accepted h = ((λ t. tt, tt), looks p saw ended h Purpose.Poll (Some (context waker luck)) p.destination sound (reader-idle p.reader _ accepted))
+begin-lasts lent (Call.TryDrain size) p saw ended sound accepted h = ((λ t. tt, tt), looks p saw ended h (Purpose.Copy Try) None (Slice size) sound (reader-idle p.reader _ accepted))
+begin-lasts lent (Call.PollDrainBytes waker luck size) p saw ended sound accepted h = ((λ t. tt, tt), looks p saw ended h (Purpose.Copy (Polling (luck.draw == 0))) (Some (context waker luck)) (Slice size) sound (reader-idle p.reader _ accepted))
+begin-lasts lent (Call.PollDrain waker luck acts) p saw ended sound accepted h = ((λ t. tt, tt), looks p saw ended h (Purpose.Copy (Polling (luck.draw == 0))) (Some (context waker luck)) (Acts acts) sound (reader-idle p.reader _ accepted))
+begin-lasts lent (Call.Consume n) p saw ended sound accepted h = ((λ t. tt, tt), reader-opens p saw ended h (ReadPoint.StoreHead n AfterRead.Answer) p.reader_call p.destination (reader-idle p.reader _ accepted) (λ empty. refl) refl)
+begin-lasts lent (Call.Drop Reader) p saw ended sound accepted h = ((λ t. tt, tt), reader-opens p saw ended h ReadPoint.StoreClosed p.reader_call p.destination (reader-idle p.reader _ accepted) (λ empty. refl) refl)
+begin-lasts lent (Call.Query Writer query) p saw ended sound accepted h = ((λ t. tt, tt), writer-opens p saw ended h (WritePoint.QueryHead query) p.writer_call p.source (writer-idle p.writer _ accepted) refl)
+begin-lasts lent (Call.IsClosed Writer) p saw ended sound accepted h = ((λ t. tt, tt), writer-opens p saw ended h WritePoint.QueryClosed p.writer_call p.source (writer-idle p.writer _ accepted) refl)
+begin-lasts lent (Call.Poll Writer waker luck) p saw ended sound accepted h = ((λ t. tt, tt), fills p saw ended h Purpose.Poll (Some (context waker luck)) p.source (writer-idle p.writer _ accepted))
+begin-lasts lent (Call.TryFill bytes) p saw ended sound accepted h = ((λ t. tt, tt), fills p saw ended h (Purpose.Copy Try) None (SourceAct.Bytes bytes ∷ []) (writer-idle p.writer _ accepted))
+begin-lasts lent (Call.PollFillBytes waker luck bytes) p saw ended sound accepted h = ((λ t. tt, tt), fills p saw ended h (Purpose.Copy (Polling (luck.draw == 0))) (Some (context waker luck)) (SourceAct.Bytes bytes ∷ []) (writer-idle p.writer _ accepted))
+begin-lasts lent (Call.PollFill waker luck acts) p saw ended sound accepted h = ((λ t. tt, tt), fills p saw ended h (Purpose.Copy (Polling (luck.draw == 0))) (Some (context waker luck)) acts (writer-idle p.writer _ accepted))
+begin-lasts lent (Call.WriteBuf most) p saw ended sound accepted h = ((λ t. tt, (λ t. tt, tt)), lends p saw ended h lent)
+begin-lasts lent (Call.Produced n) p saw ended sound accepted h = ((λ t. tt, tt), writer-opens p saw ended h (WritePoint.StoreTail n AfterWrite.Answer) p.writer_call p.source (writer-idle p.writer _ accepted) refl)
+begin-lasts lent Call.Close p saw ended sound accepted h = ((λ t. tt, tt), writer-opens p saw ended h (WritePoint.StoreClosed AfterWrite.WakeWriter) p.writer_call p.source (writer-idle p.writer _ accepted) refl)
+begin-lasts lent (Call.Drop Writer) p saw ended sound accepted h = ((λ t. tt, tt), writer-opens p saw ended h (WritePoint.StoreClosed AfterWrite.Drop) p.writer_call p.source (writer-idle p.writer _ accepted) refl)
 
 -- the events of the answer after those of the action
 adds : (saw ended : Bool) (es fs : List Event) (q : Pipe) → IsFinalFrom saw ended es → IsFinalFrom (saw_closed_from Reader saw es) (ended_from saw ended es) fs
@@ -205,7 +182,7 @@ step-lasts lent (Go Writer) p saw ended sound accepted seen h =
     let offered = offering lent p in
     let es = logged_of Writer action offered in
     let to = went Writer offered in
-    let unlent : (n : ℕ) → action ≡ does.StoreTail n → ended ≡ true → offered.lent ≡ [] = λ n e t. publishes-lent p.writer n lent p.lent e ∙ none_lent p sound (writer-publishes p.writer n e) (h.over t).ended in
+    let unlent : (n : ℕ) → action ≡ Action.StoreTail n → ended ≡ true → offered.lent ≡ [] = λ n e t. publishes-lent p.writer n lent p.lent e ∙ none_lent p sound (writer-publishes p.writer n e) (h.over t).ended in
     let logs = writer-logs saw ended offered (λ t. (h.over t).unread) (λ t. (h.over t).closed) action unlent in
     let answers = writer-answers (saw_closed_from Reader saw es) (ended_from saw ended es) to.answer in
     let leaves = (writer_leaves-reader action offered (writer_never-head p.writer)).0 in

@@ -2,16 +2,7 @@
 use Rattle.std.proofs.Common.{◌≡◌, ℕ, zero, suc, ◌+◌, ◌-◌, ◌<◌, ◌≤◌, min, List, [], ◌++◌, take, drop, length, replicate, Bool, true, false, Option, None, Some, refl, sym, ap, ◌∙◌, subst, arith, length-append, length-drop, length-take-le}
 use Rattle.std.proofs.lemmas.List.{length-replicate}
 use Rattle.std.proofs.lemmas.Slice.{drop-append-drop}
-use Rattle.piper_protocol.specs.declared.table.Side.{Side}
-use Rattle.piper_protocol.specs.declared.table.Side.TheVariants.{Reader, Writer}
-use Rattle.piper_protocol.specs.declared.table.TheConstants.{MOST_A_ROUND}
-use Rattle.piper_protocol.specs.declared.table.WritePoint.{WritePoint}
-use Rattle.piper_protocol.specs.declared.table.WritePoint.TheVariants as on
-use Rattle.piper_protocol.specs.declared.answer.Answer.{Answer}
-use Rattle.piper_machine.specs.declared.calls.SideState.{SideState}
-use Rattle.piper_machine.specs.declared.calls.SideState.TheVariants.{Busy}
-use Rattle.piper_machine.specs.declared.calls.Step.TheVariants.{Go}
-use Rattle.piper_machine.specs.declared.events.Event.{Event}
+use Rattle.piper_machine.specs.Types.{Side, WritePoint, Answer, SideState, Event, Reader, Writer, MOST_A_ROUND, Busy, Go}
 use Rattle.piper_machine.specs.Pipe.{Pipe}
 use Rattle.piper_machine.specs.Source.{bytes_of}
 use Rattle.piper_machine.specs.Action.{source_called}
@@ -80,8 +71,8 @@ pub record CanGo (side : Side) (p : Pipe) (before : List Event) : Type 0 where
   pub made : Made p (Go side) pipe before log
 
 writer-can : (point : WritePoint) (p : Pipe) (before : List Event) → let q = record p { writer = point } in state_of Writer q ≡ Busy → length p.unread ≤ p.capacity → p.start < p.capacity → CanGo Writer q before
-writer-can (on.CallSource form sum) p before busy unread start =
-    let q = record p { writer = on.CallSource form sum } in
+writer-can (WritePoint.CallSource form sum) p before busy unread start =
+    let q = record p { writer = WritePoint.CallSource form sum } in
     let lent = lends-source q (lends-some MOST_A_ROUND q unread start) in
     let found = found_of (given (length lent.after.lent) q.source) in
     let new = round_left found lent.after in

@@ -2,32 +2,8 @@
 -- its last look.
 use Rattle.std.proofs.Common.{◌≡◌, ℕ, List, [], ◌∷◌, ◌++◌, length, Bool, true, false, Option, None, Some, Result, Ok, Err, ◌==◌, is_some, refl, sym, ap, subst, ◌∙◌, arith}
 use Rattle.std.proofs.lemmas.Bool.Decides.{nat_tests}
-use Rattle.piper_protocol.specs.declared.table.Side.{Side}
-use Rattle.piper_protocol.specs.declared.table.Side.TheVariants.{Reader, Writer}
-use Rattle.piper_machine.specs.declared.calls.Call.{Call}
-use Rattle.piper_machine.specs.declared.calls.Call.TheVariants as call
-use Rattle.piper_machine.specs.declared.calls.Kind.{Kind}
-use Rattle.piper_protocol.specs.declared.table.Query.{Query}
-use Rattle.piper_machine.specs.declared.calls.Step.{Step}
-use Rattle.piper_machine.specs.declared.calls.Step.TheVariants.{Begin, Go, Put}
-use Rattle.piper_protocol.specs.declared.answer.Answer.{Answer}
-use Rattle.piper_machine.specs.declared.events.Event.{Event}
-use Rattle.piper_machine.specs.declared.events.Event.TheVariants.{Began, Looked}
+use Rattle.piper_machine.specs.Types.{Side, Call, Kind, Query, Step, Answer, Event, Context, Action, AfterRead, ReadPoint, Polled, Failed, Form, Purpose, Reader, Writer, Begin, Go, Put, Began, Looked, Memory, Try, Polling}
 use Rattle.piper_machine.specs.declared.events.Seen.TheVariants.{Tail}
-use Rattle.piper_machine.specs.declared.polling.Context.{Context}
-use Rattle.piper_protocol.specs.declared.table.Action.{Action}
-use Rattle.piper_protocol.specs.declared.table.Action.TheVariants as does
-use Rattle.piper_protocol.specs.declared.table.Purpose.TheVariants as purpose
-use Rattle.piper_protocol.specs.declared.table.AfterRead.{AfterRead}
-use Rattle.piper_protocol.specs.declared.table.AfterRead.TheVariants as after_read
-use Rattle.piper_protocol.specs.declared.table.ReadPoint.{ReadPoint}
-use Rattle.piper_protocol.specs.declared.table.ReadPoint.TheVariants as at
-use Rattle.piper_protocol.specs.declared.answer.Polled.{Polled}
-use Rattle.piper_protocol.specs.declared.answer.Polled.TheVariants.{Memory}
-use Rattle.piper_protocol.specs.declared.answer.Failed.{Failed}
-use Rattle.piper_protocol.specs.declared.table.Form.{Form}
-use Rattle.piper_protocol.specs.declared.table.Form.TheVariants.{Try, Polling}
-use Rattle.piper_protocol.specs.declared.table.Purpose.{Purpose}
 use Rattle.piper_machine.specs.Call.{side_of, kind_of, waker_of}
 use Rattle.piper_machine.specs.Open.{is_granted, is_yield_granted}
 use Rattle.piper_machine.specs.Round.{taken, found_of}
@@ -80,31 +56,31 @@ quietly : (h : History) (events : List Event) (p : Pipe) → h.is_closed ≡ p.i
 quietly h events p same quiet = (quiet.0, ap (λ (k : History). k.is_closed) quiet.1 ∙ same)
 
 action-shows : (h : History) (side : Side) (action : Action) (p : Pipe) → h.is_closed ≡ p.is_closed → Tells h (logged_of side action p) (performed side action p).is_closed
-action-shows h side does.Rest p same = (tt, same)
-action-shows h Reader does.LoadHead p same = ((tt, tt), same)
-action-shows h Writer does.LoadHead p same = ((tt, tt), same)
-action-shows h Reader does.LoadTail p same = ((tt, tt), same)
-action-shows h Writer does.LoadTail p same = ((tt, tt), same)
-action-shows h Reader does.LoadIndex p same = ((tt, tt), same)
-action-shows h Writer does.LoadIndex p same = ((tt, tt), same)
-action-shows h Reader does.LoadClosed p same = ((tt, tt), same)
-action-shows h Writer does.LoadClosed p same = ((tt, tt), same)
-action-shows h Reader does.Register p same = quietly h _ p same (context-quiet h Reader p.reader_call.context)
-action-shows h Writer does.Register p same = quietly h _ p same (context-quiet h Writer p.writer_call.context)
-action-shows h side (does.StoreHead n) p same = ((tt, tt), same)
-action-shows h side (does.StoreTail n) p same = ((tt, tt), same)
-action-shows h side (does.StoreClosed true) p same = ((tt, tt), refl)
-action-shows h side (does.StoreClosed false) p same = ((tt, tt), refl)
-action-shows h Reader (does.Take Reader) p same = (tt, same)
-action-shows h Reader (does.Take Writer) p same = (tt, same)
-action-shows h Writer (does.Take Reader) p same = (tt, same)
-action-shows h Writer (does.Take Writer) p same = (tt, same)
-action-shows h Reader does.Yield p same = quietly h _ p same (yield-quiet h p.reader_call.context)
-action-shows h Writer does.Yield p same = quietly h _ p same (yield-quiet h p.writer_call.context)
-action-shows h side does.CallDestination p same = (tt, same)
-action-shows h side does.CallSource p same = (tt, same)
-action-shows h Reader does.Wake p same = quietly h _ p same (wake-quiet h p.reader_call.taken)
-action-shows h Writer does.Wake p same = quietly h _ p same (wake-quiet h p.writer_call.taken)
+action-shows h side Action.Rest p same = (tt, same)
+action-shows h Reader Action.LoadHead p same = ((tt, tt), same)
+action-shows h Writer Action.LoadHead p same = ((tt, tt), same)
+action-shows h Reader Action.LoadTail p same = ((tt, tt), same)
+action-shows h Writer Action.LoadTail p same = ((tt, tt), same)
+action-shows h Reader Action.LoadIndex p same = ((tt, tt), same)
+action-shows h Writer Action.LoadIndex p same = ((tt, tt), same)
+action-shows h Reader Action.LoadClosed p same = ((tt, tt), same)
+action-shows h Writer Action.LoadClosed p same = ((tt, tt), same)
+action-shows h Reader Action.Register p same = quietly h _ p same (context-quiet h Reader p.reader_call.context)
+action-shows h Writer Action.Register p same = quietly h _ p same (context-quiet h Writer p.writer_call.context)
+action-shows h side (Action.StoreHead n) p same = ((tt, tt), same)
+action-shows h side (Action.StoreTail n) p same = ((tt, tt), same)
+action-shows h side (Action.StoreClosed true) p same = ((tt, tt), refl)
+action-shows h side (Action.StoreClosed false) p same = ((tt, tt), refl)
+action-shows h Reader (Action.Take Reader) p same = (tt, same)
+action-shows h Reader (Action.Take Writer) p same = (tt, same)
+action-shows h Writer (Action.Take Reader) p same = (tt, same)
+action-shows h Writer (Action.Take Writer) p same = (tt, same)
+action-shows h Reader Action.Yield p same = quietly h _ p same (yield-quiet h p.reader_call.context)
+action-shows h Writer Action.Yield p same = quietly h _ p same (yield-quiet h p.writer_call.context)
+action-shows h side Action.CallDestination p same = (tt, same)
+action-shows h side Action.CallSource p same = (tt, same)
+action-shows h Reader Action.Wake p same = quietly h _ p same (wake-quiet h p.reader_call.taken)
+action-shows h Writer Action.Wake p same = quietly h _ p same (wake-quiet h p.writer_call.taken)
 
 answer-keeps : (h : History) (side : Side) (answer : Option Answer) → history_from h (answer_event side answer) ≡ h
 answer-keeps h side None = refl
@@ -116,7 +92,7 @@ writer-answers h (Some answer) = (tt, tt)
 
 -- what the reader loaded of the flag, between this load and its last look
 abbrev pub loaded : ReadPoint → Option Bool
-loaded (at.LookTailAgain l was_closed) = Some was_closed
+loaded (ReadPoint.LookTailAgain l was_closed) = Some was_closed
 loaded point = None
 
 -- it is there, and the flag was set
@@ -149,12 +125,12 @@ module _ (h : History) (p : Pipe) where
 
   registers-honest : (k : History) (l : Purpose) (is_granted : Bool) → IsHonestFrom k (answer_event Reader (reader_registered is_granted l).answer)
   registers-honest k l true = tt
-  registers-honest k purpose.Poll false = (tt, tt)
-  registers-honest k (purpose.Copy form) false = copy-honest k form Memory
+  registers-honest k Purpose.Poll false = (tt, tt)
+  registers-honest k (Purpose.Copy form) false = copy-honest k form Memory
 
   true-honest : (k : History) (l : Purpose) → IsHonestFrom k (answer_event Reader (reader_is_true l).answer)
-  true-honest k purpose.Poll = (tt, tt)
-  true-honest k (purpose.Copy form) = tt
+  true-honest k Purpose.Poll = (tt, tt)
+  true-honest k (Purpose.Copy form) = tt
 
   yields-honest : (k : History) (is_granted : Bool) → IsHonestFrom k (answer_event Reader (Some (yield_answer is_granted)))
   yields-honest k true = (tt, tt)
@@ -164,14 +140,14 @@ module _ (h : History) (p : Pipe) where
   round-honest k true n form sum = count-honest k form sum
   round-honest k false n form sum = tt
 
-  moved-honest : (k : History) (moved : Result ℕ Failed) (form : Form) (sum : ℕ) → IsHonestFrom k (answer_event Reader (read_after p.capacity (at.CallDestination form sum) (found_of moved)).answer)
+  moved-honest : (k : History) (moved : Result ℕ Failed) (form : Form) (sum : ℕ) → IsHonestFrom k (answer_event Reader (read_after p.capacity (ReadPoint.CallDestination form sum) (found_of moved)).answer)
   moved-honest k (Ok n) form sum = round-honest k (n == 0) n form sum
   moved-honest k (Err fails) form sum = (tt, tt)
 
   done-honest : (k : History) (next : AfterRead) → IsHonestFrom k (answer_event Reader (read_done next).answer)
-  done-honest k after_read.Answer = (tt, tt)
-  done-honest k after_read.Drop = (tt, tt)
-  done-honest k (after_read.Round form sum) = tt
+  done-honest k AfterRead.Answer = (tt, tt)
+  done-honest k AfterRead.Drop = (tt, tt)
+  done-honest k (AfterRead.Round form sum) = tt
 
   take-honest : (k : History) (next : AfterRead) (is_found : Bool) → IsHonestFrom k (answer_event Reader (writer_taken next is_found).answer)
   take-honest k next false = done-honest k next
@@ -181,42 +157,42 @@ module _ (h : History) (p : Pipe) where
   again-honest : (l : Purpose) (count : ℕ) (none was_closed : Bool) → (count == 0) ≡ none → h.is_closed ≡ p.is_closed → (was_closed ≡ true → p.is_closed ≡ true)
       → IsHonestFrom (history_after h (Looked Reader (Tail count))) (answer_event Reader (reader_looked_again none l was_closed).answer)
   again-honest l count false was_closed test same seen = tt
-  again-honest (purpose.Copy form) count true was_closed test same seen = copy-honest (history_after h (Looked Reader (Tail count))) form (end_or_pending was_closed)
-  again-honest purpose.Poll count true false test same seen = (tt, tt)
-  again-honest purpose.Poll count true true test same seen =
+  again-honest (Purpose.Copy form) count true was_closed test same seen = copy-honest (history_after h (Looked Reader (Tail count))) form (end_or_pending was_closed)
+  again-honest Purpose.Poll count true false test same seen = (tt, tt)
+  again-honest Purpose.Poll count true true test same seen =
       let zero : count ≡ 0 = grind (arith, nat_tests) in
       let is_set : h.is_closed ≡ true = same ∙ seen refl in
       (rw (zero, is_set) refl, tt)
 
   point-honest : (point : ReadPoint) → h.is_closed ≡ p.is_closed → (saw_close point ≡ true → p.is_closed ≡ true) → HonestAt h point p
-  point-honest at.Idle same seen = tt
-  point-honest at.Dropped same seen = tt
-  point-honest (at.QueryHead query) same seen = tt
-  point-honest (at.QueryTail query) same seen = query-honest (noted h (at.QueryTail query) p) query (length p.unread)
-  point-honest at.QueryClosed same seen = (tt, tt)
-  point-honest (at.LookTail l) same seen = tt
-  point-honest (at.LookRegister l) same seen = registers-honest (noted h (at.LookRegister l) p) l (is_granted p.reader_call.context)
-  point-honest (at.LookClosed l) same seen = tt
-  point-honest (at.LookTailAgain l was_closed) same seen = again-honest l (length p.unread) (length p.unread == 0) was_closed refl same seen
-  point-honest (at.LookTake l) same seen = true-honest (noted h (at.LookTake l) p) l
-  point-honest at.Yield same seen = yields-honest (noted h at.Yield p) (is_yield_granted p.reader_call.context)
-  point-honest (at.CallDestination form sum) same seen = moved-honest h (taken (round_count p) p.destination) form sum
-  point-honest (at.StoreHead n next) same seen = tt
-  point-honest (at.TakeWriter next) same seen = take-honest (noted h (at.TakeWriter next) p) next (is_some p.writer_waker)
-  point-honest (at.WakeWriter next) same seen = done-honest (noted h (at.WakeWriter next) p) next
-  point-honest at.StoreClosed same seen = tt
+  point-honest ReadPoint.Idle same seen = tt
+  point-honest ReadPoint.Dropped same seen = tt
+  point-honest (ReadPoint.QueryHead query) same seen = tt
+  point-honest (ReadPoint.QueryTail query) same seen = query-honest (noted h (ReadPoint.QueryTail query) p) query (length p.unread)
+  point-honest ReadPoint.QueryClosed same seen = (tt, tt)
+  point-honest (ReadPoint.LookTail l) same seen = tt
+  point-honest (ReadPoint.LookRegister l) same seen = registers-honest (noted h (ReadPoint.LookRegister l) p) l (is_granted p.reader_call.context)
+  point-honest (ReadPoint.LookClosed l) same seen = tt
+  point-honest (ReadPoint.LookTailAgain l was_closed) same seen = again-honest l (length p.unread) (length p.unread == 0) was_closed refl same seen
+  point-honest (ReadPoint.LookTake l) same seen = true-honest (noted h (ReadPoint.LookTake l) p) l
+  point-honest ReadPoint.Yield same seen = yields-honest (noted h ReadPoint.Yield p) (is_yield_granted p.reader_call.context)
+  point-honest (ReadPoint.CallDestination form sum) same seen = moved-honest h (taken (round_count p) p.destination) form sum
+  point-honest (ReadPoint.StoreHead n next) same seen = tt
+  point-honest (ReadPoint.TakeWriter next) same seen = take-honest (noted h (ReadPoint.TakeWriter next) p) next (is_some p.writer_waker)
+  point-honest (ReadPoint.WakeWriter next) same seen = done-honest (noted h (ReadPoint.WakeWriter next) p) next
+  point-honest ReadPoint.StoreClosed same seen = tt
 
 -- where the reader comes to, it has loaded the flag only by the step that loads it
 
 pub found-unloaded : (l : Purpose) → loaded (reader_found l) ≡ None
-found-unloaded purpose.Poll = refl
-found-unloaded (purpose.Copy Try) = refl
-found-unloaded (purpose.Copy (Polling is_drawn)) = refl
+found-unloaded Purpose.Poll = refl
+found-unloaded (Purpose.Copy Try) = refl
+found-unloaded (Purpose.Copy (Polling is_drawn)) = refl
 
 pub looks-unloaded : (none : Bool) (l : Purpose) → loaded (reader_looked none l) ≡ None
-looks-unloaded true purpose.Poll = refl
-looks-unloaded true (purpose.Copy Try) = refl
-looks-unloaded true (purpose.Copy (Polling is_drawn)) = refl
+looks-unloaded true Purpose.Poll = refl
+looks-unloaded true (Purpose.Copy Try) = refl
+looks-unloaded true (Purpose.Copy (Polling is_drawn)) = refl
 looks-unloaded false l = found-unloaded l
 
 pub opens-unloaded : (none : Bool) (l : Purpose) → loaded (reader_looks_for none l) ≡ None
@@ -232,23 +208,23 @@ again-unloaded true was_closed l = refl
 again-unloaded false was_closed l = found-unloaded l
 
 pub true-unloaded : (l : Purpose) → loaded (reader_is_true l).point ≡ None
-true-unloaded purpose.Poll = refl
-true-unloaded (purpose.Copy Try) = refl
-true-unloaded (purpose.Copy (Polling true)) = refl
-true-unloaded (purpose.Copy (Polling false)) = refl
+true-unloaded Purpose.Poll = refl
+true-unloaded (Purpose.Copy Try) = refl
+true-unloaded (Purpose.Copy (Polling true)) = refl
+true-unloaded (Purpose.Copy (Polling false)) = refl
 
 pub round-unloaded : (none : Bool) (n : ℕ) (form : Form) (sum : ℕ) → loaded (reader_moved none n form sum).point ≡ None
 round-unloaded true n form sum = refl
 round-unloaded false n form sum = refl
 
-pub moved-unloaded : (capacity : ℕ) (moved : Result ℕ Failed) (form : Form) (sum : ℕ) → loaded (read_after capacity (at.CallDestination form sum) (found_of moved)).point ≡ None
+pub moved-unloaded : (capacity : ℕ) (moved : Result ℕ Failed) (form : Form) (sum : ℕ) → loaded (read_after capacity (ReadPoint.CallDestination form sum) (found_of moved)).point ≡ None
 moved-unloaded capacity (Ok n) form sum = round-unloaded (n == 0) n form sum
 moved-unloaded capacity (Err fails) form sum = refl
 
 pub done-unloaded : (next : AfterRead) → loaded (read_done next).point ≡ None
-done-unloaded after_read.Answer = refl
-done-unloaded after_read.Drop = refl
-done-unloaded (after_read.Round form sum) = refl
+done-unloaded AfterRead.Answer = refl
+done-unloaded AfterRead.Drop = refl
+done-unloaded (AfterRead.Round form sum) = refl
 
 pub take-unloaded : (next : AfterRead) (is_found : Bool) → loaded (writer_taken next is_found).point ≡ None
 take-unloaded next false = done-unloaded next
@@ -259,34 +235,34 @@ unseen None is_closed unloaded seen = absurd (cc)
 unseen (Some flag) is_closed unloaded seen = absurd (cc)
 
 reader-sees : (point : ReadPoint) (p : Pipe) → let q = (went Reader (record p { reader = point })).pipe in saw_close q.reader ≡ true → q.is_closed ≡ true
-reader-sees at.Idle p saw = absurd (cc)
-reader-sees at.Dropped p saw = absurd (cc)
-reader-sees (at.QueryHead query) p saw = absurd (cc)
-reader-sees (at.QueryTail query) p saw = absurd (cc)
-reader-sees at.QueryClosed p saw = absurd (cc)
-reader-sees (at.LookTail l) p saw = unseen _ _ (looks-unloaded (length p.unread == 0) l) saw
-reader-sees (at.LookRegister l) p saw = unseen _ _ (registers-unloaded (is_granted p.reader_call.context) l) saw
-reader-sees (at.LookClosed l) p saw = saw
-reader-sees (at.LookTailAgain l was_closed) p saw = unseen _ _ (again-unloaded (length p.unread == 0) was_closed l) saw
-reader-sees (at.LookTake l) p saw = unseen _ _ (true-unloaded l) saw
-reader-sees at.Yield p saw = absurd (cc)
-reader-sees (at.CallDestination form sum) p saw = unseen _ _ (moved-unloaded p.capacity (taken (round_count p) p.destination) form sum) saw
-reader-sees (at.StoreHead n next) p saw = absurd (cc)
-reader-sees (at.TakeWriter next) p saw = unseen _ _ (take-unloaded next (is_some p.writer_waker)) saw
-reader-sees (at.WakeWriter next) p saw = unseen _ _ (done-unloaded next) saw
-reader-sees at.StoreClosed p saw = absurd (cc)
+reader-sees ReadPoint.Idle p saw = absurd (cc)
+reader-sees ReadPoint.Dropped p saw = absurd (cc)
+reader-sees (ReadPoint.QueryHead query) p saw = absurd (cc)
+reader-sees (ReadPoint.QueryTail query) p saw = absurd (cc)
+reader-sees ReadPoint.QueryClosed p saw = absurd (cc)
+reader-sees (ReadPoint.LookTail l) p saw = unseen _ _ (looks-unloaded (length p.unread == 0) l) saw
+reader-sees (ReadPoint.LookRegister l) p saw = unseen _ _ (registers-unloaded (is_granted p.reader_call.context) l) saw
+reader-sees (ReadPoint.LookClosed l) p saw = saw
+reader-sees (ReadPoint.LookTailAgain l was_closed) p saw = unseen _ _ (again-unloaded (length p.unread == 0) was_closed l) saw
+reader-sees (ReadPoint.LookTake l) p saw = unseen _ _ (true-unloaded l) saw
+reader-sees ReadPoint.Yield p saw = absurd (cc)
+reader-sees (ReadPoint.CallDestination form sum) p saw = unseen _ _ (moved-unloaded p.capacity (taken (round_count p) p.destination) form sum) saw
+reader-sees (ReadPoint.StoreHead n next) p saw = absurd (cc)
+reader-sees (ReadPoint.TakeWriter next) p saw = unseen _ _ (take-unloaded next (is_some p.writer_waker)) saw
+reader-sees (ReadPoint.WakeWriter next) p saw = unseen _ _ (done-unloaded next) saw
+reader-sees ReadPoint.StoreClosed p saw = absurd (cc)
 
 -- an opened call leaves the flag, and has not loaded it
 opened-sees : (lent : List ℕ) (c : Call) (p : Pipe) → (saw_close p.reader ≡ true → p.is_closed ≡ true)
     → let q = opened lent c p in (q.is_closed ≡ p.is_closed) × (saw_close q.reader ≡ true → p.is_closed ≡ true)
-opened-sees lent (call.Query Reader query) p seen = (refl, λ saw. absurd (cc))
-opened-sees lent (call.IsClosed Reader) p seen = (refl, λ saw. absurd (cc))
-opened-sees lent (call.Poll Reader waker luck) p seen = (refl, unseen _ _ (opens-unloaded (p.known == 0) purpose.Poll))
-opened-sees lent (call.TryDrain size) p seen = (refl, unseen _ _ (opens-unloaded (p.known == 0) _))
-opened-sees lent (call.PollDrainBytes waker luck size) p seen = (refl, unseen _ _ (opens-unloaded (p.known == 0) _))
-opened-sees lent (call.PollDrain waker luck acts) p seen = (refl, unseen _ _ (opens-unloaded (p.known == 0) _))
-opened-sees lent (call.Consume n) p seen = (refl, λ saw. absurd (cc))
-opened-sees lent (call.Drop Reader) p seen = (refl, λ saw. absurd (cc))
+opened-sees lent (Call.Query Reader query) p seen = (refl, λ saw. absurd (cc))
+opened-sees lent (Call.IsClosed Reader) p seen = (refl, λ saw. absurd (cc))
+opened-sees lent (Call.Poll Reader waker luck) p seen = (refl, unseen _ _ (opens-unloaded (p.known == 0) Purpose.Poll))
+opened-sees lent (Call.TryDrain size) p seen = (refl, unseen _ _ (opens-unloaded (p.known == 0) _))
+opened-sees lent (Call.PollDrainBytes waker luck size) p seen = (refl, unseen _ _ (opens-unloaded (p.known == 0) _))
+opened-sees lent (Call.PollDrain waker luck acts) p seen = (refl, unseen _ _ (opens-unloaded (p.known == 0) _))
+opened-sees lent (Call.Consume n) p seen = (refl, λ saw. absurd (cc))
+opened-sees lent (Call.Drop Reader) p seen = (refl, λ saw. absurd (cc))
 opened-sees lent c p seen = (refl, seen)
 
 began-leaves : (h : History) (side : Side) (kind : Kind) (waker : Option ℕ) → (history_after h (Began side kind waker)).is_closed ≡ h.is_closed
@@ -294,7 +270,7 @@ began-leaves h Reader kind waker = refl
 began-leaves h Writer kind waker = refl
 
 began-shows : (h : History) (lent : List ℕ) (c : Call) (p : Pipe) → h.is_closed ≡ p.is_closed → Tells h (stepped lent (Begin c) p).events p.is_closed
-began-shows h lent (call.WriteBuf most) p same = ((tt, (tt, tt)), same)
+began-shows h lent (Call.WriteBuf most) p same = ((tt, (tt, tt)), same)
 began-shows h lent c p same = ((tt, tt), began-leaves h (side_of c) (kind_of c) (waker_of c) ∙ same)
 
 -- what the log says of the flag is so, and what the reader carries of it, too
@@ -311,22 +287,22 @@ answered-shows h es side answer is_closed shows honest = (
 )
 
 pub writer-flag : (action : Action) (p : Pipe) → p.is_closed ≡ true → (performed Writer action p).is_closed ≡ true
-writer-flag (does.StoreClosed true) p closed = refl
-writer-flag (does.StoreClosed false) p closed = refl
-writer-flag does.Rest p closed = closed
-writer-flag does.LoadHead p closed = closed
-writer-flag does.LoadTail p closed = closed
-writer-flag does.LoadIndex p closed = closed
-writer-flag does.LoadClosed p closed = closed
-writer-flag does.Register p closed = closed
-writer-flag (does.StoreHead n) p closed = closed
-writer-flag (does.StoreTail n) p closed = closed
-writer-flag (does.Take Reader) p closed = closed
-writer-flag (does.Take Writer) p closed = closed
-writer-flag does.Wake p closed = closed
-writer-flag does.Yield p closed = closed
-writer-flag does.CallDestination p closed = closed
-writer-flag does.CallSource p closed = closed
+writer-flag (Action.StoreClosed true) p closed = refl
+writer-flag (Action.StoreClosed false) p closed = refl
+writer-flag Action.Rest p closed = closed
+writer-flag Action.LoadHead p closed = closed
+writer-flag Action.LoadTail p closed = closed
+writer-flag Action.LoadIndex p closed = closed
+writer-flag Action.LoadClosed p closed = closed
+writer-flag Action.Register p closed = closed
+writer-flag (Action.StoreHead n) p closed = closed
+writer-flag (Action.StoreTail n) p closed = closed
+writer-flag (Action.Take Reader) p closed = closed
+writer-flag (Action.Take Writer) p closed = closed
+writer-flag Action.Wake p closed = closed
+writer-flag Action.Yield p closed = closed
+writer-flag Action.CallDestination p closed = closed
+writer-flag Action.CallSource p closed = closed
 
 step-honest : (lent : List ℕ) (s : Step) (p : Pipe) (h : History) → Aware p h
     → let new = stepped lent s p in IsHonestFrom h new.events × Aware new.pipe (history_from h new.events)

@@ -19,9 +19,6 @@ offset_of-advanced c h n head below some = grind (arith, nat_tests)
 pub place_below : (c i : ℕ) → i < 2 * c → offset_of c i < c
 place_below c i below = grind (arith, nat_tests)
 
-pub advanced_below : (c i n : ℕ) → i < 2 * c → offset_of c i + n ≤ c → 1 ≤ c → advanced c i n < 2 * c
-advanced_below c i n below fits some = grind (arith, nat_tests)
-
 -- two steps round the ring are one
 pub offset_of-twice : (c h m n : ℕ) → h < c → m + n < c → offset_of c (offset_of c (h + m) + n) ≡ offset_of c (h + (m + n))
 offset_of-twice c h m n start within = grind (arith, nat_tests)

@@ -2,21 +2,10 @@
 use Rattle.std.proofs.Common.{◌≡◌, ℕ, ◌-◌, ◌≤◌, List, [], ◌∷◌, ◌++◌, length, take, Bool, true, false, Option, None, Some, refl, ap, arith}
 use Rattle.std.specs.Prelude.{⊤}
 use Rattle.std.proofs.lemmas.List.{length-take, length-take-le}
-use Rattle.piper_protocol.specs.declared.table.Side.{Side}
-use Rattle.piper_protocol.specs.declared.table.Side.TheVariants.{Reader, Writer}
-use Rattle.piper_protocol.specs.declared.table.Query.{Query}
-use Rattle.piper_protocol.specs.declared.answer.Answer.{Answer}
+use Rattle.piper_machine.specs.Types.{Side, Query, Answer, Polled, Form, Event, Context, Action, Reader, Writer, Answered, Try, Polling}
 use Rattle.piper_protocol.specs.declared.answer.Answer.TheVariants.{Poll}
-use Rattle.piper_machine.specs.declared.events.Event.TheVariants.{Answered}
-use Rattle.piper_protocol.specs.declared.answer.Polled.{Polled}
-use Rattle.piper_protocol.specs.declared.table.Form.{Form}
-use Rattle.piper_protocol.specs.declared.table.Form.TheVariants.{Try, Polling}
 use Rattle.piper_protocol.specs.Table.{query_answer, copy_answer, count_answer, yield_answer, end_or_pending}
 use Rattle.piper_machine.specs.Ready.{IsReadyAnswer}
-use Rattle.piper_machine.specs.declared.events.Event.{Event}
-use Rattle.piper_machine.specs.declared.polling.Context.{Context}
-use Rattle.piper_protocol.specs.declared.table.Action.{Action}
-use Rattle.piper_protocol.specs.declared.table.Action.TheVariants as does
 use Rattle.piper_machine.specs.Log.{answer_event}
 use Rattle.piper_machine.specs.Pipe.{Pipe}
 use Rattle.piper_machine.specs.Action.{performed, logged_of, registration_of, registration, wake_of, yield_of, woken_if}
@@ -61,29 +50,29 @@ yield-shows c side k (Some cx) = woken-shows c side k cx.luck.yield_granted cx.w
 
 -- a query's load is not taken in, and a look's is
 abbrev pub Fits : Side → Action → Knowledge → Type 0
-Fits Reader does.LoadTail k = (k.is_query ≡ true)
-Fits Writer does.LoadHead k = (k.is_query ≡ true)
-Fits side does.LoadIndex k = (k.is_query ≡ false)
+Fits Reader Action.LoadTail k = (k.is_query ≡ true)
+Fits Writer Action.LoadHead k = (k.is_query ≡ true)
+Fits side Action.LoadIndex k = (k.is_query ≡ false)
 Fits side action k = ⊤
 
 abbrev pub learned : Side → Action → Pipe → Knowledge → Knowledge
-learned Reader does.LoadIndex p k = record k { known = length p.unread; found = length p.unread }
-learned Writer does.LoadIndex p k = record k { known = p.capacity - length p.unread; found = p.capacity - length p.unread }
-learned Reader (does.StoreHead n) p k = used_up (length (take n p.unread)) k
-learned Writer (does.StoreTail n) p k = used_up (length (take n p.lent)) k
+learned Reader Action.LoadIndex p k = record k { known = length p.unread; found = length p.unread }
+learned Writer Action.LoadIndex p k = record k { known = p.capacity - length p.unread; found = p.capacity - length p.unread }
+learned Reader (Action.StoreHead n) p k = used_up (length (take n p.unread)) k
+learned Writer (Action.StoreTail n) p k = used_up (length (take n p.lent)) k
 learned side action p k = k
 
 pub learns : (side : Side) (action : Action) (p : Pipe) (k : Knowledge) → Fits side action k → knowledge_from p.capacity side k (logged_of side action p) ≡ learned side action p k
-learns Reader does.LoadTail p k fits = ap (λ (b : Bool). taken_in b (length p.unread) k) fits
-learns Writer does.LoadHead p k fits = ap (λ (b : Bool). taken_in b (p.capacity - length p.unread) k) fits
-learns Reader does.LoadIndex p k fits = ap (λ (b : Bool). taken_in b (length p.unread) k) fits
-learns Writer does.LoadIndex p k fits = ap (λ (b : Bool). taken_in b (p.capacity - length p.unread) k) fits
-learns Reader does.Register p k fits = context-shows p.capacity Reader Reader k p.reader_call.context
-learns Writer does.Register p k fits = context-shows p.capacity Writer Writer k p.writer_call.context
-learns Reader does.Wake p k fits = wake-shows p.capacity Reader k p.reader_call.taken
-learns Writer does.Wake p k fits = wake-shows p.capacity Writer k p.writer_call.taken
-learns Reader does.Yield p k fits = yield-shows p.capacity Reader k p.reader_call.context
-learns Writer does.Yield p k fits = yield-shows p.capacity Writer k p.writer_call.context
+learns Reader Action.LoadTail p k fits = ap (λ (b : Bool). taken_in b (length p.unread) k) fits
+learns Writer Action.LoadHead p k fits = ap (λ (b : Bool). taken_in b (p.capacity - length p.unread) k) fits
+learns Reader Action.LoadIndex p k fits = ap (λ (b : Bool). taken_in b (length p.unread) k) fits
+learns Writer Action.LoadIndex p k fits = ap (λ (b : Bool). taken_in b (p.capacity - length p.unread) k) fits
+learns Reader Action.Register p k fits = context-shows p.capacity Reader Reader k p.reader_call.context
+learns Writer Action.Register p k fits = context-shows p.capacity Writer Writer k p.writer_call.context
+learns Reader Action.Wake p k fits = wake-shows p.capacity Reader k p.reader_call.taken
+learns Writer Action.Wake p k fits = wake-shows p.capacity Writer k p.writer_call.taken
+learns Reader Action.Yield p k fits = yield-shows p.capacity Reader k p.reader_call.context
+learns Writer Action.Yield p k fits = yield-shows p.capacity Writer k p.writer_call.context
 learns Reader action p k fits = refl
 learns Writer action p k fits = refl
 
@@ -93,47 +82,47 @@ knows Writer p = p.room
 
 -- the log never reports less than the side knows
 pub learned-enough : (side : Side) (action : Action) (p : Pipe) (k : Knowledge) → knows side p ≤ k.known → knows side (performed side action p) ≤ (learned side action p k).known
-learned-enough Reader does.LoadIndex p k enough = omega arith
-learned-enough Writer does.LoadIndex p k enough = omega arith
-learned-enough Reader (does.StoreHead n) p k enough = let moved = length-take n p.unread in omega arith
-learned-enough Writer (does.StoreTail n) p k enough = let moved = length-take n p.lent in omega arith
-learned-enough side (does.StoreClosed true) p k enough = enough
-learned-enough side (does.StoreClosed false) p k enough = enough
-learned-enough side (does.Take Reader) p k enough = enough
-learned-enough side (does.Take Writer) p k enough = enough
+learned-enough Reader Action.LoadIndex p k enough = omega arith
+learned-enough Writer Action.LoadIndex p k enough = omega arith
+learned-enough Reader (Action.StoreHead n) p k enough = let moved = length-take n p.unread in omega arith
+learned-enough Writer (Action.StoreTail n) p k enough = let moved = length-take n p.lent in omega arith
+learned-enough side (Action.StoreClosed true) p k enough = enough
+learned-enough side (Action.StoreClosed false) p k enough = enough
+learned-enough side (Action.Take Reader) p k enough = enough
+learned-enough side (Action.Take Writer) p k enough = enough
 learned-enough side action p k enough = enough
 
 -- and exactly that, where a store stays within what there is
 abbrev pub Stores : Side → Action → Pipe → Type 0
-Stores Reader (does.StoreHead n) p = n ≤ length p.unread
-Stores Writer (does.StoreTail n) p = n ≤ length p.lent
+Stores Reader (Action.StoreHead n) p = n ≤ length p.unread
+Stores Writer (Action.StoreTail n) p = n ≤ length p.lent
 Stores side action p = ⊤
 
 pub learned-exactly : (side : Side) (action : Action) (p : Pipe) (k : Knowledge) → Stores side action p → k.known ≡ knows side p → (learned side action p k).known ≡ knows side (performed side action p)
-learned-exactly Reader does.LoadIndex p k stores same = refl
-learned-exactly Writer does.LoadIndex p k stores same = refl
-learned-exactly Reader (does.StoreHead n) p k stores same = let all = length-take-le n p.unread stores in omega arith
-learned-exactly Writer (does.StoreTail n) p k stores same = let all = length-take-le n p.lent stores in omega arith
-learned-exactly side (does.StoreClosed true) p k stores same = same
-learned-exactly side (does.StoreClosed false) p k stores same = same
-learned-exactly side (does.Take Reader) p k stores same = same
-learned-exactly side (does.Take Writer) p k stores same = same
+learned-exactly Reader Action.LoadIndex p k stores same = refl
+learned-exactly Writer Action.LoadIndex p k stores same = refl
+learned-exactly Reader (Action.StoreHead n) p k stores same = let all = length-take-le n p.unread stores in omega arith
+learned-exactly Writer (Action.StoreTail n) p k stores same = let all = length-take-le n p.lent stores in omega arith
+learned-exactly side (Action.StoreClosed true) p k stores same = same
+learned-exactly side (Action.StoreClosed false) p k stores same = same
+learned-exactly side (Action.Take Reader) p k stores same = same
+learned-exactly side (Action.Take Writer) p k stores same = same
 learned-exactly side action p k stores same = same
 
 -- the other side's step
 
-pub writer-shows : (c : ℕ) (action : Action) (p : Pipe) (k : Knowledge) → ((n : ℕ) → action ≡ does.StoreHead n → ⊥) → knowledge_from c Reader k (logged_of Writer action p) ≡ k
-writer-shows c (does.StoreHead n) p k never = absurd (never n refl)
-writer-shows c does.Register p k never = context-shows c Reader Writer k p.writer_call.context
-writer-shows c does.Wake p k never = wake-shows c Reader k p.writer_call.taken
-writer-shows c does.Yield p k never = yield-shows c Reader k p.writer_call.context
+pub writer-shows : (c : ℕ) (action : Action) (p : Pipe) (k : Knowledge) → ((n : ℕ) → action ≡ Action.StoreHead n → ⊥) → knowledge_from c Reader k (logged_of Writer action p) ≡ k
+writer-shows c (Action.StoreHead n) p k never = absurd (never n refl)
+writer-shows c Action.Register p k never = context-shows c Reader Writer k p.writer_call.context
+writer-shows c Action.Wake p k never = wake-shows c Reader k p.writer_call.taken
+writer-shows c Action.Yield p k never = yield-shows c Reader k p.writer_call.context
 writer-shows c action p k never = refl
 
-pub reader-shows : (c : ℕ) (action : Action) (p : Pipe) (k : Knowledge) → ((n : ℕ) → action ≡ does.StoreTail n → ⊥) → knowledge_from c Writer k (logged_of Reader action p) ≡ k
-reader-shows c (does.StoreTail n) p k never = absurd (never n refl)
-reader-shows c does.Register p k never = context-shows c Writer Reader k p.reader_call.context
-reader-shows c does.Wake p k never = wake-shows c Writer k p.reader_call.taken
-reader-shows c does.Yield p k never = yield-shows c Writer k p.reader_call.context
+pub reader-shows : (c : ℕ) (action : Action) (p : Pipe) (k : Knowledge) → ((n : ℕ) → action ≡ Action.StoreTail n → ⊥) → knowledge_from c Writer k (logged_of Reader action p) ≡ k
+reader-shows c (Action.StoreTail n) p k never = absurd (never n refl)
+reader-shows c Action.Register p k never = context-shows c Writer Reader k p.reader_call.context
+reader-shows c Action.Wake p k never = wake-shows c Writer k p.reader_call.taken
+reader-shows c Action.Yield p k never = yield-shows c Writer k p.reader_call.context
 reader-shows c action p k never = refl
 
 -- what a step returns, if it does

@@ -1,23 +1,6 @@
 -- What the laws say of what the sides know, over a run from a fresh pipe.
 use Rattle.std.proofs.Common.{◌≡◌, ℕ, ◌≤◌, List, [], ◌∷◌, ◌++◌, length, Bool, true, false, Option, None, Some, refl, sym, subst, ◌∙◌, arith}
-use Rattle.piper_protocol.specs.declared.table.Side.{Side}
-use Rattle.piper_protocol.specs.declared.table.Side.TheVariants.{Reader, Writer}
-use Rattle.piper_machine.specs.declared.calls.Call.{Call}
-use Rattle.piper_machine.specs.declared.calls.Call.TheVariants as call
-use Rattle.piper_machine.specs.declared.calls.Kind.{Kind}
-use Rattle.piper_machine.specs.declared.calls.Step.{Step}
-use Rattle.piper_machine.specs.declared.calls.Step.TheVariants.{Begin, Go, Put}
-use Rattle.piper_protocol.specs.declared.answer.Answer.{Answer}
-use Rattle.piper_machine.specs.declared.events.Event.{Event}
-use Rattle.piper_machine.specs.declared.events.Event.TheVariants.{Began}
-use Rattle.piper_machine.specs.declared.polling.Context.{Context}
-use Rattle.piper_protocol.specs.declared.table.AfterWrite.TheVariants as after_write
-use Rattle.piper_protocol.specs.declared.table.ReadPoint.{ReadPoint}
-use Rattle.piper_protocol.specs.declared.table.ReadPoint.TheVariants as at
-use Rattle.piper_protocol.specs.declared.table.WritePoint.{WritePoint}
-use Rattle.piper_protocol.specs.declared.table.WritePoint.TheVariants as on
-use Rattle.piper_protocol.specs.declared.table.Action.{Action}
-use Rattle.piper_protocol.specs.declared.table.Action.TheVariants as does
+use Rattle.piper_machine.specs.Types.{AfterWrite, Side, Call, Kind, Step, Answer, Event, Context, ReadPoint, WritePoint, Action, Reader, Writer, Begin, Go, Put, Began}
 use Rattle.piper_machine.specs.Call.{side_of, kind_of, waker_of}
 use Rattle.piper_machine.specs.Log.{answer_event}
 use Rattle.piper_protocol.specs.Table.{head_store, read_action, tail_store, write_action}
@@ -69,20 +52,20 @@ yield-ready c side k (Some cx) = woken-ready c side k cx.luck.yield_granted cx.w
 
 -- a step returns only after what it does
 logged-ready : (c : ℕ) (side actor : Side) (k : Knowledge) (action : Action) (p : Pipe) → IsReadyFrom c side k (logged_of actor action p)
-logged-ready c side Reader k does.Register p = context-ready c side Reader k p.reader_call.context
-logged-ready c side Writer k does.Register p = context-ready c side Writer k p.writer_call.context
-logged-ready c side Reader k does.Wake p = wake-ready c side k p.reader_call.taken
-logged-ready c side Writer k does.Wake p = wake-ready c side k p.writer_call.taken
-logged-ready c side Reader k does.Yield p = yield-ready c side k p.reader_call.context
-logged-ready c side Writer k does.Yield p = yield-ready c side k p.writer_call.context
-logged-ready c side actor k does.Rest p = tt
-logged-ready c side actor k (does.Take slot) p = tt
-logged-ready c side actor k does.CallDestination p = tt
-logged-ready c side actor k does.CallSource p = tt
-logged-ready c Reader Reader k does.LoadIndex p = (tt, tt)
-logged-ready c Reader Writer k does.LoadIndex p = (tt, tt)
-logged-ready c Writer Reader k does.LoadIndex p = (tt, tt)
-logged-ready c Writer Writer k does.LoadIndex p = (tt, tt)
+logged-ready c side Reader k Action.Register p = context-ready c side Reader k p.reader_call.context
+logged-ready c side Writer k Action.Register p = context-ready c side Writer k p.writer_call.context
+logged-ready c side Reader k Action.Wake p = wake-ready c side k p.reader_call.taken
+logged-ready c side Writer k Action.Wake p = wake-ready c side k p.writer_call.taken
+logged-ready c side Reader k Action.Yield p = yield-ready c side k p.reader_call.context
+logged-ready c side Writer k Action.Yield p = yield-ready c side k p.writer_call.context
+logged-ready c side actor k Action.Rest p = tt
+logged-ready c side actor k (Action.Take slot) p = tt
+logged-ready c side actor k Action.CallDestination p = tt
+logged-ready c side actor k Action.CallSource p = tt
+logged-ready c Reader Reader k Action.LoadIndex p = (tt, tt)
+logged-ready c Reader Writer k Action.LoadIndex p = (tt, tt)
+logged-ready c Writer Reader k Action.LoadIndex p = (tt, tt)
+logged-ready c Writer Writer k Action.LoadIndex p = (tt, tt)
 logged-ready c Reader actor k action p = (tt, tt)
 logged-ready c Writer actor k action p = (tt, tt)
 
@@ -96,8 +79,8 @@ reader-answers c k (Some answer) = (tt, tt)
 
 -- a call that returns as it is opened lends
 begin-answers : (cap : ℕ) (side : Side) (k : Knowledge) (lent : List ℕ) (c : Call) → IsReadyFrom cap side k (answer_event (side_of c) (answer_at_once lent c))
-begin-answers cap Reader k lent (call.WriteBuf most) = (tt, tt)
-begin-answers cap Writer k lent (call.WriteBuf most) = (tt, tt)
+begin-answers cap Reader k lent (Call.WriteBuf most) = (tt, tt)
+begin-answers cap Writer k lent (Call.WriteBuf most) = (tt, tt)
 begin-answers cap side k lent c = tt
 
 own-ready : (c : ℕ) (side : Side) (k : Knowledge) (answer : Option Answer) → IsReadyNext side k answer → IsReadyFrom c side k (answer_event side answer)
@@ -198,15 +181,15 @@ ready-run c ss p events run side = (along c side ss p events run).ready
 -- what the log reports is what is known: a store stays within what there is
 
 reader-stores : (point : ReadPoint) (p : Pipe) → head_store point ≤ peeked_count p → p.known ≤ length p.unread → Stores Reader (read_action point) p
-reader-stores (at.StoreHead n next) p store known = omega arith
+reader-stores (ReadPoint.StoreHead n next) p store known = omega arith
 reader-stores point p store known = tt
 
 writer-stores : (point : WritePoint) (lent : List ℕ) (p : Pipe) → tail_store point ≤ length p.lent → Stores Writer (write_action point) (offering lent (record p { writer = point }))
-writer-stores (on.StoreTail n next) lent p store = store
-writer-stores (on.StoreClosed after_write.Answer) lent p store = tt
-writer-stores (on.StoreClosed after_write.Drop) lent p store = tt
-writer-stores (on.StoreClosed after_write.WakeWriter) lent p store = tt
-writer-stores (on.StoreClosed (after_write.Round form sum)) lent p store = tt
+writer-stores (WritePoint.StoreTail n next) lent p store = store
+writer-stores (WritePoint.StoreClosed AfterWrite.Answer) lent p store = tt
+writer-stores (WritePoint.StoreClosed AfterWrite.Drop) lent p store = tt
+writer-stores (WritePoint.StoreClosed AfterWrite.WakeWriter) lent p store = tt
+writer-stores (WritePoint.StoreClosed (AfterWrite.Round form sum)) lent p store = tt
 writer-stores point lent p store = tt
 
 -- what the log reports of a side is what the pipe has, and what a look found is no more than the
@@ -236,8 +219,8 @@ began-known side true kind p k sound held = record { known = held.known; found =
 began-known side false kind p k sound held = held
 
 learned-within : (side : Side) (action : Action) (p : Pipe) (k : Knowledge) → length p.unread ≤ p.capacity → k.found ≤ p.capacity → (learned side action p k).found ≤ p.capacity
-learned-within Reader does.LoadIndex p k fits held = fits
-learned-within Writer does.LoadIndex p k fits held = omega arith
+learned-within Reader Action.LoadIndex p k fits held = fits
+learned-within Writer Action.LoadIndex p k fits held = omega arith
 learned-within Reader action p k fits held = held
 learned-within Writer action p k fits held = held
 

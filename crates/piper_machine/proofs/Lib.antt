@@ -29,6 +29,7 @@ pub mod Going
 pub mod Whole
 pub mod Resting
 pub mod WholeBySteps
+pub mod logs
 mod worked
 pub mod Honesty
 pub mod Watching

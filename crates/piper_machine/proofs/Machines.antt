@@ -1,21 +1,11 @@
 -- A machine after a step of one of its sides: it is a machine again, and which pipe it represents.
 use Rattle.std.proofs.Common.{◌≡◌, ◌+◌, ◌-◌, ◌≤◌, ℕ, Bool, true, false, List, [], take, Option, None, Some, IsSome, refl, ap, ◌∙◌, arith}
-use Rattle.piper_machine.specs.declared.calls.OpenCall.{OpenCall}
-use Rattle.piper_protocol.specs.declared.answer.Answer.{Answer}
-use Rattle.piper_machine.specs.declared.scripted.SourceAct.{SourceAct}
-use Rattle.piper_machine.specs.declared.destination.Destination.{Destination}
-use Rattle.piper_machine.specs.declared.destination.Destination.TheVariants.{Slice}
-use Rattle.piper_protocol.specs.declared.table.Action.TheVariants as does
-use Rattle.piper_protocol.specs.declared.table.ReadPoint.{ReadPoint}
-use Rattle.piper_protocol.specs.declared.table.ReadPoint.TheVariants as at
-use Rattle.piper_protocol.specs.declared.table.WritePoint.{WritePoint}
-use Rattle.piper_protocol.specs.declared.table.WritePoint.TheVariants as on
+use Rattle.piper_machine.specs.Types.{Action, OpenCall, Answer, SourceAct, Destination, ReadPoint, WritePoint, Found, Slice}
 use Rattle.piper_machine.specs.Open.{no_call}
 use Rattle.piper_protocol.specs.Index.{distance, offset_of, advanced}
 use Rattle.piper_protocol.specs.Table.{Next, read_action, tail_store, write_action, write_after}
 use Rattle.piper_machine.specs.Side.{Reading, Writing, IsReading, IsWriting, known_of, peekable_of, room_of}
 use Rattle.piper_machine.specs.SideSteps.{writing_answer}
-use Rattle.piper_protocol.specs.declared.table.Found.{Found}
 use Rattle.piper_machine.specs.Pipe.{Pipe}
 use Rattle.piper_machine.specs.Step.{filled_out, lent_count_after, round_answer}
 use Rattle.piper_machine.specs.Machine.{pipe_of, IsMachine}
@@ -25,19 +15,19 @@ use Rattle.piper_machine.proofs.Soundness.{tail_below}
 use Rattle.piper_machine.proofs.Conserving.{read_store, write_store}
 
 -- a store that is next stays within what its side holds
-pub head-within : (m : Inside) (i : IsMachine m) (p : Pipe) (n : ℕ) → pipe_of m ≡ p → read_action p.reader ≡ does.StoreHead n → n ≤ peekable_of m.read
+pub head-within : (m : Inside) (i : IsMachine m) (p : Pipe) (n : ℕ) → pipe_of m ≡ p → read_action p.reader ≡ Action.StoreHead n → n ≤ peekable_of m.read
 head-within m i p n is next =
     let stores = read_store m.read.point n (ap (λ (q : Pipe). read_action q.reader) is ∙ next) in
     omega (arith, stores, i.reading.store)
 
-pub tail-within : (m : Inside) (i : IsMachine m) (p : Pipe) (n : ℕ) → pipe_of m ≡ p → write_action p.writer ≡ does.StoreTail n → n ≤ m.write.lent
+pub tail-within : (m : Inside) (i : IsMachine m) (p : Pipe) (n : ℕ) → pipe_of m ≡ p → write_action p.writer ≡ Action.StoreTail n → n ≤ m.write.lent
 tail-within m i p n is next =
     let stores = write_store m.write.point n (ap (λ (q : Pipe). write_action q.writer) is ∙ next) in
     omega (arith, stores, i.writing.store)
 
 -- the reader has passed n bytes
 pub reader-passed : (m : Inside) (i : IsMachine m) (n : ℕ) (r : Reading) (point : ReadPoint) (call : OpenCall) (destination : Destination) → r ≡ record m.read { head = advanced m.read.capacity m.read.head n; point = point }
-    → IsReading r → n ≤ known_of m.read → offset_of m.read.capacity m.read.head + n ≤ m.read.capacity → (r.point ≡ at.Idle → call ≡ no_call) → (r.point ≡ at.Idle → destination ≡ Slice 0)
+    → IsReading r → n ≤ known_of m.read → offset_of m.read.capacity m.read.head + n ≤ m.read.capacity → (r.point ≡ ReadPoint.Idle → call ≡ no_call) → (r.point ≡ ReadPoint.Idle → destination ≡ Slice 0)
     → IsMachine (record m { read = r; reader_call = call; destination = destination })
 reader-passed m i n r point call destination is reading within flat holds fills =
     let known = distance-advanced_from m.read.capacity m.read.head m.read.tail n i.reading.head i.reading.tail within i.reading.known flat i.reading.capacity.0 in
@@ -59,7 +49,7 @@ reader-passed m i n r point call destination is reading within flat holds fills 
 
 -- the writer has passed n lent places
 pub writer-passed : (m : Inside) (i : IsMachine m) (n : ℕ) (w : Writing) (point : WritePoint) (call : OpenCall) (acts : List SourceAct) → w ≡ record m.write { tail = advanced m.write.capacity m.write.tail n; lent = m.write.lent - n; point = point }
-    → IsWriting w → n ≤ m.write.lent → (w.point ≡ on.Idle → call ≡ no_call) → (w.point ≡ on.Idle → acts ≡ []) → IsMachine (record m { write = w; writer_call = call; source = acts })
+    → IsWriting w → n ≤ m.write.lent → (w.point ≡ WritePoint.Idle → call ≡ no_call) → (w.point ≡ WritePoint.Idle → acts ≡ []) → IsMachine (record m { write = w; writer_call = call; source = acts })
 writer-passed m i n w point call acts is writing within holds gives =
     let below = place_below m.write.capacity m.write.tail i.writing.tail in
     let flat : offset_of m.write.capacity m.write.tail + n ≤ m.write.capacity = omega (arith, i.writing.lent_place) in
@@ -83,7 +73,7 @@ writer-passed m i n w point call acts is writing within holds gives =
 
 -- the writer has gone on, and its indices are what they were
 pub writer-kept : (m : Inside) (i : IsMachine m) (w : Writing) (lent : ℕ) (point : WritePoint) (call : OpenCall) (acts : List SourceAct) → w ≡ record m.write { lent = lent; point = point }
-    → IsWriting w → (w.point ≡ on.Idle → call ≡ no_call) → (w.point ≡ on.Idle → acts ≡ []) → IsMachine (record m { write = w; writer_call = call; source = acts })
+    → IsWriting w → (w.point ≡ WritePoint.Idle → call ≡ no_call) → (w.point ≡ WritePoint.Idle → acts ≡ []) → IsMachine (record m { write = w; writer_call = call; source = acts })
 writer-kept m i w lent point call acts is writing holds gives = record {
   reading = i.reading;
   writing = writing;

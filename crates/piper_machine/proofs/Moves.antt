@@ -5,16 +5,11 @@ use Rattle.std.proofs.lemmas.List.{drop-take, drop-drop, take-take, drop_at}
 use Rattle.std.proofs.lemmas.Bool.{cases_lt}
 use Rattle.std.proofs.Math.Seq.{take-append-add}
 use Rattle.std.proofs.lemmas.Bool.Decides.{nat_tests}
-use Rattle.piper_machine.specs.declared.calls.OpenCall.{OpenCall}
-use Rattle.piper_machine.specs.declared.scripted.SourceAct.{SourceAct}
-use Rattle.piper_machine.specs.declared.destination.Destination.{Destination}
-use Rattle.piper_protocol.specs.declared.table.ReadPoint.{ReadPoint}
-use Rattle.piper_protocol.specs.declared.table.WritePoint.{WritePoint}
+use Rattle.piper_machine.specs.Types.{OpenCall, SourceAct, Destination, ReadPoint, WritePoint, IndexLoaded as index_loaded}
 use Rattle.piper_protocol.specs.Index.{distance, offset_of, advanced}
 use Rattle.piper_machine.specs.Places.{places_left}
 use Rattle.piper_machine.specs.Lend.{Lendable, lend_limit}
 use Rattle.piper_machine.specs.Move.{published, consumed}
-use Rattle.piper_protocol.specs.declared.table.Found.TheVariants.{IndexLoaded as index_loaded}
 use Rattle.piper_protocol.specs.Table.{write_after}
 use Rattle.piper_machine.specs.Side.{Reading, Writing, known_of, room_of, left_of, lend_length}
 use Rattle.piper_machine.specs.Buffer.{between, written}
@@ -22,7 +17,7 @@ use Rattle.piper_machine.specs.Machine.{pipe_of, IsMachine}
 use Rattle.piper_machine.specs.declared.machine.Machine.TheInside.{Inside}
 use Rattle.piper_machine.proofs.Indices.{distance-advanced_to, distance-advanced_from, offset_of-advanced, place_below, offset_of_low}
 use Rattle.piper_machine.proofs.Between.{between-advanced_tail, between-advanced_head, between-written, between-set}
-use Rattle.piper_machine.proofs.Ring.{slice-set, slice-written}
+use Rattle.piper_machine.proofs.Ring.{slice-set}
 use Rattle.std.proofs.Math.ListN.{set}
 use Rattle.piper_machine.proofs.Soundness.{sound, some_lent, tail_below, length-unread, end_place-of, place-same}
 
@@ -143,15 +138,3 @@ module _ (m : Inside) (i : IsMachine m) (o b : ℕ) (within : o < m.write.lent) 
 
   pub lent-set : take m.write.lent (drop (offset_of m.write.capacity m.write.tail) (set m.bytes.items (offset_of m.write.capacity m.write.tail + o) b)) ≡ set (take m.write.lent (drop (offset_of m.write.capacity m.write.tail) m.bytes.items)) o b
   lent-set = slice-set (offset_of m.write.capacity m.write.tail) m.write.lent o m.bytes.items b (omega (arith, i.bytes, i.capacity, i.writing.lent_place, place_below m.write.capacity m.write.tail i.writing.tail)) within
-
--- bytes were written into what is lent, from the place number o of it on
-module _ (m : Inside) (i : IsMachine m) (o : ℕ) (ys : List ℕ) (within : o + length ys ≤ m.write.lent) where
-  pub unread-written_at : between m.read.capacity m.read.head m.write.tail (written m.bytes.items (offset_of m.write.capacity m.write.tail + o) ys) ≡ between m.read.capacity m.read.head m.write.tail m.bytes.items
-  unread-written_at =
-      let fits = place_below m.write.capacity m.write.tail i.writing.tail in
-      let same = place-same m i in
-      ap (λ k. between m.read.capacity m.read.head m.write.tail (written m.bytes.items (k + o) ys)) same
-      ∙ between-written m.read.capacity m.read.head m.write.tail m.bytes.items i.bytes i.reading.head (tail_below m i) i.unread o ys (omega (arith, i.room, i.writing.lent_room, i.capacity, i.writing.within)) (omega (arith, i.writing.lent_place, i.capacity))
-
-  pub lent-written_at : take m.write.lent (drop (offset_of m.write.capacity m.write.tail) (written m.bytes.items (offset_of m.write.capacity m.write.tail + o) ys)) ≡ written (take m.write.lent (drop (offset_of m.write.capacity m.write.tail) m.bytes.items)) o ys
-  lent-written_at = slice-written (offset_of m.write.capacity m.write.tail) m.write.lent o m.bytes.items ys (omega (arith, i.bytes, i.capacity, i.writing.lent_place, place_below m.write.capacity m.write.tail i.writing.tail)) within

@@ -1,8 +1,6 @@
 -- The opening of a call leaves the bytes, the counts and the closed flag as they are.
 use Rattle.std.proofs.Common.{◌≡◌, ℕ, List, refl}
-use Rattle.piper_protocol.specs.declared.table.Side.TheVariants.{Reader}
-use Rattle.piper_machine.specs.declared.calls.Call.{Call}
-use Rattle.piper_machine.specs.declared.calls.Call.TheVariants as call
+use Rattle.piper_machine.specs.Types.{Call, Reader}
 use Rattle.piper_machine.specs.Pipe.{Pipe}
 use Rattle.piper_machine.specs.Step.{opened}
 
@@ -16,8 +14,8 @@ pub record LeavesRest (p q : Pipe) : Type 0 where
   pub is_closed : q.is_closed ≡ p.is_closed
 
 pub opened-leaves : (lent : List ℕ) (c : Call) (p : Pipe) → LeavesRest p (opened lent c p)
-opened-leaves lent (call.Query Reader query) p = record { capacity = refl; unread = refl; start = refl; known = refl; room = refl; is_closed = refl }
-opened-leaves lent (call.IsClosed Reader) p = record { capacity = refl; unread = refl; start = refl; known = refl; room = refl; is_closed = refl }
-opened-leaves lent (call.Poll Reader waker luck) p = record { capacity = refl; unread = refl; start = refl; known = refl; room = refl; is_closed = refl }
-opened-leaves lent (call.Drop Reader) p = record { capacity = refl; unread = refl; start = refl; known = refl; room = refl; is_closed = refl }
+opened-leaves lent (Call.Query Reader query) p = record { capacity = refl; unread = refl; start = refl; known = refl; room = refl; is_closed = refl }
+opened-leaves lent (Call.IsClosed Reader) p = record { capacity = refl; unread = refl; start = refl; known = refl; room = refl; is_closed = refl }
+opened-leaves lent (Call.Poll Reader waker luck) p = record { capacity = refl; unread = refl; start = refl; known = refl; room = refl; is_closed = refl }
+opened-leaves lent (Call.Drop Reader) p = record { capacity = refl; unread = refl; start = refl; known = refl; room = refl; is_closed = refl }
 opened-leaves lent c p = record { capacity = refl; unread = refl; start = refl; known = refl; room = refl; is_closed = refl }

@@ -1,9 +1,7 @@
 -- What the last load of a query returns, of all queries at once.
 use Rattle.std.proofs.Common.{ℕ, Bool, ◌==◌}
-use Rattle.piper_protocol.specs.declared.table.Query.{Query}
-use Rattle.piper_protocol.specs.declared.table.Query.TheVariants.{Len, IsEmpty, IsFull}
-use Rattle.piper_protocol.specs.declared.answer.Answer.{Answer}
-use Rattle.piper_protocol.specs.declared.answer.Answer.TheVariants.{Count, Flag}
+use Rattle.piper_machine.specs.Types.{Query, Answer, Len, IsEmpty, IsFull, Count}
+use Rattle.piper_protocol.specs.declared.answer.Answer.TheVariants.{Flag}
 use Rattle.piper_protocol.specs.Table.{query_answer}
 
 -- what holds of the count that was found, and of either flag, holds of the answer of each query

@@ -1,32 +1,10 @@
 -- What the log says of the reader's open call at each point, and that its steps keep this and give
 -- right answers.
-use Rattle.std.specs.Prelude.{IsSomeAnd}
-use Rattle.std.proofs.Common.{◌≡◌, ℕ, ◌+◌, ◌≤◌, List, [], ◌∷◌, ◌++◌, take, length, Bool, true, false, Some, ◌==◌, is_some, Result, Ok, Err, refl, sym, ap, subst, ◌∙◌, arith, length-append, length-take-le}
-use Rattle.piper_protocol.specs.declared.table.Side.TheVariants.{Reader}
-use Rattle.piper_machine.specs.declared.calls.Call.{Call}
-use Rattle.piper_machine.specs.declared.calls.Call.TheVariants as call
-use Rattle.piper_machine.specs.declared.events.Event.{Event}
-use Rattle.piper_machine.specs.declared.events.Event.TheVariants.{Looked}
-use Rattle.piper_machine.specs.declared.events.Seen.{Seen}
-use Rattle.piper_machine.specs.declared.events.Seen.TheVariants as seen
-use Rattle.piper_protocol.specs.declared.answer.Polled.{Polled}
-use Rattle.piper_protocol.specs.declared.answer.Polled.TheVariants.{Ready, Pending, Memory}
-use Rattle.piper_machine.specs.declared.scripted.DestAct.TheVariants as dest
-use Rattle.piper_protocol.specs.declared.answer.Failed.{Failed}
-use Rattle.piper_protocol.specs.declared.table.Form.{Form}
-use Rattle.piper_protocol.specs.declared.table.Form.TheVariants.{Try, Polling}
-use Rattle.piper_protocol.specs.declared.table.Purpose.{Purpose}
-use Rattle.piper_protocol.specs.declared.table.Purpose.TheVariants as purpose
-use Rattle.piper_protocol.specs.declared.table.AfterRead.{AfterRead}
-use Rattle.piper_protocol.specs.declared.table.AfterRead.TheVariants as after_read
-use Rattle.piper_protocol.specs.declared.table.ReadPoint.{ReadPoint}
-use Rattle.piper_protocol.specs.declared.table.ReadPoint.TheVariants as at
+use Rattle.std.proofs.Common.{◌≡◌, ℕ, ◌+◌, ◌≤◌, List, [], ◌∷◌, ◌++◌, take, length, Bool, true, false, Some, ◌==◌, is_some, Result, Ok, Err, refl, sym, ap, subst, ◌∙◌, arith, length-append, length-take-le, IsSomeAnd}
+use Rattle.piper_machine.specs.Types.{DestAct, Call, Event, Seen, Polled, Failed, Form, Purpose, AfterRead, ReadPoint, Destination, Reader, Looked, Ready, Pending, Memory, Try, Polling, Granted as granted, Slice, Acts}
 use Rattle.piper_machine.specs.Open.{is_granted, is_yield_granted}
 use Rattle.piper_protocol.specs.Table.{Next, copy_answer, count_answer, end_or_pending, failed_answer, head_store, query_answer, read_after, read_done, reader_found, reader_is_true, reader_looked, reader_looked_again, reader_looks_for, reader_moved, reader_registered, writer_taken, yield_answer}
-use Rattle.piper_protocol.specs.declared.table.Found.TheVariants.{Granted as granted}
 use Rattle.piper_machine.specs.Log.{answer_event}
-use Rattle.piper_machine.specs.declared.destination.Destination.{Destination}
-use Rattle.piper_machine.specs.declared.destination.Destination.TheVariants.{Slice, Acts}
 use Rattle.piper_machine.specs.Pipe.{Pipe}
 use Rattle.piper_machine.specs.Round.{taken, found_of, left_of_destination}
 use Rattle.piper_machine.specs.Action.{round_count, registration_of, wake_of, yield_of}
@@ -38,9 +16,9 @@ use Rattle.piper_machine.proofs.Showing.{noted-append, right-append, registers-l
 
 -- a drain of this form, whose destination has so much left where so many bytes were taken
 abbrev pub IsDrain : Form → Call → Destination → ℕ → Type 0
-IsDrain Try (call.TryDrain size) (Slice left) sum = left + sum ≡ size
-IsDrain (Polling is_drawn) (call.PollDrainBytes waker luck size) (Slice left) sum = left + sum ≡ size
-IsDrain (Polling is_drawn) (call.PollDrain waker luck acts) (Acts left) sum = (places_of left + sum ≤ places_of acts) × (may_fail left ≡ may_fail acts)
+IsDrain Try (Call.TryDrain size) (Slice left) sum = left + sum ≡ size
+IsDrain (Polling is_drawn) (Call.PollDrainBytes waker luck size) (Slice left) sum = left + sum ≡ size
+IsDrain (Polling is_drawn) (Call.PollDrain waker luck acts) (Acts left) sum = (places_of left + sum ≤ places_of acts) × (may_fail left ≡ may_fail acts)
 IsDrain form c destination sum = ⊥
 
 -- the drain has taken so many bytes, of which the last n are not consumed yet
@@ -51,36 +29,36 @@ pub record Drains (form : Form) (destination : Destination) (n sum : ℕ) (t : N
   pub count : length t.moved + n ≡ sum
 
 abbrev pub ReaderLooks : Purpose → Destination → Noted → Type 0
-ReaderLooks purpose.Poll destination t = Polls t
-ReaderLooks (purpose.Copy form) destination t = Drains form destination 0 0 t
+ReaderLooks Purpose.Poll destination t = Polls t
+ReaderLooks (Purpose.Copy form) destination t = Drains form destination 0 0 t
 
 abbrev pub ReaderAfter : AfterRead → Destination → Noted → Type 0
-ReaderAfter after_read.Answer destination t = t.call ≡ Some (call.Consume (length t.moved))
-ReaderAfter after_read.Drop destination t = t.call ≡ Some (call.Drop Reader)
-ReaderAfter (after_read.Round form sum) destination t = Drains form destination 0 sum t
+ReaderAfter AfterRead.Answer destination t = t.call ≡ Some (Call.Consume (length t.moved))
+ReaderAfter AfterRead.Drop destination t = t.call ≡ Some (Call.Drop Reader)
+ReaderAfter (AfterRead.Round form sum) destination t = Drains form destination 0 sum t
 
 abbrev pub ReaderStores : ℕ → AfterRead → Destination → Noted → Type 0
-ReaderStores n after_read.Answer destination t = (t.call ≡ Some (call.Consume n)) × (t.moved ≡ [])
-ReaderStores n after_read.Drop destination t = ⊥
-ReaderStores n (after_read.Round form sum) destination t = Drains form destination n sum t
+ReaderStores n AfterRead.Answer destination t = (t.call ≡ Some (Call.Consume n)) × (t.moved ≡ [])
+ReaderStores n AfterRead.Drop destination t = ⊥
+ReaderStores n (AfterRead.Round form sum) destination t = Drains form destination n sum t
 
 abbrev pub ReaderAt : ReadPoint → Destination → Noted → Type 0
-ReaderAt at.Idle destination t = Unit {0}
-ReaderAt at.Dropped destination t = Unit {0}
-ReaderAt (at.QueryHead query) destination t = (t.call ≡ Some (call.Query Reader query)) × (t.looks ≡ [])
-ReaderAt (at.QueryTail query) destination t = (before : ℕ) × (t.call ≡ Some (call.Query Reader query)) × (t.looks ≡ seen.Head before ∷ [])
-ReaderAt at.QueryClosed destination t = (t.call ≡ Some (call.IsClosed Reader)) × (t.looks ≡ [])
-ReaderAt (at.LookTail l) destination t = ReaderLooks l destination t
-ReaderAt (at.LookRegister l) destination t = ReaderLooks l destination t
-ReaderAt (at.LookClosed l) destination t = ReaderLooks l destination t
-ReaderAt (at.LookTailAgain l was_closed) destination t = ReaderLooks l destination t
-ReaderAt (at.LookTake l) destination t = ReaderLooks l destination t
-ReaderAt at.Yield destination t = Drains (Polling true) destination 0 0 t
-ReaderAt (at.CallDestination form sum) destination t = Drains form destination 0 sum t
-ReaderAt (at.StoreHead n next) destination t = ReaderStores n next destination t
-ReaderAt (at.TakeWriter next) destination t = ReaderAfter next destination t
-ReaderAt (at.WakeWriter next) destination t = ReaderAfter next destination t
-ReaderAt at.StoreClosed destination t = t.call ≡ Some (call.Drop Reader)
+ReaderAt ReadPoint.Idle destination t = Unit {0}
+ReaderAt ReadPoint.Dropped destination t = Unit {0}
+ReaderAt (ReadPoint.QueryHead query) destination t = (t.call ≡ Some (Call.Query Reader query)) × (t.looks ≡ [])
+ReaderAt (ReadPoint.QueryTail query) destination t = (before : ℕ) × (t.call ≡ Some (Call.Query Reader query)) × (t.looks ≡ Seen.Head before ∷ [])
+ReaderAt ReadPoint.QueryClosed destination t = (t.call ≡ Some (Call.IsClosed Reader)) × (t.looks ≡ [])
+ReaderAt (ReadPoint.LookTail l) destination t = ReaderLooks l destination t
+ReaderAt (ReadPoint.LookRegister l) destination t = ReaderLooks l destination t
+ReaderAt (ReadPoint.LookClosed l) destination t = ReaderLooks l destination t
+ReaderAt (ReadPoint.LookTailAgain l was_closed) destination t = ReaderLooks l destination t
+ReaderAt (ReadPoint.LookTake l) destination t = ReaderLooks l destination t
+ReaderAt ReadPoint.Yield destination t = Drains (Polling true) destination 0 0 t
+ReaderAt (ReadPoint.CallDestination form sum) destination t = Drains form destination 0 sum t
+ReaderAt (ReadPoint.StoreHead n next) destination t = ReaderStores n next destination t
+ReaderAt (ReadPoint.TakeWriter next) destination t = ReaderAfter next destination t
+ReaderAt (ReadPoint.WakeWriter next) destination t = ReaderAfter next destination t
+ReaderAt ReadPoint.StoreClosed destination t = t.call ≡ Some (Call.Drop Reader)
 
 -- a step that leads there gives a right answer, or goes on where this holds
 abbrev Leads : ℕ → Destination → Next ReadPoint → Noted → Type 0
@@ -104,25 +82,25 @@ module _ (capacity : ℕ) where
   -- the answers of a drain
 
   drain-counts : (form : Form) (c : Call) (destination : Destination) (sum : ℕ) (looks : List Seen) (moved : List ℕ) → IsDrain form c destination sum → length moved + 0 ≡ sum → IsAnswer capacity c looks moved (count_answer form sum)
-  drain-counts Try (call.TryDrain size) (Slice left) sum looks moved drains count = record { consumed = omega arith; within = omega arith }
-  drain-counts (Polling is_drawn) (call.PollDrainBytes waker luck size) (Slice left) sum looks moved drains count = record { consumed = omega arith; within = omega arith }
-  drain-counts (Polling is_drawn) (call.PollDrain waker luck acts) (Acts left) sum looks moved drains count = let within = drains.0 in record { consumed = omega arith; within = omega arith }
+  drain-counts Try (Call.TryDrain size) (Slice left) sum looks moved drains count = record { consumed = omega arith; within = omega arith }
+  drain-counts (Polling is_drawn) (Call.PollDrainBytes waker luck size) (Slice left) sum looks moved drains count = record { consumed = omega arith; within = omega arith }
+  drain-counts (Polling is_drawn) (Call.PollDrain waker luck acts) (Acts left) sum looks moved drains count = let within = drains.0 in record { consumed = omega arith; within = omega arith }
   drain-counts form c destination sum looks moved drains count = absurd drains
 
   drain-waits : (form : Form) (c : Call) (destination : Destination) (answer : Polled Bool) (looks : List Seen) (moved : List ℕ) → IsDrain form c destination 0 → length moved + 0 ≡ 0 → IsAnswer capacity c looks moved (copy_answer form answer)
-  drain-waits Try (call.TryDrain size) (Slice left) answer looks moved drains count = record { consumed = omega arith; within = omega arith }
-  drain-waits (Polling is_drawn) (call.PollDrainBytes waker luck size) (Slice left) (Ready b) looks moved drains count = record { consumed = omega arith; within = omega arith }
-  drain-waits (Polling is_drawn) (call.PollDrainBytes waker luck size) (Slice left) Pending looks moved drains count = none_moved moved count
-  drain-waits (Polling is_drawn) (call.PollDrainBytes waker luck size) (Slice left) Memory looks moved drains count = none_moved moved count
-  drain-waits (Polling is_drawn) (call.PollDrain waker luck acts) (Acts left) (Ready b) looks moved drains count = record { consumed = omega arith; within = omega arith }
-  drain-waits (Polling is_drawn) (call.PollDrain waker luck acts) (Acts left) Pending looks moved drains count = none_moved moved count
-  drain-waits (Polling is_drawn) (call.PollDrain waker luck acts) (Acts left) Memory looks moved drains count = none_moved moved count
+  drain-waits Try (Call.TryDrain size) (Slice left) answer looks moved drains count = record { consumed = omega arith; within = omega arith }
+  drain-waits (Polling is_drawn) (Call.PollDrainBytes waker luck size) (Slice left) (Ready b) looks moved drains count = record { consumed = omega arith; within = omega arith }
+  drain-waits (Polling is_drawn) (Call.PollDrainBytes waker luck size) (Slice left) Pending looks moved drains count = none_moved moved count
+  drain-waits (Polling is_drawn) (Call.PollDrainBytes waker luck size) (Slice left) Memory looks moved drains count = none_moved moved count
+  drain-waits (Polling is_drawn) (Call.PollDrain waker luck acts) (Acts left) (Ready b) looks moved drains count = record { consumed = omega arith; within = omega arith }
+  drain-waits (Polling is_drawn) (Call.PollDrain waker luck acts) (Acts left) Pending looks moved drains count = none_moved moved count
+  drain-waits (Polling is_drawn) (Call.PollDrain waker luck acts) (Acts left) Memory looks moved drains count = none_moved moved count
   drain-waits form c destination answer looks moved drains count = absurd drains
 
   drain-moves : (form : Form) (c : Call) (destination : Destination) (sum : ℕ) (moved : List ℕ) → IsDrain form c destination sum → length moved ≡ sum → MayHaveMoved c moved
-  drain-moves Try (call.TryDrain size) (Slice left) sum moved drains count = omega arith
-  drain-moves (Polling is_drawn) (call.PollDrainBytes waker luck size) (Slice left) sum moved drains count = omega arith
-  drain-moves (Polling is_drawn) (call.PollDrain waker luck acts) (Acts left) sum moved drains count = let within = drains.0 in omega arith
+  drain-moves Try (Call.TryDrain size) (Slice left) sum moved drains count = omega arith
+  drain-moves (Polling is_drawn) (Call.PollDrainBytes waker luck size) (Slice left) sum moved drains count = omega arith
+  drain-moves (Polling is_drawn) (Call.PollDrain waker luck acts) (Acts left) sum moved drains count = let within = drains.0 in omega arith
   drain-moves form c destination sum moved drains count = absurd drains
 
   -- one call of the destination: it takes some bytes, or fails
@@ -131,25 +109,25 @@ module _ (capacity : ℕ) where
   Takes form c (Err fails) left sum looks moved = IsAnswer capacity c looks moved failed_answer
 
   takes : (form : Form) (c : Call) (most : ℕ) (destination : Destination) (sum : ℕ) (looks : List Seen) (moved : List ℕ) → IsDrain form c destination sum → Takes form c (taken most destination) (left_of_destination most destination) sum looks moved
-  takes Try (call.TryDrain size) most (Slice left) sum looks moved drains = omega arith
-  takes (Polling is_drawn) (call.PollDrainBytes waker luck size) most (Slice left) sum looks moved drains = omega arith
-  takes (Polling is_drawn) (call.PollDrain waker luck acts) most (Acts []) sum looks moved drains = let within = drains.0 in (omega arith, drains.1)
-  takes (Polling is_drawn) (call.PollDrain waker luck acts) most (Acts (dest.Fail ∷ left)) sum looks moved drains = sym drains.1
-  takes (Polling is_drawn) (call.PollDrain waker luck acts) most (Acts (dest.Take size ∷ left)) sum looks moved drains = let within = drains.0 in (omega arith, drains.1)
+  takes Try (Call.TryDrain size) most (Slice left) sum looks moved drains = omega arith
+  takes (Polling is_drawn) (Call.PollDrainBytes waker luck size) most (Slice left) sum looks moved drains = omega arith
+  takes (Polling is_drawn) (Call.PollDrain waker luck acts) most (Acts []) sum looks moved drains = let within = drains.0 in (omega arith, drains.1)
+  takes (Polling is_drawn) (Call.PollDrain waker luck acts) most (Acts (DestAct.Fail ∷ left)) sum looks moved drains = sym drains.1
+  takes (Polling is_drawn) (Call.PollDrain waker luck acts) most (Acts (DestAct.Take size ∷ left)) sum looks moved drains = let within = drains.0 in (omega arith, drains.1)
   takes form c most destination sum looks moved drains = absurd drains
 
   -- where each step leads
 
   module _ (t : Noted) (destination : Destination) where
     found-leads : (l : Purpose) → ReaderLooks l destination t → ReaderAt (reader_found l) destination t
-    found-leads purpose.Poll looks = looks
-    found-leads (purpose.Copy Try) looks = looks
-    found-leads (purpose.Copy (Polling is_drawn)) looks = looks
+    found-leads Purpose.Poll looks = looks
+    found-leads (Purpose.Copy Try) looks = looks
+    found-leads (Purpose.Copy (Polling is_drawn)) looks = looks
 
     looks-leads : (none : Bool) (l : Purpose) → ReaderLooks l destination t → ReaderAt (reader_looked none l) destination t
-    looks-leads true purpose.Poll looks = looks
-    looks-leads true (purpose.Copy Try) looks = looks
-    looks-leads true (purpose.Copy (Polling is_drawn)) looks = looks
+    looks-leads true Purpose.Poll looks = looks
+    looks-leads true (Purpose.Copy Try) looks = looks
+    looks-leads true (Purpose.Copy (Polling is_drawn)) looks = looks
     looks-leads false l looks = found-leads l looks
 
     pub opens-leads : (none : Bool) (l : Purpose) → ReaderLooks l destination t → ReaderAt (reader_looks_for none l) destination t
@@ -158,19 +136,19 @@ module _ (capacity : ℕ) where
 
     registers-leads : (is_granted : Bool) (l : Purpose) → ReaderLooks l destination t → Leads capacity destination (reader_registered is_granted l) t
     registers-leads true l looks = (tt, looks)
-    registers-leads false purpose.Poll looks = (poll-answers capacity Reader t Memory looks, tt)
-    registers-leads false (purpose.Copy form) looks = (answers capacity t Reader looks.drain _ looks.is (drain-waits form looks.drain destination Memory t.looks t.moved looks.drains looks.count), tt)
+    registers-leads false Purpose.Poll looks = (poll-answers capacity Reader t Memory looks, tt)
+    registers-leads false (Purpose.Copy form) looks = (answers capacity t Reader looks.drain _ looks.is (drain-waits form looks.drain destination Memory t.looks t.moved looks.drains looks.count), tt)
 
     again-leads : (none was_closed : Bool) (l : Purpose) → ReaderLooks l destination t → Leads capacity destination (reader_looked_again none l was_closed) t
-    again-leads true was_closed purpose.Poll looks = (poll-answers capacity Reader t (end_or_pending was_closed) looks, tt)
-    again-leads true was_closed (purpose.Copy form) looks = (answers capacity t Reader looks.drain _ looks.is (drain-waits form looks.drain destination (end_or_pending was_closed) t.looks t.moved looks.drains looks.count), tt)
+    again-leads true was_closed Purpose.Poll looks = (poll-answers capacity Reader t (end_or_pending was_closed) looks, tt)
+    again-leads true was_closed (Purpose.Copy form) looks = (answers capacity t Reader looks.drain _ looks.is (drain-waits form looks.drain destination (end_or_pending was_closed) t.looks t.moved looks.drains looks.count), tt)
     again-leads false was_closed l looks = (tt, found-leads l looks)
 
     true-leads : (l : Purpose) → ReaderLooks l destination t → Leads capacity destination (reader_is_true l) t
-    true-leads purpose.Poll looks = (poll-answers capacity Reader t (Ready true) looks, tt)
-    true-leads (purpose.Copy Try) looks = (tt, looks)
-    true-leads (purpose.Copy (Polling true)) looks = (tt, looks)
-    true-leads (purpose.Copy (Polling false)) looks = (tt, looks)
+    true-leads Purpose.Poll looks = (poll-answers capacity Reader t (Ready true) looks, tt)
+    true-leads (Purpose.Copy Try) looks = (tt, looks)
+    true-leads (Purpose.Copy (Polling true)) looks = (tt, looks)
+    true-leads (Purpose.Copy (Polling false)) looks = (tt, looks)
 
     yields-leads : (is_granted : Bool) → Drains (Polling true) destination 0 0 t → AreRightFrom capacity Reader t (answer_event Reader (Some (yield_answer is_granted)))
     yields-leads true looks = answers capacity t Reader looks.drain _ looks.is (drain-waits (Polling true) looks.drain destination Pending t.looks t.moved looks.drains looks.count)
@@ -180,14 +158,14 @@ module _ (capacity : ℕ) where
     round-leads true n form sum left held on = (answers capacity t Reader held.drain _ held.is (drain-counts form held.drain destination sum t.looks t.moved held.drains held.count), tt)
     round-leads false n form sum left held on = (tt, record { drain = held.drain; is = held.is; drains = on; count = let count = held.count in omega arith })
 
-    moved-leads : (result : Result ℕ Failed) (form : Form) (sum : ℕ) (left : Destination) (held : Drains form destination 0 sum t) → Takes form held.drain result left sum t.looks t.moved → Leads capacity left (read_after capacity (at.CallDestination form sum) (found_of result)) t
+    moved-leads : (result : Result ℕ Failed) (form : Form) (sum : ℕ) (left : Destination) (held : Drains form destination 0 sum t) → Takes form held.drain result left sum t.looks t.moved → Leads capacity left (read_after capacity (ReadPoint.CallDestination form sum) (found_of result)) t
     moved-leads (Ok n) form sum left held on = round-leads (n == 0) n form sum left held on
     moved-leads (Err fails) form sum left held on = (answers capacity t Reader held.drain _ held.is on, tt)
 
     done-leads : (next : AfterRead) → ReaderAfter next destination t → Leads capacity destination (read_done next) t
-    done-leads after_read.Answer after = (answers capacity t Reader _ _ after refl, tt)
-    done-leads after_read.Drop after = (answers capacity t Reader _ _ after tt, tt)
-    done-leads (after_read.Round form sum) after = (tt, after)
+    done-leads AfterRead.Answer after = (answers capacity t Reader _ _ after refl, tt)
+    done-leads AfterRead.Drop after = (answers capacity t Reader _ _ after tt, tt)
+    done-leads (AfterRead.Round form sum) after = (tt, after)
 
     take-leads : (next : AfterRead) (is_found : Bool) → ReaderAfter next destination t → Leads capacity destination (writer_taken next is_found) t
     take-leads next true after = (tt, after)
@@ -195,18 +173,18 @@ module _ (capacity : ℕ) where
 
   -- what the log says of a look does not depend on what it found
   looked : (l : Purpose) (destination : Destination) (t : Noted) (look : Seen) → ReaderLooks l destination t → ReaderLooks l destination (record t { looks = look ∷ t.looks })
-  looked purpose.Poll destination t look looks = record { poll = looks.poll; is = looks.is; polls = looks.polls }
-  looked (purpose.Copy form) destination t look looks = record { drain = looks.drain; is = looks.is; drains = looks.drains; count = looks.count }
+  looked Purpose.Poll destination t look looks = record { poll = looks.poll; is = looks.is; polls = looks.polls }
+  looked (Purpose.Copy form) destination t look looks = record { drain = looks.drain; is = looks.is; drains = looks.drains; count = looks.count }
 
   -- a store of head
   stores : (n : ℕ) (next : AfterRead) (destination : Destination) (t : Noted) (bytes : List ℕ) → length bytes ≡ n → ReaderStores n next destination t
       → let u = record t { moved = t.moved ++ bytes } in IsSomeAnd t.call (λ (c : Call). MayHaveMoved c u.moved) × ReaderAfter next destination u
-  stores n after_read.Answer destination t bytes long held =
+  stores n AfterRead.Answer destination t bytes long held =
       let whole : t.moved ++ bytes ≡ bytes = ap (λ (xs : List ℕ). xs ++ bytes) held.1 in
       let count : length (t.moved ++ bytes) ≡ n = ap (λ (xs : List ℕ). length xs) whole ∙ long in
-      (rw held.0 count, held.0 ∙ ap (λ (k : ℕ). Some (call.Consume k)) (sym count))
-  stores n after_read.Drop destination t bytes long held = absurd held
-  stores n (after_read.Round form sum) destination t bytes long held =
+      (rw held.0 count, held.0 ∙ ap (λ (k : ℕ). Some (Call.Consume k)) (sym count))
+  stores n AfterRead.Drop destination t bytes long held = absurd held
+  stores n (AfterRead.Round form sum) destination t bytes long held =
       let both = length-append t.moved bytes in
       let before = held.count in
       let count : length (t.moved ++ bytes) ≡ sum = omega arith in
@@ -215,37 +193,37 @@ module _ (capacity : ℕ) where
 -- the step of each point
 pub reader-point : (point : ReadPoint) (p : Pipe) (t : Noted) → length p.unread ≤ p.capacity → head_store point ≤ length p.unread → ReaderAt point p.destination t
     → let new = went Reader (record p { reader = point }) in AreRightFrom p.capacity Reader t new.events × ReaderAt new.pipe.reader new.pipe.destination (noted_from Reader t new.events)
-reader-point at.Idle p t fits within held = (tt, tt)
-reader-point at.Dropped p t fits within held = (tt, tt)
-reader-point (at.QueryHead query) p t fits within held = ((tt, tt), (length p.unread, held.0, ap (λ (looks : List Seen). seen.Head (length p.unread) ∷ looks) held.1))
-reader-point (at.QueryTail query) p t fits within held =
-    let looks = ap (λ (before : List Seen). seen.Tail (length p.unread) ∷ before) held.2 in
-    let u = record t { looks = seen.Tail (length p.unread) ∷ t.looks } in
-    ((tt, answers p.capacity u Reader (call.Query Reader query) (query_answer query p.capacity (length p.unread)) held.1 (record { number = length p.unread; is_found = ap (λ (all : List Seen). number_found Reader all) looks; within = fits; answers = refl })), tt)
-reader-point at.QueryClosed p t fits within held =
-    let u = record t { looks = seen.Closed p.is_closed ∷ t.looks } in
-    ((tt, answers p.capacity u Reader (call.IsClosed Reader) _ held.0 (ap (λ (before : List Seen). seen.Closed p.is_closed ∷ before) held.1)), tt)
-reader-point (at.LookTail l) p t fits within held = ((tt, tt), looks-leads p.capacity _ p.destination (length p.unread == 0) l (looked p.capacity l p.destination t _ held))
-reader-point (at.LookRegister l) p t fits within held =
+reader-point ReadPoint.Idle p t fits within held = (tt, tt)
+reader-point ReadPoint.Dropped p t fits within held = (tt, tt)
+reader-point (ReadPoint.QueryHead query) p t fits within held = ((tt, tt), (length p.unread, held.0, ap (λ (looks : List Seen). Seen.Head (length p.unread) ∷ looks) held.1))
+reader-point (ReadPoint.QueryTail query) p t fits within held =
+    let looks = ap (λ (before : List Seen). Seen.Tail (length p.unread) ∷ before) held.2 in
+    let u = record t { looks = Seen.Tail (length p.unread) ∷ t.looks } in
+    ((tt, answers p.capacity u Reader (Call.Query Reader query) (query_answer query p.capacity (length p.unread)) held.1 (record { number = length p.unread; is_found = ap (λ (all : List Seen). number_found Reader all) looks; within = fits; answers = refl })), tt)
+reader-point ReadPoint.QueryClosed p t fits within held =
+    let u = record t { looks = Seen.Closed p.is_closed ∷ t.looks } in
+    ((tt, answers p.capacity u Reader (Call.IsClosed Reader) _ held.0 (ap (λ (before : List Seen). Seen.Closed p.is_closed ∷ before) held.1)), tt)
+reader-point (ReadPoint.LookTail l) p t fits within held = ((tt, tt), looks-leads p.capacity _ p.destination (length p.unread == 0) l (looked p.capacity l p.destination t _ held))
+reader-point (ReadPoint.LookRegister l) p t fits within held =
     let quiet = registers-leaves p.capacity t Reader Reader p.reader_call.context in
     steps p.capacity p.destination (reader_registered (is_granted p.reader_call.context) l) t t (registration_of Reader p.reader_call.context) quiet.0 quiet.1 (registers-leads p.capacity t p.destination (is_granted p.reader_call.context) l held)
-reader-point (at.LookClosed l) p t fits within held = ((tt, tt), looked p.capacity l p.destination t _ held)
-reader-point (at.LookTailAgain l was_closed) p t fits within held =
-    let u = record t { looks = seen.Tail (length p.unread) ∷ t.looks } in
-    steps p.capacity p.destination (reader_looked_again (length p.unread == 0) l was_closed) t u (Looked Reader (seen.Tail (length p.unread)) ∷ []) (tt, tt) refl (again-leads p.capacity u p.destination (length p.unread == 0) was_closed l (looked p.capacity l p.destination t _ held))
-reader-point (at.LookTake l) p t fits within held = steps p.capacity p.destination (reader_is_true l) t t [] tt refl (true-leads p.capacity t p.destination l held)
-reader-point at.Yield p t fits within held =
+reader-point (ReadPoint.LookClosed l) p t fits within held = ((tt, tt), looked p.capacity l p.destination t _ held)
+reader-point (ReadPoint.LookTailAgain l was_closed) p t fits within held =
+    let u = record t { looks = Seen.Tail (length p.unread) ∷ t.looks } in
+    steps p.capacity p.destination (reader_looked_again (length p.unread == 0) l was_closed) t u (Looked Reader (Seen.Tail (length p.unread)) ∷ []) (tt, tt) refl (again-leads p.capacity u p.destination (length p.unread == 0) was_closed l (looked p.capacity l p.destination t _ held))
+reader-point (ReadPoint.LookTake l) p t fits within held = steps p.capacity p.destination (reader_is_true l) t t [] tt refl (true-leads p.capacity t p.destination l held)
+reader-point ReadPoint.Yield p t fits within held =
     let quiet = yield-leaves p.capacity t Reader p.reader_call.context in
-    steps p.capacity p.destination (read_after p.capacity at.Yield (granted (is_yield_granted p.reader_call.context))) t t (yield_of p.reader_call.context) quiet.0 quiet.1 (yields-leads p.capacity t p.destination (is_yield_granted p.reader_call.context) held, tt)
-reader-point (at.CallDestination form sum) p t fits within held =
+    steps p.capacity p.destination (read_after p.capacity ReadPoint.Yield (granted (is_yield_granted p.reader_call.context))) t t (yield_of p.reader_call.context) quiet.0 quiet.1 (yields-leads p.capacity t p.destination (is_yield_granted p.reader_call.context) held, tt)
+reader-point (ReadPoint.CallDestination form sum) p t fits within held =
     let left = left_of_destination (round_count p) p.destination in
-    steps p.capacity left (read_after p.capacity (at.CallDestination form sum) (found_of (taken (round_count p) p.destination))) t t [] tt refl
+    steps p.capacity left (read_after p.capacity (ReadPoint.CallDestination form sum) (found_of (taken (round_count p) p.destination))) t t [] tt refl
     (moved-leads p.capacity t p.destination (taken (round_count p) p.destination) form sum left held (takes p.capacity form held.drain (round_count p) p.destination sum t.looks t.moved held.drains))
-reader-point (at.StoreHead n next) p t fits within held =
+reader-point (ReadPoint.StoreHead n next) p t fits within held =
     let stored = stores p.capacity n next p.destination t (take n p.unread) (length-take-le n p.unread within) held in
     ((stored.0, tt), stored.1)
-reader-point (at.TakeWriter next) p t fits within held = steps p.capacity p.destination (writer_taken next (is_some p.writer_waker)) t t [] tt refl (take-leads p.capacity t p.destination next (is_some p.writer_waker) held)
-reader-point (at.WakeWriter next) p t fits within held =
+reader-point (ReadPoint.TakeWriter next) p t fits within held = steps p.capacity p.destination (writer_taken next (is_some p.writer_waker)) t t [] tt refl (take-leads p.capacity t p.destination next (is_some p.writer_waker) held)
+reader-point (ReadPoint.WakeWriter next) p t fits within held =
     let quiet = wake-leaves p.capacity t Reader p.reader_call.taken in
     steps p.capacity p.destination (read_done next) t t (wake_of p.reader_call.taken) quiet.0 quiet.1 (done-leads p.capacity t p.destination next held)
-reader-point at.StoreClosed p t fits within held = ((tt, tt), held)
+reader-point ReadPoint.StoreClosed p t fits within held = ((tt, tt), held)

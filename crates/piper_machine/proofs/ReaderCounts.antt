@@ -3,22 +3,9 @@
 use Rattle.std.proofs.Common.{◌≡◌, ℕ, ◌+◌, ◌-◌, ◌<◌, ◌≤◌, min, [], ◌∷◌, length, Bool, true, false, None, ◌==◌, is_some, Result, Ok, Err, refl, arith}
 use Rattle.std.specs.Prelude.{⊤}
 use Rattle.std.proofs.lemmas.Bool.Decides.{nat_tests}
-use Rattle.piper_protocol.specs.declared.table.Side.TheVariants.{Reader}
-use Rattle.piper_protocol.specs.declared.answer.Polled.TheVariants.{Memory}
-use Rattle.piper_protocol.specs.declared.answer.Failed.{Failed}
-use Rattle.piper_protocol.specs.declared.table.Form.{Form}
-use Rattle.piper_protocol.specs.declared.table.Form.TheVariants.{Try, Polling}
-use Rattle.piper_protocol.specs.declared.table.Purpose.{Purpose}
-use Rattle.piper_protocol.specs.declared.table.Purpose.TheVariants as purpose
-use Rattle.piper_protocol.specs.declared.table.AfterRead.{AfterRead}
-use Rattle.piper_protocol.specs.declared.table.AfterRead.TheVariants as after_read
-use Rattle.piper_protocol.specs.declared.table.ReadPoint.{ReadPoint}
-use Rattle.piper_protocol.specs.declared.table.ReadPoint.TheVariants as at
+use Rattle.piper_machine.specs.Types.{DestAct, Failed, Form, Purpose, AfterRead, ReadPoint, Destination, Reader, Memory, Try, Polling, Slice, Acts}
 use Rattle.piper_machine.specs.Open.{is_granted, is_yield_granted}
 use Rattle.piper_protocol.specs.Table.{Next, goes_on, end_or_pending, read_action, read_after, read_done, reader_looked, reader_looked_again, reader_registered, reader_is_true, reader_moved, writer_taken}
-use Rattle.piper_machine.specs.declared.destination.Destination.{Destination}
-use Rattle.piper_machine.specs.declared.destination.Destination.TheVariants.{Slice, Acts}
-use Rattle.piper_machine.specs.declared.scripted.DestAct.TheVariants as dest
 use Rattle.piper_machine.specs.Pipe.{Pipe}
 use Rattle.piper_machine.specs.Round.{taken, found_of}
 use Rattle.piper_machine.specs.Action.{performed, found_by, round_count}
@@ -30,48 +17,48 @@ use Rattle.piper_machine.proofs.Knowing.{Fits, learned, IsReadyNext, query-ready
 
 -- the calls of the destination that remain at most
 abbrev look_calls : ℕ → Purpose → ℕ
-look_calls known purpose.Poll = 0
-look_calls known (purpose.Copy form) = 1 + known
+look_calls known Purpose.Poll = 0
+look_calls known (Purpose.Copy form) = 1 + known
 
 abbrev calls_after : ℕ → AfterRead → ℕ
-calls_after known (after_read.Round form sum) = 1 + known
+calls_after known (AfterRead.Round form sum) = 1 + known
 calls_after known next = 0
 
 abbrev pub read_calls : ℕ → ℕ → ReadPoint → ℕ
-read_calls found known (at.LookTail l) = look_calls found l
-read_calls found known (at.LookRegister l) = look_calls found l
-read_calls found known (at.LookClosed l) = look_calls found l
-read_calls found known (at.LookTailAgain l was_closed) = look_calls found l
-read_calls found known (at.LookTake l) = look_calls known l
-read_calls found known (at.CallDestination form sum) = 1 + known
-read_calls found known (at.StoreHead n next) = calls_after (known - n) next
-read_calls found known (at.TakeWriter next) = calls_after known next
-read_calls found known (at.WakeWriter next) = calls_after known next
+read_calls found known (ReadPoint.LookTail l) = look_calls found l
+read_calls found known (ReadPoint.LookRegister l) = look_calls found l
+read_calls found known (ReadPoint.LookClosed l) = look_calls found l
+read_calls found known (ReadPoint.LookTailAgain l was_closed) = look_calls found l
+read_calls found known (ReadPoint.LookTake l) = look_calls known l
+read_calls found known (ReadPoint.CallDestination form sum) = 1 + known
+read_calls found known (ReadPoint.StoreHead n next) = calls_after (known - n) next
+read_calls found known (ReadPoint.TakeWriter next) = calls_after known next
+read_calls found known (ReadPoint.WakeWriter next) = calls_after known next
 read_calls found known point = 0
 
 -- before a look has found something it can still find anything
 abbrev pub read_least : ℕ → ReadPoint → ℕ
-read_least found (at.LookTail l) = 0
-read_least found (at.LookRegister l) = 0
-read_least found (at.LookClosed l) = 0
-read_least found (at.LookTailAgain l was_closed) = 0
+read_least found (ReadPoint.LookTail l) = 0
+read_least found (ReadPoint.LookRegister l) = 0
+read_least found (ReadPoint.LookClosed l) = 0
+read_least found (ReadPoint.LookTailAgain l was_closed) = 0
 read_least found point = found
 
 -- what the reader's point reports of what it knows
 abbrev pub ReaderSees : ReadPoint → ℕ → Knowledge → Type 0
-ReaderSees (at.QueryHead query) known k = (k.is_query ≡ true)
-ReaderSees (at.QueryTail query) known k = (k.is_query ≡ true)
-ReaderSees (at.LookTail l) known k = (k.is_query ≡ false)
-ReaderSees (at.LookRegister l) known k = (k.is_query ≡ false)
-ReaderSees (at.LookClosed l) known k = (k.is_query ≡ false)
-ReaderSees (at.LookTailAgain l was_closed) known k = (k.is_query ≡ false)
-ReaderSees (at.LookTake l) known k = (1 ≤ known)
+ReaderSees (ReadPoint.QueryHead query) known k = (k.is_query ≡ true)
+ReaderSees (ReadPoint.QueryTail query) known k = (k.is_query ≡ true)
+ReaderSees (ReadPoint.LookTail l) known k = (k.is_query ≡ false)
+ReaderSees (ReadPoint.LookRegister l) known k = (k.is_query ≡ false)
+ReaderSees (ReadPoint.LookClosed l) known k = (k.is_query ≡ false)
+ReaderSees (ReadPoint.LookTailAgain l was_closed) known k = (k.is_query ≡ false)
+ReaderSees (ReadPoint.LookTake l) known k = (1 ≤ known)
 ReaderSees point known k = ⊤
 
 pub reader-fits : (point : ReadPoint) (known : ℕ) (k : Knowledge) → ReaderSees point known k → Fits Reader (read_action point) k
-reader-fits (at.QueryTail query) known k sees = sees
-reader-fits (at.LookTail l) known k sees = sees
-reader-fits (at.LookTailAgain l was_closed) known k sees = sees
+reader-fits (ReadPoint.QueryTail query) known k sees = sees
+reader-fits (ReadPoint.LookTail l) known k sees = sees
+reader-fits (ReadPoint.LookTailAgain l was_closed) known k sees = sees
 reader-fits point known k sees = tt
 
 -- where a look finds so much
@@ -89,66 +76,66 @@ pub some-known : (n : ℕ) → (n == 0) ≡ false → 1 ≤ n
 some-known n test = grind (arith, nat_tests)
 
 module _ (known : ℕ) (k : Knowledge) where
-  looks-go : (none : Bool) (l : Purpose) (n : ℕ) → k.is_query ≡ false → (n == 0) ≡ none → ReaderGoes (at.LookTail l) known k (goes_on (reader_looked none l)) n (record k { known = n; found = n })
-  looks-go true purpose.Poll n asks test = record { sees = asks; ready = λ enough. tt; nearer = λ f most. record { from = omega arith; steps = omega arith; calls = omega arith } }
-  looks-go true (purpose.Copy Try) n asks test = record { sees = asks; ready = λ enough. tt; nearer = λ f most. record { from = omega arith; steps = omega arith; calls = omega arith } }
-  looks-go true (purpose.Copy (Polling is_drawn)) n asks test = record { sees = asks; ready = λ enough. tt; nearer = λ f most. record { from = omega arith; steps = omega arith; calls = omega arith } }
-  looks-go false purpose.Poll n asks test = record { sees = some-known n test; ready = λ enough. tt; nearer = λ f most. record { from = omega arith; steps = omega arith; calls = omega arith } }
-  looks-go false (purpose.Copy Try) n asks test = record { sees = tt; ready = λ enough. tt; nearer = λ f most. record { from = omega arith; steps = omega arith; calls = omega arith } }
-  looks-go false (purpose.Copy (Polling is_drawn)) n asks test = record { sees = some-known n test; ready = λ enough. tt; nearer = λ f most. record { from = omega arith; steps = omega arith; calls = omega arith } }
+  looks-go : (none : Bool) (l : Purpose) (n : ℕ) → k.is_query ≡ false → (n == 0) ≡ none → ReaderGoes (ReadPoint.LookTail l) known k (goes_on (reader_looked none l)) n (record k { known = n; found = n })
+  looks-go true Purpose.Poll n asks test = record { sees = asks; ready = λ enough. tt; nearer = λ f most. record { from = omega arith; steps = omega arith; calls = omega arith } }
+  looks-go true (Purpose.Copy Try) n asks test = record { sees = asks; ready = λ enough. tt; nearer = λ f most. record { from = omega arith; steps = omega arith; calls = omega arith } }
+  looks-go true (Purpose.Copy (Polling is_drawn)) n asks test = record { sees = asks; ready = λ enough. tt; nearer = λ f most. record { from = omega arith; steps = omega arith; calls = omega arith } }
+  looks-go false Purpose.Poll n asks test = record { sees = some-known n test; ready = λ enough. tt; nearer = λ f most. record { from = omega arith; steps = omega arith; calls = omega arith } }
+  looks-go false (Purpose.Copy Try) n asks test = record { sees = tt; ready = λ enough. tt; nearer = λ f most. record { from = omega arith; steps = omega arith; calls = omega arith } }
+  looks-go false (Purpose.Copy (Polling is_drawn)) n asks test = record { sees = some-known n test; ready = λ enough. tt; nearer = λ f most. record { from = omega arith; steps = omega arith; calls = omega arith } }
 
-  registers-go : (is_granted : Bool) (l : Purpose) → k.is_query ≡ false → ReaderGoes (at.LookRegister l) known k (reader_registered is_granted l) known k
-  registers-go true purpose.Poll asks = record { sees = asks; ready = λ enough. tt; nearer = λ f most. record { from = omega arith; steps = omega arith; calls = omega arith } }
-  registers-go true (purpose.Copy form) asks = record { sees = asks; ready = λ enough. tt; nearer = λ f most. record { from = omega arith; steps = omega arith; calls = omega arith } }
-  registers-go false purpose.Poll asks = record { sees = tt; ready = λ enough. tt; nearer = λ f most. record { from = omega arith; steps = omega arith; calls = omega arith } }
-  registers-go false (purpose.Copy form) asks = record { sees = tt; ready = λ enough. copy-ready Reader k form Memory; nearer = λ f most. record { from = omega arith; steps = omega arith; calls = omega arith } }
+  registers-go : (is_granted : Bool) (l : Purpose) → k.is_query ≡ false → ReaderGoes (ReadPoint.LookRegister l) known k (reader_registered is_granted l) known k
+  registers-go true Purpose.Poll asks = record { sees = asks; ready = λ enough. tt; nearer = λ f most. record { from = omega arith; steps = omega arith; calls = omega arith } }
+  registers-go true (Purpose.Copy form) asks = record { sees = asks; ready = λ enough. tt; nearer = λ f most. record { from = omega arith; steps = omega arith; calls = omega arith } }
+  registers-go false Purpose.Poll asks = record { sees = tt; ready = λ enough. tt; nearer = λ f most. record { from = omega arith; steps = omega arith; calls = omega arith } }
+  registers-go false (Purpose.Copy form) asks = record { sees = tt; ready = λ enough. copy-ready Reader k form Memory; nearer = λ f most. record { from = omega arith; steps = omega arith; calls = omega arith } }
 
-  closed-go : (l : Purpose) (is_closed : Bool) → k.is_query ≡ false → ReaderGoes (at.LookClosed l) known k (goes_on (at.LookTailAgain l is_closed)) known k
-  closed-go purpose.Poll is_closed asks = record { sees = asks; ready = λ enough. tt; nearer = λ f most. record { from = omega arith; steps = omega arith; calls = omega arith } }
-  closed-go (purpose.Copy form) is_closed asks = record { sees = asks; ready = λ enough. tt; nearer = λ f most. record { from = omega arith; steps = omega arith; calls = omega arith } }
+  closed-go : (l : Purpose) (is_closed : Bool) → k.is_query ≡ false → ReaderGoes (ReadPoint.LookClosed l) known k (goes_on (ReadPoint.LookTailAgain l is_closed)) known k
+  closed-go Purpose.Poll is_closed asks = record { sees = asks; ready = λ enough. tt; nearer = λ f most. record { from = omega arith; steps = omega arith; calls = omega arith } }
+  closed-go (Purpose.Copy form) is_closed asks = record { sees = asks; ready = λ enough. tt; nearer = λ f most. record { from = omega arith; steps = omega arith; calls = omega arith } }
 
-  again-go : (none was_closed : Bool) (l : Purpose) (n : ℕ) → k.is_query ≡ false → (n == 0) ≡ none → ReaderGoes (at.LookTailAgain l was_closed) known k (reader_looked_again none l was_closed) n (record k { known = n; found = n })
-  again-go true was_closed purpose.Poll n asks test = record { sees = tt; ready = λ enough. end-ready Reader (record k { known = n; found = n }) was_closed; nearer = λ f most. record { from = omega arith; steps = omega arith; calls = omega arith } }
-  again-go true was_closed (purpose.Copy form) n asks test = record { sees = tt; ready = λ enough. copy-ready Reader (record k { known = n; found = n }) form (end_or_pending was_closed); nearer = λ f most. record { from = omega arith; steps = omega arith; calls = omega arith } }
-  again-go false was_closed purpose.Poll n asks test = record { sees = some-known n test; ready = λ enough. tt; nearer = λ f most. record { from = omega arith; steps = omega arith; calls = omega arith } }
-  again-go false was_closed (purpose.Copy Try) n asks test = record { sees = tt; ready = λ enough. tt; nearer = λ f most. record { from = omega arith; steps = omega arith; calls = omega arith } }
-  again-go false was_closed (purpose.Copy (Polling is_drawn)) n asks test = record { sees = some-known n test; ready = λ enough. tt; nearer = λ f most. record { from = omega arith; steps = omega arith; calls = omega arith } }
+  again-go : (none was_closed : Bool) (l : Purpose) (n : ℕ) → k.is_query ≡ false → (n == 0) ≡ none → ReaderGoes (ReadPoint.LookTailAgain l was_closed) known k (reader_looked_again none l was_closed) n (record k { known = n; found = n })
+  again-go true was_closed Purpose.Poll n asks test = record { sees = tt; ready = λ enough. end-ready Reader (record k { known = n; found = n }) was_closed; nearer = λ f most. record { from = omega arith; steps = omega arith; calls = omega arith } }
+  again-go true was_closed (Purpose.Copy form) n asks test = record { sees = tt; ready = λ enough. copy-ready Reader (record k { known = n; found = n }) form (end_or_pending was_closed); nearer = λ f most. record { from = omega arith; steps = omega arith; calls = omega arith } }
+  again-go false was_closed Purpose.Poll n asks test = record { sees = some-known n test; ready = λ enough. tt; nearer = λ f most. record { from = omega arith; steps = omega arith; calls = omega arith } }
+  again-go false was_closed (Purpose.Copy Try) n asks test = record { sees = tt; ready = λ enough. tt; nearer = λ f most. record { from = omega arith; steps = omega arith; calls = omega arith } }
+  again-go false was_closed (Purpose.Copy (Polling is_drawn)) n asks test = record { sees = some-known n test; ready = λ enough. tt; nearer = λ f most. record { from = omega arith; steps = omega arith; calls = omega arith } }
 
-  take-goes : (l : Purpose) → 1 ≤ known → ReaderGoes (at.LookTake l) known k (reader_is_true l) known k
-  take-goes purpose.Poll some = record { sees = tt; ready = λ enough. omega arith; nearer = λ f most. record { from = most; steps = omega arith; calls = omega arith } }
-  take-goes (purpose.Copy Try) some = record { sees = tt; ready = λ enough. tt; nearer = λ f most. record { from = most; steps = omega arith; calls = omega arith } }
-  take-goes (purpose.Copy (Polling true)) some = record { sees = tt; ready = λ enough. tt; nearer = λ f most. record { from = most; steps = omega arith; calls = omega arith } }
-  take-goes (purpose.Copy (Polling false)) some = record { sees = tt; ready = λ enough. tt; nearer = λ f most. record { from = most; steps = omega arith; calls = omega arith } }
+  take-goes : (l : Purpose) → 1 ≤ known → ReaderGoes (ReadPoint.LookTake l) known k (reader_is_true l) known k
+  take-goes Purpose.Poll some = record { sees = tt; ready = λ enough. omega arith; nearer = λ f most. record { from = most; steps = omega arith; calls = omega arith } }
+  take-goes (Purpose.Copy Try) some = record { sees = tt; ready = λ enough. tt; nearer = λ f most. record { from = most; steps = omega arith; calls = omega arith } }
+  take-goes (Purpose.Copy (Polling true)) some = record { sees = tt; ready = λ enough. tt; nearer = λ f most. record { from = most; steps = omega arith; calls = omega arith } }
+  take-goes (Purpose.Copy (Polling false)) some = record { sees = tt; ready = λ enough. tt; nearer = λ f most. record { from = most; steps = omega arith; calls = omega arith } }
 
-  round-goes : (none : Bool) (n : ℕ) (form : Form) (sum : ℕ) → (n == 0) ≡ none → n ≤ known → ReaderGoes (at.CallDestination form sum) known k (reader_moved none n form sum) known k
+  round-goes : (none : Bool) (n : ℕ) (form : Form) (sum : ℕ) → (n == 0) ≡ none → n ≤ known → ReaderGoes (ReadPoint.CallDestination form sum) known k (reader_moved none n form sum) known k
   round-goes true n form sum test within = record { sees = tt; ready = λ enough. count-ready Reader k form sum; nearer = λ f most. record { from = most; steps = omega arith; calls = omega arith } }
   round-goes false n form sum test within = let some = some-known n test in record { sees = tt; ready = λ enough. tt; nearer = λ f most. record { from = most; steps = omega arith; calls = omega arith } }
 
-  moved-goes : (capacity : ℕ) (moved : Result ℕ Failed) (form : Form) (sum : ℕ) → ((n : ℕ) → moved ≡ Ok n → n ≤ known) → ReaderGoes (at.CallDestination form sum) known k (read_after capacity (at.CallDestination form sum) (found_of moved)) known k
+  moved-goes : (capacity : ℕ) (moved : Result ℕ Failed) (form : Form) (sum : ℕ) → ((n : ℕ) → moved ≡ Ok n → n ≤ known) → ReaderGoes (ReadPoint.CallDestination form sum) known k (read_after capacity (ReadPoint.CallDestination form sum) (found_of moved)) known k
   moved-goes capacity (Ok n) form sum within = round-goes (n == 0) n form sum refl (within n refl)
   moved-goes capacity (Err fails) form sum within = record { sees = tt; ready = λ enough. tt; nearer = λ f most. record { from = most; steps = omega arith; calls = omega arith } }
 
-  store-goes : (n m : ℕ) (next : AfterRead) → ReaderGoes (at.StoreHead n next) known k (goes_on (at.TakeWriter next)) (known - n) (used_up m k)
+  store-goes : (n m : ℕ) (next : AfterRead) → ReaderGoes (ReadPoint.StoreHead n next) known k (goes_on (ReadPoint.TakeWriter next)) (known - n) (used_up m k)
   store-goes n m next = record { sees = tt; ready = λ enough. tt; nearer = λ f most. record { from = most; steps = omega arith; calls = omega arith } }
 
   -- the call of a waker, or none
-  wake-goes : (next : AfterRead) → ReaderGoes (at.WakeWriter next) known k (read_done next) known k
-  wake-goes after_read.Answer = record { sees = tt; ready = λ enough. tt; nearer = λ f most. record { from = most; steps = omega arith; calls = omega arith } }
-  wake-goes after_read.Drop = record { sees = tt; ready = λ enough. tt; nearer = λ f most. record { from = most; steps = omega arith; calls = omega arith } }
-  wake-goes (after_read.Round form sum) = record { sees = tt; ready = λ enough. tt; nearer = λ f most. record { from = most; steps = omega arith; calls = omega arith } }
+  wake-goes : (next : AfterRead) → ReaderGoes (ReadPoint.WakeWriter next) known k (read_done next) known k
+  wake-goes AfterRead.Answer = record { sees = tt; ready = λ enough. tt; nearer = λ f most. record { from = most; steps = omega arith; calls = omega arith } }
+  wake-goes AfterRead.Drop = record { sees = tt; ready = λ enough. tt; nearer = λ f most. record { from = most; steps = omega arith; calls = omega arith } }
+  wake-goes (AfterRead.Round form sum) = record { sees = tt; ready = λ enough. tt; nearer = λ f most. record { from = most; steps = omega arith; calls = omega arith } }
 
-  taken-goes : (next : AfterRead) (is_found : Bool) → ReaderGoes (at.TakeWriter next) known k (writer_taken next is_found) known k
-  taken-goes after_read.Answer false = record { sees = tt; ready = λ enough. tt; nearer = λ f most. record { from = most; steps = omega arith; calls = omega arith } }
-  taken-goes after_read.Drop false = record { sees = tt; ready = λ enough. tt; nearer = λ f most. record { from = most; steps = omega arith; calls = omega arith } }
-  taken-goes (after_read.Round form sum) false = record { sees = tt; ready = λ enough. tt; nearer = λ f most. record { from = most; steps = omega arith; calls = omega arith } }
+  taken-goes : (next : AfterRead) (is_found : Bool) → ReaderGoes (ReadPoint.TakeWriter next) known k (writer_taken next is_found) known k
+  taken-goes AfterRead.Answer false = record { sees = tt; ready = λ enough. tt; nearer = λ f most. record { from = most; steps = omega arith; calls = omega arith } }
+  taken-goes AfterRead.Drop false = record { sees = tt; ready = λ enough. tt; nearer = λ f most. record { from = most; steps = omega arith; calls = omega arith } }
+  taken-goes (AfterRead.Round form sum) false = record { sees = tt; ready = λ enough. tt; nearer = λ f most. record { from = most; steps = omega arith; calls = omega arith } }
   taken-goes next true = record { sees = tt; ready = λ enough. tt; nearer = λ f most. record { from = most; steps = omega arith; calls = omega arith } }
 
 -- a destination takes no more than it is lent
 taken-within : (most : ℕ) (destination : Destination) (n : ℕ) → taken most destination ≡ Ok n → n ≤ most
 taken-within most (Slice size) n is = let count : min size most ≡ n = cc in omega arith
 taken-within most (Acts []) n is = let count : 0 ≡ n = cc in omega arith
-taken-within most (Acts (dest.Fail ∷ acts)) n is = absurd (cc)
-taken-within most (Acts (dest.Take size ∷ acts)) n is = let count : min size most ≡ n = cc in omega arith
+taken-within most (Acts (DestAct.Fail ∷ acts)) n is = absurd (cc)
+taken-within most (Acts (DestAct.Take size ∷ acts)) n is = let count : min size most ≡ n = cc in omega arith
 
 -- the reader makes its step
 abbrev pub reader_next : ReadPoint → Pipe → Next ReadPoint
@@ -156,20 +143,20 @@ reader_next point p = read_after p.capacity point (found_by Reader (read_action 
 
 pub reader-goes : (point : ReadPoint) (p : Pipe) (k : Knowledge) → ReaderSees point p.known k → cannot_go (reader_state point) ≡ None
     → ReaderGoes point p.known k (reader_next point p) (performed Reader (read_action point) p).known (learned Reader (read_action point) p k)
-reader-goes at.Idle p k sees busy = absurd (cc)
-reader-goes at.Dropped p k sees busy = absurd (cc)
-reader-goes (at.QueryHead query) p k sees busy = record { sees = sees; ready = λ enough. tt; nearer = λ f most. record { from = most; steps = omega arith; calls = omega arith } }
-reader-goes (at.QueryTail query) p k sees busy = record { sees = tt; ready = λ enough. query-ready Reader k query p.capacity (length p.unread); nearer = λ f most. record { from = most; steps = omega arith; calls = omega arith } }
-reader-goes at.QueryClosed p k sees busy = record { sees = tt; ready = λ enough. tt; nearer = λ f most. record { from = most; steps = omega arith; calls = omega arith } }
-reader-goes (at.LookTail l) p k sees busy = looks-go p.known k (length p.unread == 0) l (length p.unread) sees refl
-reader-goes (at.LookRegister l) p k sees busy = registers-go p.known k (is_granted p.reader_call.context) l sees
-reader-goes (at.LookClosed l) p k sees busy = closed-go p.known k l p.is_closed sees
-reader-goes (at.LookTailAgain l was_closed) p k sees busy = again-go p.known k (length p.unread == 0) was_closed l (length p.unread) sees refl
-reader-goes (at.LookTake l) p k sees busy = take-goes p.known k l sees
-reader-goes at.Yield p k sees busy = record { sees = tt; ready = λ enough. yield-ready Reader k (is_yield_granted p.reader_call.context); nearer = λ f most. record { from = most; steps = omega arith; calls = omega arith } }
-reader-goes (at.CallDestination form sum) p k sees busy =
+reader-goes ReadPoint.Idle p k sees busy = absurd (cc)
+reader-goes ReadPoint.Dropped p k sees busy = absurd (cc)
+reader-goes (ReadPoint.QueryHead query) p k sees busy = record { sees = sees; ready = λ enough. tt; nearer = λ f most. record { from = most; steps = omega arith; calls = omega arith } }
+reader-goes (ReadPoint.QueryTail query) p k sees busy = record { sees = tt; ready = λ enough. query-ready Reader k query p.capacity (length p.unread); nearer = λ f most. record { from = most; steps = omega arith; calls = omega arith } }
+reader-goes ReadPoint.QueryClosed p k sees busy = record { sees = tt; ready = λ enough. tt; nearer = λ f most. record { from = most; steps = omega arith; calls = omega arith } }
+reader-goes (ReadPoint.LookTail l) p k sees busy = looks-go p.known k (length p.unread == 0) l (length p.unread) sees refl
+reader-goes (ReadPoint.LookRegister l) p k sees busy = registers-go p.known k (is_granted p.reader_call.context) l sees
+reader-goes (ReadPoint.LookClosed l) p k sees busy = closed-go p.known k l p.is_closed sees
+reader-goes (ReadPoint.LookTailAgain l was_closed) p k sees busy = again-go p.known k (length p.unread == 0) was_closed l (length p.unread) sees refl
+reader-goes (ReadPoint.LookTake l) p k sees busy = take-goes p.known k l sees
+reader-goes ReadPoint.Yield p k sees busy = record { sees = tt; ready = λ enough. yield-ready Reader k (is_yield_granted p.reader_call.context); nearer = λ f most. record { from = most; steps = omega arith; calls = omega arith } }
+reader-goes (ReadPoint.CallDestination form sum) p k sees busy =
     moved-goes p.known k p.capacity (taken (round_count p) p.destination) form sum (λ n is. omega (arith, taken-within (round_count p) p.destination n is))
-reader-goes (at.StoreHead n next) p k sees busy = store-goes p.known k n _ next
-reader-goes (at.TakeWriter next) p k sees busy = taken-goes p.known k next (is_some p.writer_waker)
-reader-goes (at.WakeWriter next) p k sees busy = wake-goes p.known k next
-reader-goes at.StoreClosed p k sees busy = record { sees = tt; ready = λ enough. tt; nearer = λ f most. record { from = most; steps = omega arith; calls = omega arith } }
+reader-goes (ReadPoint.StoreHead n next) p k sees busy = store-goes p.known k n _ next
+reader-goes (ReadPoint.TakeWriter next) p k sees busy = taken-goes p.known k next (is_some p.writer_waker)
+reader-goes (ReadPoint.WakeWriter next) p k sees busy = wake-goes p.known k next
+reader-goes ReadPoint.StoreClosed p k sees busy = record { sees = tt; ready = λ enough. tt; nearer = λ f most. record { from = most; steps = omega arith; calls = omega arith } }

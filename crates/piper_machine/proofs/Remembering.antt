@@ -1,28 +1,7 @@
 -- Each step keeps both sides remembered: its own side goes on from point to point, and the other is
 -- touched by it.
 use Rattle.std.proofs.Common.{◌≡◌, inl, inr, ℕ, List, [], ◌∷◌, ◌++◌, Bool, true, false, Option, None, Some, ◌==◌, refl, sym, ap, subst, slice_set}
-use Rattle.piper_protocol.specs.declared.table.Side.TheVariants.{Reader, Writer}
-use Rattle.piper_machine.specs.declared.calls.OpenCall.{OpenCall}
-use Rattle.piper_machine.specs.declared.calls.Call.{Call}
-use Rattle.piper_machine.specs.declared.calls.Call.TheVariants as call
-use Rattle.piper_machine.specs.declared.calls.Step.{Step}
-use Rattle.piper_machine.specs.declared.calls.Step.TheVariants.{Begin, Go, Put}
-use Rattle.piper_machine.specs.declared.events.Event.{Event}
-use Rattle.piper_machine.specs.declared.refusals.StepRefusal.{StepRefusal}
-use Rattle.piper_protocol.specs.declared.table.Action.{Action}
-use Rattle.piper_protocol.specs.declared.table.Action.TheVariants as does
-use Rattle.piper_machine.specs.declared.polling.Context.{Context}
-use Rattle.piper_machine.specs.declared.scripted.SourceAct.{SourceAct}
-use Rattle.piper_machine.specs.declared.scripted.SourceAct.TheVariants as source
-use Rattle.piper_protocol.specs.declared.table.Form.TheVariants.{Try, Polling}
-use Rattle.piper_protocol.specs.declared.table.Purpose.{Purpose}
-use Rattle.piper_protocol.specs.declared.table.Purpose.TheVariants as purpose
-use Rattle.piper_protocol.specs.declared.table.AfterRead.TheVariants as after_read
-use Rattle.piper_protocol.specs.declared.table.AfterWrite.TheVariants as after_write
-use Rattle.piper_protocol.specs.declared.table.ReadPoint.{ReadPoint}
-use Rattle.piper_protocol.specs.declared.table.ReadPoint.TheVariants as at
-use Rattle.piper_protocol.specs.declared.table.WritePoint.{WritePoint}
-use Rattle.piper_protocol.specs.declared.table.WritePoint.TheVariants as on
+use Rattle.piper_machine.specs.Types.{AfterRead, AfterWrite, OpenCall, Call, Step, Event, StepRefusal, Action, Context, SourceAct, Purpose, ReadPoint, WritePoint, Destination, Reader, Writer, Begin, Go, Put, Try, Polling, Slice, Acts}
 use Rattle.piper_machine.specs.Open.{called_with}
 use Rattle.piper_protocol.specs.Table.{read_action, write_action, reader_looks_for}
 use Rattle.piper_machine.specs.Pipe.{Pipe, fresh}
@@ -32,8 +11,6 @@ use Rattle.piper_machine.specs.Step.{stepped, went, offering}
 use Rattle.piper_machine.specs.Refusal.{reader_state, writer_state, cannot_begin, or_else, refusal_of}
 use Rattle.piper_machine.specs.Run.{Made}
 use Rattle.piper_machine.specs.Waiting.{IsBlocked, is_waking_reader, is_waking_writer}
-use Rattle.piper_machine.specs.declared.destination.Destination.{Destination}
-use Rattle.piper_machine.specs.declared.destination.Destination.TheVariants.{Slice, Acts}
 use Rattle.piper_machine.specs.Look.{context}
 use Rattle.piper_machine.specs.Lend.{lending}
 use Rattle.piper_machine.specs.Wait.{Wait, no_wait, handed_over, wait_from, wait_of}
@@ -50,40 +27,40 @@ pub record Keeps (p : Pipe) (reads writes : Wait) : Type 0 where
 -- a side's step leaves where the other is, and what its call holds
 
 pub reader_leaves : (action : Action) (p : Pipe) → let q = performed Reader action p in (q.writer ≡ p.writer) × (q.writer_call ≡ p.writer_call)
-reader_leaves (does.StoreClosed true) p = (refl, refl)
-reader_leaves (does.StoreClosed false) p = (refl, refl)
-reader_leaves (does.Take Reader) p = (refl, refl)
-reader_leaves (does.Take Writer) p = (refl, refl)
+reader_leaves (Action.StoreClosed true) p = (refl, refl)
+reader_leaves (Action.StoreClosed false) p = (refl, refl)
+reader_leaves (Action.Take Reader) p = (refl, refl)
+reader_leaves (Action.Take Writer) p = (refl, refl)
 reader_leaves action p = (refl, refl)
 
 pub writer_leaves : (action : Action) (p : Pipe) → let q = performed Writer action p in (q.reader ≡ p.reader) × (q.reader_call ≡ p.reader_call)
-writer_leaves (does.StoreClosed true) p = (refl, refl)
-writer_leaves (does.StoreClosed false) p = (refl, refl)
-writer_leaves (does.Take Reader) p = (refl, refl)
-writer_leaves (does.Take Writer) p = (refl, refl)
+writer_leaves (Action.StoreClosed true) p = (refl, refl)
+writer_leaves (Action.StoreClosed false) p = (refl, refl)
+writer_leaves (Action.Take Reader) p = (refl, refl)
+writer_leaves (Action.Take Writer) p = (refl, refl)
 writer_leaves action p = (refl, refl)
 
 -- a call is opened outside any other call of its side
 
-pub reader-idle : (point : ReadPoint) (more : Option StepRefusal) → or_else (cannot_begin (reader_state point)) more ≡ None → point ≡ at.Idle
-reader-idle at.Idle more accepted = refl
+pub reader-idle : (point : ReadPoint) (more : Option StepRefusal) → or_else (cannot_begin (reader_state point)) more ≡ None → point ≡ ReadPoint.Idle
+reader-idle ReadPoint.Idle more accepted = refl
 reader-idle point more accepted = absurd (cc)
 
-pub writer-idle : (point : WritePoint) (more : Option StepRefusal) → or_else (cannot_begin (writer_state point)) more ≡ None → point ≡ on.Idle
-writer-idle on.Idle more accepted = refl
+pub writer-idle : (point : WritePoint) (more : Option StepRefusal) → or_else (cannot_begin (writer_state point)) more ≡ None → point ≡ WritePoint.Idle
+writer-idle WritePoint.Idle more accepted = refl
 writer-idle point more accepted = absurd (cc)
 
 looks-away : (none : Bool) (l : Purpose) (c : OpenCall) → read_errand (reader_looks_for none l) c ≡ away
 looks-away true l c = refl
-looks-away false purpose.Poll c = refl
-looks-away false (purpose.Copy Try) c = refl
-looks-away false (purpose.Copy (Polling is_drawn)) c = refl
+looks-away false Purpose.Poll c = refl
+looks-away false (Purpose.Copy Try) c = refl
+looks-away false (Purpose.Copy (Polling is_drawn)) c = refl
 
 module _ (p : Pipe) (reads writes : Wait) (kept : Keeps p reads writes) where
   -- the reader opens a call: it goes to a point away from the writer's slot, and the writer does
   -- not notice
-  reader-opens : (point : ReadPoint) (c : OpenCall) (destination : Destination) (now : Wait) → p.reader ≡ at.Idle → read_errand point c ≡ away
-      → (ReadWaits (record p { reader = at.Idle }) (write_errand p.writer p.writer_call) reads → ReadWaits (record p { reader = point; reader_call = c; destination = destination }) (write_errand p.writer p.writer_call) now)
+  reader-opens : (point : ReadPoint) (c : OpenCall) (destination : Destination) (now : Wait) → p.reader ≡ ReadPoint.Idle → read_errand point c ≡ away
+      → (ReadWaits (record p { reader = ReadPoint.Idle }) (write_errand p.writer p.writer_call) reads → ReadWaits (record p { reader = point; reader_call = c; destination = destination }) (write_errand p.writer p.writer_call) now)
       → Keeps (record p { reader = point; reader_call = c; destination = destination }) now writes
   reader-opens point c destination now idle errand own = record {
     reader = own (subst (λ (point : ReadPoint). ReadWaits (record p { reader = point }) (write_errand p.writer p.writer_call) reads) idle kept.reader);
@@ -92,8 +69,8 @@ module _ (p : Pipe) (reads writes : Wait) (kept : Keeps p reads writes) where
   }
 
   -- the writer opens a call, or a byte is put, with these bytes in what is lent
-  writer-opens : (point : WritePoint) (c : OpenCall) (source : List SourceAct) (lent : List ℕ) (now : Wait) → p.writer ≡ on.Idle → write_errand point c ≡ away
-      → (WriteWaits (record p { writer = on.Idle }) (read_errand p.reader p.reader_call) writes → WriteWaits (record p { writer = point; writer_call = c; source = source; lent = lent }) (read_errand p.reader p.reader_call) now)
+  writer-opens : (point : WritePoint) (c : OpenCall) (source : List SourceAct) (lent : List ℕ) (now : Wait) → p.writer ≡ WritePoint.Idle → write_errand point c ≡ away
+      → (WriteWaits (record p { writer = WritePoint.Idle }) (read_errand p.reader p.reader_call) writes → WriteWaits (record p { writer = point; writer_call = c; source = source; lent = lent }) (read_errand p.reader p.reader_call) now)
       → Keeps (record p { writer = point; writer_call = c; source = source; lent = lent }) reads now
   writer-opens point c source lent now idle errand own = record {
     writer = own (subst (λ (point : WritePoint). WriteWaits (record p { writer = point }) (read_errand p.reader p.reader_call) writes) idle kept.writer);
@@ -101,22 +78,22 @@ module _ (p : Pipe) (reads writes : Wait) (kept : Keeps p reads writes) where
         (rests None (record { unread = refl; capacity = refl; closed = refl }) refl (ap (λ (point : WritePoint). write_errand point p.writer_call) idle) refl) kept.reader;
   }
 
-  lends : (lent : List ℕ) → p.writer ≡ on.Idle → Keeps (lending lent p) reads writes
+  lends : (lent : List ℕ) → p.writer ≡ WritePoint.Idle → Keeps (lending lent p) reads writes
   lends lent idle = subst (λ (point : WritePoint). Keeps (record p { writer = point; lent = lent }) reads writes) (sym idle)
-      (writer-opens on.Idle p.writer_call p.source lent writes idle refl (λ h. record { waiting = h.waiting; look = tt }))
+      (writer-opens WritePoint.Idle p.writer_call p.source lent writes idle refl (λ h. record { waiting = h.waiting; look = tt }))
 
-  reads_on : (point : ReadPoint) → p.reader ≡ at.Idle → read_errand point p.reader_call ≡ away
-      → (ReadWaits (record p { reader = at.Idle }) (write_errand p.writer p.writer_call) reads → ReadWaits (record p { reader = point }) (write_errand p.writer p.writer_call) reads)
+  reads_on : (point : ReadPoint) → p.reader ≡ ReadPoint.Idle → read_errand point p.reader_call ≡ away
+      → (ReadWaits (record p { reader = ReadPoint.Idle }) (write_errand p.writer p.writer_call) reads → ReadWaits (record p { reader = point }) (write_errand p.writer p.writer_call) reads)
       → Keeps (record p { reader = point }) reads writes
   reads_on point = reader-opens point p.reader_call p.destination reads
 
-  writes_on : (point : WritePoint) → p.writer ≡ on.Idle → write_errand point p.writer_call ≡ away
-      → (WriteWaits (record p { writer = on.Idle }) (read_errand p.reader p.reader_call) writes → WriteWaits (record p { writer = point }) (read_errand p.reader p.reader_call) writes)
+  writes_on : (point : WritePoint) → p.writer ≡ WritePoint.Idle → write_errand point p.writer_call ≡ away
+      → (WriteWaits (record p { writer = WritePoint.Idle }) (read_errand p.reader p.reader_call) writes → WriteWaits (record p { writer = point }) (read_errand p.reader p.reader_call) writes)
       → Keeps (record p { writer = point }) reads writes
   writes_on point = writer-opens point p.writer_call p.source p.lent writes
 
   -- a look with a waker; with none, the last polling call's wait goes on
-  reader-polls : (cx : Context) (l : Purpose) (destination : Destination) → let now = handed_over (Some cx.waker) reads in HasBegun l (Some cx) now → p.reader ≡ at.Idle
+  reader-polls : (cx : Context) (l : Purpose) (destination : Destination) → let now = handed_over (Some cx.waker) reads in HasBegun l (Some cx) now → p.reader ≡ ReadPoint.Idle
       → Keeps (record p { reader = reader_looks_for (p.known == 0) l; reader_call = called_with (Some cx); destination = destination }) now writes
   reader-polls cx l destination begun idle =
       let now = handed_over (Some cx.waker) reads in
@@ -124,39 +101,39 @@ module _ (p : Pipe) (reads writes : Wait) (kept : Keeps p reads writes) where
       reader-opens (reader_looks_for (p.known == 0) l) c destination now idle (looks-away (p.known == 0) l c)
       (λ h. looks_for (write_errand p.writer p.writer_call) now (p.known == 0) l (record p { reader_call = c; destination = destination }) (λ pending. absurd (cc)) begun)
 
-  reader-tries : (destination : Destination) → p.reader ≡ at.Idle
-      → Keeps (record p { reader = reader_looks_for (p.known == 0) (purpose.Copy Try); reader_call = called_with None; destination = destination }) reads writes
+  reader-tries : (destination : Destination) → p.reader ≡ ReadPoint.Idle
+      → Keeps (record p { reader = reader_looks_for (p.known == 0) (Purpose.Copy Try); reader_call = called_with None; destination = destination }) reads writes
   reader-tries destination idle =
       let c = called_with None in
-      reader-opens (reader_looks_for (p.known == 0) (purpose.Copy Try)) c destination reads idle (looks-away (p.known == 0) (purpose.Copy Try) c)
-      (λ h. looks_for (write_errand p.writer p.writer_call) reads (p.known == 0) (purpose.Copy Try) (record p { reader_call = c; destination = destination }) h.waiting tt)
+      reader-opens (reader_looks_for (p.known == 0) (Purpose.Copy Try)) c destination reads idle (looks-away (p.known == 0) (Purpose.Copy Try) c)
+      (λ h. looks_for (write_errand p.writer p.writer_call) reads (p.known == 0) (Purpose.Copy Try) (record p { reader_call = c; destination = destination }) h.waiting tt)
 
-  writer-polls : (cx : Context) (l : Purpose) (source : List SourceAct) → let now = handed_over (Some cx.waker) writes in HasBegun l (Some cx) now → p.writer ≡ on.Idle
-      → Keeps (record p { writer = on.LookClosed l; writer_call = called_with (Some cx); source = source }) reads now
+  writer-polls : (cx : Context) (l : Purpose) (source : List SourceAct) → let now = handed_over (Some cx.waker) writes in HasBegun l (Some cx) now → p.writer ≡ WritePoint.Idle
+      → Keeps (record p { writer = WritePoint.LookClosed l; writer_call = called_with (Some cx); source = source }) reads now
   writer-polls cx l source begun idle =
-      writer-opens (on.LookClosed l) (called_with (Some cx)) source p.lent (handed_over (Some cx.waker) writes) idle refl (λ h. record { waiting = λ pending. absurd (cc); look = begun })
+      writer-opens (WritePoint.LookClosed l) (called_with (Some cx)) source p.lent (handed_over (Some cx.waker) writes) idle refl (λ h. record { waiting = λ pending. absurd (cc); look = begun })
 
 begin-keeps : (lent : List ℕ) (c : Call) (p : Pipe) (reads writes : Wait) → refusal_of (Begin c) p ≡ None → Keeps p reads writes
     → let new = stepped lent (Begin c) p in Keeps new.pipe (wait_from Reader reads new.events) (wait_from Writer writes new.events)
-begin-keeps lent (call.Query Reader query) p reads writes accepted kept = reads_on p reads writes kept (at.QueryHead query) (reader-idle p.reader _ accepted) refl (λ h. record { waiting = h.waiting; look = tt })
-begin-keeps lent (call.IsClosed Reader) p reads writes accepted kept = reads_on p reads writes kept at.QueryClosed (reader-idle p.reader _ accepted) refl (λ h. record { waiting = h.waiting; look = tt })
-begin-keeps lent (call.Consume n) p reads writes accepted kept = reads_on p reads writes kept (at.StoreHead n after_read.Answer) (reader-idle p.reader _ accepted) refl (λ h. record { waiting = h.waiting; look = tt })
-begin-keeps lent (call.Drop Reader) p reads writes accepted kept = reads_on p reads writes kept at.StoreClosed (reader-idle p.reader _ accepted) refl (λ h. record { waiting = h.waiting; look = tt })
-begin-keeps lent (call.Poll Reader waker luck) p reads writes accepted kept = reader-polls p reads writes kept (context waker luck) purpose.Poll p.destination (refl, refl) (reader-idle p.reader _ accepted)
-begin-keeps lent (call.PollDrainBytes waker luck size) p reads writes accepted kept = reader-polls p reads writes kept (context waker luck) (purpose.Copy (Polling (luck.draw == 0))) (Slice size) (refl, refl) (reader-idle p.reader _ accepted)
-begin-keeps lent (call.PollDrain waker luck acts) p reads writes accepted kept = reader-polls p reads writes kept (context waker luck) (purpose.Copy (Polling (luck.draw == 0))) (Acts acts) (refl, refl) (reader-idle p.reader _ accepted)
-begin-keeps lent (call.TryDrain size) p reads writes accepted kept = reader-tries p reads writes kept (Slice size) (reader-idle p.reader _ accepted)
-begin-keeps lent (call.Query Writer query) p reads writes accepted kept = writes_on p reads writes kept (on.QueryHead query) (writer-idle p.writer _ accepted) refl (λ h. record { waiting = h.waiting; look = tt })
-begin-keeps lent (call.IsClosed Writer) p reads writes accepted kept = writes_on p reads writes kept on.QueryClosed (writer-idle p.writer _ accepted) refl (λ h. record { waiting = h.waiting; look = tt })
-begin-keeps lent (call.WriteBuf most) p reads writes accepted kept = lends p reads writes kept lent (writer-idle p.writer _ accepted)
-begin-keeps lent (call.Produced n) p reads writes accepted kept = writes_on p reads writes kept (on.StoreTail n after_write.Answer) (writer-idle p.writer _ accepted) refl (λ h. record { waiting = h.waiting; look = tt })
-begin-keeps lent call.Close p reads writes accepted kept = writes_on p reads writes kept (on.StoreClosed after_write.WakeWriter) (writer-idle p.writer _ accepted) refl (λ h. record { waiting = h.waiting; look = tt })
-begin-keeps lent (call.Drop Writer) p reads writes accepted kept = writes_on p reads writes kept (on.StoreClosed after_write.Drop) (writer-idle p.writer _ accepted) refl (λ h. record { waiting = h.waiting; look = tt })
-begin-keeps lent (call.Poll Writer waker luck) p reads writes accepted kept = writer-polls p reads writes kept (context waker luck) purpose.Poll p.source (refl, refl) (writer-idle p.writer _ accepted)
-begin-keeps lent (call.PollFillBytes waker luck bytes) p reads writes accepted kept = writer-polls p reads writes kept (context waker luck) (purpose.Copy (Polling (luck.draw == 0))) (source.Bytes bytes ∷ []) (refl, refl) (writer-idle p.writer _ accepted)
-begin-keeps lent (call.PollFill waker luck acts) p reads writes accepted kept = writer-polls p reads writes kept (context waker luck) (purpose.Copy (Polling (luck.draw == 0))) acts (refl, refl) (writer-idle p.writer _ accepted)
-begin-keeps lent (call.TryFill bytes) p reads writes accepted kept =
-    writer-opens p reads writes kept (on.LookClosed (purpose.Copy Try)) (called_with None) (source.Bytes bytes ∷ []) p.lent writes (writer-idle p.writer _ accepted) refl (λ h. record { waiting = h.waiting; look = tt })
+begin-keeps lent (Call.Query Reader query) p reads writes accepted kept = reads_on p reads writes kept (ReadPoint.QueryHead query) (reader-idle p.reader _ accepted) refl (λ h. record { waiting = h.waiting; look = tt })
+begin-keeps lent (Call.IsClosed Reader) p reads writes accepted kept = reads_on p reads writes kept ReadPoint.QueryClosed (reader-idle p.reader _ accepted) refl (λ h. record { waiting = h.waiting; look = tt })
+begin-keeps lent (Call.Consume n) p reads writes accepted kept = reads_on p reads writes kept (ReadPoint.StoreHead n AfterRead.Answer) (reader-idle p.reader _ accepted) refl (λ h. record { waiting = h.waiting; look = tt })
+begin-keeps lent (Call.Drop Reader) p reads writes accepted kept = reads_on p reads writes kept ReadPoint.StoreClosed (reader-idle p.reader _ accepted) refl (λ h. record { waiting = h.waiting; look = tt })
+begin-keeps lent (Call.Poll Reader waker luck) p reads writes accepted kept = reader-polls p reads writes kept (context waker luck) Purpose.Poll p.destination (refl, refl) (reader-idle p.reader _ accepted)
+begin-keeps lent (Call.PollDrainBytes waker luck size) p reads writes accepted kept = reader-polls p reads writes kept (context waker luck) (Purpose.Copy (Polling (luck.draw == 0))) (Slice size) (refl, refl) (reader-idle p.reader _ accepted)
+begin-keeps lent (Call.PollDrain waker luck acts) p reads writes accepted kept = reader-polls p reads writes kept (context waker luck) (Purpose.Copy (Polling (luck.draw == 0))) (Acts acts) (refl, refl) (reader-idle p.reader _ accepted)
+begin-keeps lent (Call.TryDrain size) p reads writes accepted kept = reader-tries p reads writes kept (Slice size) (reader-idle p.reader _ accepted)
+begin-keeps lent (Call.Query Writer query) p reads writes accepted kept = writes_on p reads writes kept (WritePoint.QueryHead query) (writer-idle p.writer _ accepted) refl (λ h. record { waiting = h.waiting; look = tt })
+begin-keeps lent (Call.IsClosed Writer) p reads writes accepted kept = writes_on p reads writes kept WritePoint.QueryClosed (writer-idle p.writer _ accepted) refl (λ h. record { waiting = h.waiting; look = tt })
+begin-keeps lent (Call.WriteBuf most) p reads writes accepted kept = lends p reads writes kept lent (writer-idle p.writer _ accepted)
+begin-keeps lent (Call.Produced n) p reads writes accepted kept = writes_on p reads writes kept (WritePoint.StoreTail n AfterWrite.Answer) (writer-idle p.writer _ accepted) refl (λ h. record { waiting = h.waiting; look = tt })
+begin-keeps lent Call.Close p reads writes accepted kept = writes_on p reads writes kept (WritePoint.StoreClosed AfterWrite.WakeWriter) (writer-idle p.writer _ accepted) refl (λ h. record { waiting = h.waiting; look = tt })
+begin-keeps lent (Call.Drop Writer) p reads writes accepted kept = writes_on p reads writes kept (WritePoint.StoreClosed AfterWrite.Drop) (writer-idle p.writer _ accepted) refl (λ h. record { waiting = h.waiting; look = tt })
+begin-keeps lent (Call.Poll Writer waker luck) p reads writes accepted kept = writer-polls p reads writes kept (context waker luck) Purpose.Poll p.source (refl, refl) (writer-idle p.writer _ accepted)
+begin-keeps lent (Call.PollFillBytes waker luck bytes) p reads writes accepted kept = writer-polls p reads writes kept (context waker luck) (Purpose.Copy (Polling (luck.draw == 0))) (SourceAct.Bytes bytes ∷ []) (refl, refl) (writer-idle p.writer _ accepted)
+begin-keeps lent (Call.PollFill waker luck acts) p reads writes accepted kept = writer-polls p reads writes kept (context waker luck) (Purpose.Copy (Polling (luck.draw == 0))) acts (refl, refl) (writer-idle p.writer _ accepted)
+begin-keeps lent (Call.TryFill bytes) p reads writes accepted kept =
+    writer-opens p reads writes kept (WritePoint.LookClosed (Purpose.Copy Try)) (called_with None) (SourceAct.Bytes bytes ∷ []) p.lent writes (writer-idle p.writer _ accepted) refl (λ h. record { waiting = h.waiting; look = tt })
 
 write_errand-same : (p q : Pipe) → q.writer ≡ p.writer → q.writer_call ≡ p.writer_call → write_errand p.writer p.writer_call ≡ write_errand q.writer q.writer_call
 write_errand-same p q point call = rw (point, call) refl
@@ -185,19 +162,19 @@ step-keeps lent (Put offset byte) p reads writes sound accepted kept = lends p r
 -- what that says of a side outside any call
 
 wakes-writer : (point : ReadPoint) (c : OpenCall) (taken : Option ℕ) → read_errand point c ≡ wakes taken → (is_waking_writer point ≡ true) × (c.taken ≡ taken)
-wakes-writer (at.WakeWriter next) c taken e = (refl, cc)
+wakes-writer (ReadPoint.WakeWriter next) c taken e = (refl, cc)
 wakes-writer point c taken e = absurd (cc)
 
 takes-writers : (point : ReadPoint) (c : OpenCall) → read_errand point c ≡ takes → is_waking_writer point ≡ true
-takes-writers (at.TakeWriter next) c e = refl
+takes-writers (ReadPoint.TakeWriter next) c e = refl
 takes-writers point c e = absurd (cc)
 
 wakes-reader : (point : WritePoint) (c : OpenCall) (taken : Option ℕ) → write_errand point c ≡ wakes taken → (is_waking_reader point ≡ true) × (c.taken ≡ taken)
-wakes-reader (on.WakeReader next) c taken e = (refl, cc)
+wakes-reader (WritePoint.WakeReader next) c taken e = (refl, cc)
 wakes-reader point c taken e = absurd (cc)
 
 takes-readers : (point : WritePoint) (c : OpenCall) → write_errand point c ≡ takes → is_waking_reader point ≡ true
-takes-readers (on.TakeReader next) c e = refl
+takes-readers (WritePoint.TakeReader next) c e = refl
 takes-readers point c e = absurd (cc)
 
 reader-remembered : (p : Pipe) (w : Wait) → Watched w p.reader_waker None (IsBlocked Reader p) (write_errand p.writer p.writer_call) → IsRemembered Reader p w

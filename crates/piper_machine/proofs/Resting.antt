@@ -1,13 +1,6 @@
 -- What remains of a call that a side between two calls has opened is the call run whole.
 use Rattle.std.proofs.Common.{◌≡◌, ℕ, List, [], ◌∷◌, false, None, Some, refl, sym, subst, ap, ◌∙◌}
-use Rattle.piper_protocol.specs.declared.table.Side.{Side}
-use Rattle.piper_protocol.specs.declared.table.Side.TheVariants.{Reader, Writer}
-use Rattle.piper_machine.specs.declared.polling.Context.{Context}
-use Rattle.piper_protocol.specs.declared.answer.Polled.{Polled}
-use Rattle.piper_protocol.specs.declared.answer.Polled.TheVariants.{Ready, Pending, Memory}
-use Rattle.piper_machine.specs.declared.scripted.DestAct.{DestAct}
-use Rattle.piper_machine.specs.declared.scripted.SourceAct.{SourceAct}
-use Rattle.piper_machine.specs.declared.destination.Destination.TheVariants.{Slice, Acts}
+use Rattle.piper_machine.specs.Types.{Side, Context, Polled, DestAct, SourceAct, Reader, Writer, Ready, Pending, Memory, Slice, Acts}
 use Rattle.piper_machine.specs.Pipe.{Pipe, begun}
 use Rattle.piper_machine.specs.Copy.{try_drain, try_fill, drain, fill}
 use Rattle.piper_machine.specs.Scripted.{drain_to, fill_from, bytes_given, ends_in_failure}

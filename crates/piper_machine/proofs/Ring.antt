@@ -38,9 +38,6 @@ module _ (xs : List ℕ) (k : ℕ) (ys : List ℕ) (fits : k + length ys ≤ len
       ∙ get_or-drop (k + length ys) xs (i - k - length ys) e
       ∙ ap (λ j. get_or xs j e) (omega arith)
 
-  pub get_or-written_inside : (i e : ℕ) → k ≤ i → i < k + length ys → get_or (written xs k ys) i e ≡ get_or ys (i - k) e
-  get_or-written_inside i e from to = get_or-append_right _ _ k i e (length-take-le k xs (omega arith)) from ∙ get_or_append_left _ _ e (i - k) (omega arith)
-
 module _ (c h d : ℕ) (xs : List ℕ) (long : length xs ≡ c) (start : h < c) where
   -- after its last byte are the next ones, up to the end of the buffer
   pub ring-longer : (n : ℕ) → d + n ≤ c → offset_of c (h + d) + n ≤ c → ring h (d + n) xs ≡ ring h d xs ++ take n (drop (offset_of c (h + d)) xs)
@@ -137,22 +134,4 @@ slice-set k l o xs b fits within =
     elim (cases_eq i o) [
       | inl same ↦ left ∙ get_or-set_at xs (k + o) (k + i) b e (omega arith) (omega arith) ∙ sym (get_or-set_at (take l (drop k xs)) o i b e same (omega arith))
       | inr other ↦ left ∙ get_or-set_other xs (k + o) (k + i) b e (λ h. other (omega arith)) ∙ sym (get_or-set_other (take l (drop k xs)) o i b e other ∙ right)
-    ])
-
--- bytes written into a slice
-pub slice-written : (k l o : ℕ) (xs ys : List ℕ) → k + l ≤ length xs → o + length ys ≤ l → take l (drop k (written xs (k + o) ys)) ≡ written (take l (drop k xs)) o ys
-slice-written k l o xs ys fits within =
-    let whole = length-written xs (k + o) ys (omega arith) in
-    let long : length (take l (drop k xs)) ≡ l = length-take-le l (drop k xs) (simp length-drop (omega arith)) in
-    let long_new : length (take l (drop k (written xs (k + o) ys))) ≡ l = length-take-le l (drop k (written xs (k + o) ys)) (simp length-drop (omega arith)) in
-    same_lists _ _ (long_new ∙ sym (length-written (take l (drop k xs)) o ys (omega arith) ∙ long)) (λ i e inside.
-    let below : i < l = omega (arith, long_new) in
-    let left = get_or-take l (drop k (written xs (k + o) ys)) i e below ∙ get_or-drop k (written xs (k + o) ys) i e in
-    let right = get_or-take l (drop k xs) i e below ∙ get_or-drop k xs i e in
-    elim (cases_lt i o) [
-      | inl before ↦ left ∙ get_or-written_outside xs (k + o) ys (omega arith) (k + i) e (inl (omega arith)) ∙ sym (get_or-written_outside (take l (drop k xs)) o ys (omega arith) i e (inl before) ∙ right)
-      | inr from ↦ elim (cases_lt i (o + length ys)) [
-        | inl inner ↦ left ∙ get_or-written_inside xs (k + o) ys (omega arith) (k + i) e (omega arith) (omega arith) ∙ ap (λ j. get_or ys j e) (omega arith) ∙ sym (get_or-written_inside (take l (drop k xs)) o ys (omega arith) i e from inner)
-        | inr past ↦ left ∙ get_or-written_outside xs (k + o) ys (omega arith) (k + i) e (inr (omega arith)) ∙ sym (get_or-written_outside (take l (drop k xs)) o ys (omega arith) i e (inr past) ∙ right)
-      ]
     ])

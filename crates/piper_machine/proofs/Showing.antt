@@ -1,18 +1,7 @@
 -- How what the log says of a side's calls grows with the log: the events that leave it, and those
 -- of the other side.
 use Rattle.std.proofs.Common.{◌≡◌, ℕ, ◌+◌, length, arith, List, [], ◌∷◌, ◌++◌, Bool, true, false, Option, None, Some, refl, sym, ap, subst, ◌∙◌}
-use Rattle.piper_protocol.specs.declared.table.Side.{Side}
-use Rattle.piper_protocol.specs.declared.table.Side.TheVariants.{Reader, Writer}
-use Rattle.piper_machine.specs.declared.calls.Call.{Call}
-use Rattle.piper_machine.specs.declared.calls.Call.TheVariants as call
-use Rattle.piper_protocol.specs.declared.answer.Answer.{Answer}
-use Rattle.piper_protocol.specs.declared.answer.Answer.TheVariants as answer
-use Rattle.piper_machine.specs.declared.events.Seen.{Seen}
-use Rattle.piper_protocol.specs.declared.answer.Polled.{Polled}
-use Rattle.piper_machine.specs.declared.events.Event.{Event}
-use Rattle.piper_machine.specs.declared.polling.Context.{Context}
-use Rattle.piper_protocol.specs.declared.table.Action.{Action}
-use Rattle.piper_protocol.specs.declared.table.Action.TheVariants as does
+use Rattle.piper_machine.specs.Types.{Side, Call, Answer, Seen, Polled, Event, Context, Action, Reader, Writer}
 use Rattle.piper_machine.specs.Log.{answer_event}
 use Rattle.piper_machine.specs.Pipe.{Pipe}
 use Rattle.piper_machine.specs.Action.{logged_of, registration_of, registration, wake_of, yield_of, woken_if}
@@ -64,26 +53,26 @@ module _ (capacity : ℕ) (t : Noted) where
 
   -- the steps of one side leave what the log says of the other
 
-  pub writer-logs : (action : Action) (p : Pipe) → ((n : ℕ) → action ≡ does.StoreHead n → ⊥) → Leaves capacity Reader t (logged_of Writer action p)
-  writer-logs does.Rest p never = (tt, refl)
-  writer-logs does.Register p never = registers-leaves Reader Writer p.writer_call.context
-  writer-logs (does.StoreHead n) p never = absurd (never n refl)
-  writer-logs (does.Take slot) p never = (tt, refl)
-  writer-logs does.Wake p never = wake-leaves Reader p.writer_call.taken
-  writer-logs does.Yield p never = yield-leaves Reader p.writer_call.context
-  writer-logs does.CallDestination p never = (tt, refl)
-  writer-logs does.CallSource p never = (tt, refl)
+  pub writer-logs : (action : Action) (p : Pipe) → ((n : ℕ) → action ≡ Action.StoreHead n → ⊥) → Leaves capacity Reader t (logged_of Writer action p)
+  writer-logs Action.Rest p never = (tt, refl)
+  writer-logs Action.Register p never = registers-leaves Reader Writer p.writer_call.context
+  writer-logs (Action.StoreHead n) p never = absurd (never n refl)
+  writer-logs (Action.Take slot) p never = (tt, refl)
+  writer-logs Action.Wake p never = wake-leaves Reader p.writer_call.taken
+  writer-logs Action.Yield p never = yield-leaves Reader p.writer_call.context
+  writer-logs Action.CallDestination p never = (tt, refl)
+  writer-logs Action.CallSource p never = (tt, refl)
   writer-logs action p never = ((tt, tt), refl)
 
-  pub reader-logs : (action : Action) (p : Pipe) → ((n : ℕ) → action ≡ does.StoreTail n → ⊥) → Leaves capacity Writer t (logged_of Reader action p)
-  reader-logs does.Rest p never = (tt, refl)
-  reader-logs does.Register p never = registers-leaves Writer Reader p.reader_call.context
-  reader-logs (does.StoreTail n) p never = absurd (never n refl)
-  reader-logs (does.Take slot) p never = (tt, refl)
-  reader-logs does.Wake p never = wake-leaves Writer p.reader_call.taken
-  reader-logs does.Yield p never = yield-leaves Writer p.reader_call.context
-  reader-logs does.CallDestination p never = (tt, refl)
-  reader-logs does.CallSource p never = (tt, refl)
+  pub reader-logs : (action : Action) (p : Pipe) → ((n : ℕ) → action ≡ Action.StoreTail n → ⊥) → Leaves capacity Writer t (logged_of Reader action p)
+  reader-logs Action.Rest p never = (tt, refl)
+  reader-logs Action.Register p never = registers-leaves Writer Reader p.reader_call.context
+  reader-logs (Action.StoreTail n) p never = absurd (never n refl)
+  reader-logs (Action.Take slot) p never = (tt, refl)
+  reader-logs Action.Wake p never = wake-leaves Writer p.reader_call.taken
+  reader-logs Action.Yield p never = yield-leaves Writer p.reader_call.context
+  reader-logs Action.CallDestination p never = (tt, refl)
+  reader-logs Action.CallSource p never = (tt, refl)
   reader-logs action p never = ((tt, tt), refl)
 
   pub writer_answer-leaves : (answer : Option Answer) → Leaves capacity Reader t (answer_event Writer answer)
@@ -110,17 +99,17 @@ coming-left : (capacity : ℕ) (side : Side) (t : Noted) (es : List Event) → L
 coming-left capacity side t es leaves = ap (λ (u : Noted). u.coming) leaves.1
 
 pub coming-kept : (side : Side) (action : Action) (p : Pipe) (t : Noted) → (noted_from side t (logged_of side action p)).coming ≡ t.coming
-coming-kept Reader does.Register p t = coming-left 0 Reader t (registration_of Reader p.reader_call.context) (registers-leaves 0 t Reader Reader p.reader_call.context)
-coming-kept Writer does.Register p t = coming-left 0 Writer t (registration_of Writer p.writer_call.context) (registers-leaves 0 t Writer Writer p.writer_call.context)
-coming-kept Reader does.Wake p t = coming-left 0 Reader t (wake_of p.reader_call.taken) (wake-leaves 0 t Reader p.reader_call.taken)
-coming-kept Writer does.Wake p t = coming-left 0 Writer t (wake_of p.writer_call.taken) (wake-leaves 0 t Writer p.writer_call.taken)
-coming-kept Reader does.Yield p t = coming-left 0 Reader t (yield_of p.reader_call.context) (yield-leaves 0 t Reader p.reader_call.context)
-coming-kept Writer does.Yield p t = coming-left 0 Writer t (yield_of p.writer_call.context) (yield-leaves 0 t Writer p.writer_call.context)
+coming-kept Reader Action.Register p t = coming-left 0 Reader t (registration_of Reader p.reader_call.context) (registers-leaves 0 t Reader Reader p.reader_call.context)
+coming-kept Writer Action.Register p t = coming-left 0 Writer t (registration_of Writer p.writer_call.context) (registers-leaves 0 t Writer Writer p.writer_call.context)
+coming-kept Reader Action.Wake p t = coming-left 0 Reader t (wake_of p.reader_call.taken) (wake-leaves 0 t Reader p.reader_call.taken)
+coming-kept Writer Action.Wake p t = coming-left 0 Writer t (wake_of p.writer_call.taken) (wake-leaves 0 t Writer p.writer_call.taken)
+coming-kept Reader Action.Yield p t = coming-left 0 Reader t (yield_of p.reader_call.context) (yield-leaves 0 t Reader p.reader_call.context)
+coming-kept Writer Action.Yield p t = coming-left 0 Writer t (yield_of p.writer_call.context) (yield-leaves 0 t Writer p.writer_call.context)
 coming-kept Reader action p t = refl
 coming-kept Writer action p t = refl
 
 abbrev pub IsPoll : Call → Type 0
-IsPoll (call.Poll side waker luck) = Unit {0}
+IsPoll (Call.Poll side waker luck) = Unit {0}
 IsPoll c = ⊥
 
 -- a poll is open
@@ -129,12 +118,12 @@ pub record Polls (t : Noted) : Type 0 where
   pub is : t.call ≡ Some poll
   pub polls : IsPoll poll
 
-poll-right : (capacity : ℕ) (c : Call) (polled : Polled Bool) (looks : List Seen) (moved : List ℕ) → IsPoll c → IsAnswer capacity c looks moved (answer.Poll polled)
-poll-right capacity (call.Poll side waker luck) polled looks moved polls = tt
+poll-right : (capacity : ℕ) (c : Call) (polled : Polled Bool) (looks : List Seen) (moved : List ℕ) → IsPoll c → IsAnswer capacity c looks moved (Answer.Poll polled)
+poll-right capacity (Call.Poll side waker luck) polled looks moved polls = tt
 poll-right capacity c polled looks moved polls = absurd polls
 
-pub poll-answers : (capacity : ℕ) (side : Side) (t : Noted) (polled : Polled Bool) → Polls t → AreRightFrom capacity side t (answer_event side (Some (answer.Poll polled)))
-poll-answers capacity side t polled asked = answers capacity t side asked.poll (answer.Poll polled) asked.is (poll-right capacity asked.poll polled t.looks t.moved asked.polls)
+pub poll-answers : (capacity : ℕ) (side : Side) (t : Noted) (polled : Polled Bool) → Polls t → AreRightFrom capacity side t (answer_event side (Some (Answer.Poll polled)))
+poll-answers capacity side t polled asked = answers capacity t side asked.poll (Answer.Poll polled) asked.is (poll-right capacity asked.poll polled t.looks t.moved asked.polls)
 
 -- a copy that has moved nothing
 pub none_moved : (moved : List ℕ) → length moved + 0 ≡ 0 → moved ≡ []

@@ -1,17 +1,15 @@
 -- What is left of a source that has given some bytes more.
 use Rattle.std.proofs.Common.{subst, ◌≡◌, ℕ, ◌+◌, ◌-◌, ◌<◌, ◌≤◌, List, [], ◌∷◌, length, take, drop, ◌++◌, min, refl, sym, ap, ◌∙◌, arith, length-drop}
 use Rattle.std.proofs.lemmas.List.{drop-drop, take-append-drop}
-use Rattle.piper_machine.specs.declared.scripted.SourceAct.{SourceAct}
-use Rattle.piper_machine.specs.declared.scripted.SourceAct.TheVariants as source
+use Rattle.piper_machine.specs.Types.{SourceAct, MOST_A_ROUND}
 use Rattle.piper_machine.specs.Source.{bytes_of, without}
 use Rattle.piper_machine.specs.Pipe.{Pipe}
-use Rattle.piper_protocol.specs.declared.table.TheConstants.{MOST_A_ROUND}
 use Rattle.piper_machine.specs.Lend.{Lendable, lending}
 use Rattle.piper_machine.specs.Places.{places_left}
 use Rattle.piper_machine.specs.Action.{source_called}
 use Rattle.piper_machine.specs.Round.{given, moved_by, unspent, left_of_source}
 
-unspent_some : (bytes : List ℕ) (acts : List SourceAct) → 1 ≤ length bytes → unspent bytes acts ≡ source.Bytes bytes ∷ acts
+unspent_some : (bytes : List ℕ) (acts : List SourceAct) → 1 ≤ length bytes → unspent bytes acts ≡ SourceAct.Bytes bytes ∷ acts
 unspent_some [] acts some = absurd (omega arith)
 unspent_some (byte ∷ bytes) acts some = refl
 
@@ -21,30 +19,30 @@ unspent_none (byte ∷ bytes) acts none = absurd (omega arith)
 
 pub without_none : (acts : List SourceAct) → without 0 acts ≡ acts
 without_none [] = refl
-without_none (source.Fail ∷ acts) = refl
-without_none (source.Bytes bytes ∷ acts) = refl
+without_none (SourceAct.Fail ∷ acts) = refl
+without_none (SourceAct.Bytes bytes ∷ acts) = refl
 
 -- a part of an act
 pub pass_within : (acts : List SourceAct) (before n : ℕ) → n < length (bytes_of acts) - before → without (before + n) acts ≡ left_of_source n (without before acts)
 pass_within [] before n within = absurd (omega arith)
-pass_within (source.Fail ∷ acts) before n within = absurd (omega arith)
-pass_within (source.Bytes bytes ∷ acts) before n within =
+pass_within (SourceAct.Fail ∷ acts) before n within = absurd (omega arith)
+pass_within (SourceAct.Bytes bytes ∷ acts) before n within =
     let all = drop-drop n before bytes in
     sym (ap (λ (xs : List ℕ). unspent xs acts) all ∙ unspent_some (drop (before + n) bytes) acts (simp length-drop (omega arith)))
 
 -- the rest of it
 pub pass_over : (acts : List SourceAct) (before n : ℕ) → length (bytes_of acts) ≤ before + n → without 0 (drop 1 acts) ≡ left_of_source n (without before acts)
 pass_over [] before n over = refl
-pass_over (source.Fail ∷ acts) before n over = without_none acts
-pass_over (source.Bytes bytes ∷ acts) before n over =
+pass_over (SourceAct.Fail ∷ acts) before n over = without_none acts
+pass_over (SourceAct.Bytes bytes ∷ acts) before n over =
     let all = drop-drop n before bytes in
     without_none acts ∙ sym (ap (λ (xs : List ℕ). unspent xs acts) all ∙ unspent_none (drop (before + n) bytes) acts (simp length-drop (omega arith)))
 
 -- how many bytes a call of the source moves, where it fails or not
 pub moved-given : (most : ℕ) (acts : List SourceAct) → moved_by (given most acts) ≡ min most (length (bytes_of acts))
 moved-given most [] = omega arith
-moved-given most (source.Fail ∷ acts) = omega arith
-moved-given most (source.Bytes bytes ∷ acts) = refl
+moved-given most (SourceAct.Fail ∷ acts) = omega arith
+moved-given most (SourceAct.Bytes bytes ∷ acts) = refl
 
 -- what the source gave is at the front of what it was lent
 pub source-called : (p q : Pipe) (n : ℕ) (held rest : List SourceAct) → q ≡ lending q.lent (record p { source = held }) → n ≡ min (length q.lent) (length (bytes_of p.source))

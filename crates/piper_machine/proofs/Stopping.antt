@@ -2,23 +2,7 @@
 -- pipe closed.
 use Rattle.std.proofs.Common.{◌≡◌, ℕ, ◌-◌, List, [], ◌∷◌, ◌++◌, length, Bool, true, false, Option, None, Some, ◌==◌, is_some, refl, sym, ap, subst, ◌∙◌}
 use Rattle.std.specs.Bool.{⊤}
-use Rattle.piper_protocol.specs.declared.table.Side.{Side}
-use Rattle.piper_protocol.specs.declared.table.Side.TheVariants.{Reader, Writer}
-use Rattle.piper_machine.specs.declared.calls.Call.{Call}
-use Rattle.piper_machine.specs.declared.calls.Call.TheVariants as call
-use Rattle.piper_machine.specs.declared.calls.Step.{Step}
-use Rattle.piper_machine.specs.declared.calls.Step.TheVariants.{Begin, Go, Put}
-use Rattle.piper_protocol.specs.declared.answer.Answer.{Answer}
-use Rattle.piper_machine.specs.declared.events.Event.{Event}
-use Rattle.piper_machine.specs.declared.events.Event.TheVariants.{Published}
-use Rattle.piper_machine.specs.declared.polling.Context.{Context}
-use Rattle.piper_protocol.specs.declared.table.Form.{Form}
-use Rattle.piper_protocol.specs.declared.table.Purpose.TheVariants as purpose
-use Rattle.piper_protocol.specs.declared.table.AfterWrite.TheVariants as after_write
-use Rattle.piper_protocol.specs.declared.table.ReadPoint.{ReadPoint}
-use Rattle.piper_protocol.specs.declared.table.ReadPoint.TheVariants as at
-use Rattle.piper_protocol.specs.declared.table.WritePoint.{WritePoint}
-use Rattle.piper_protocol.specs.declared.table.WritePoint.TheVariants as on
+use Rattle.piper_machine.specs.Types.{AfterWrite, Purpose, Side, Call, Step, Answer, Event, Context, Form, ReadPoint, WritePoint, Reader, Writer, Begin, Go, Put, Published}
 use Rattle.piper_machine.specs.Open.{is_granted}
 use Rattle.piper_protocol.specs.Table.{read_action, write_action, writer_is_open, writer_looked, writer_looked_again, writer_registered, writer_draws, writer_rounds, reader_taken, own_taken, write_done, write_after}
 use Rattle.piper_machine.specs.Log.{answer_event}
@@ -84,23 +68,23 @@ answer-quiet saw Writer (Some answer) = ((tt, tt), refl)
 
 -- the reader publishes nothing, and its looks are its own
 reader-quiet : (saw : Bool) (p : Pipe) (point : ReadPoint) → Quiet saw (logged_of Reader (read_action point) p)
-reader-quiet saw p at.Idle = (tt, refl)
-reader-quiet saw p at.Dropped = (tt, refl)
-reader-quiet saw p (at.LookRegister l) = context-quiet saw Reader p.reader_call.context
-reader-quiet saw p (at.LookTake l) = (tt, refl)
-reader-quiet saw p at.Yield = yield-quiet saw p.reader_call.context
-reader-quiet saw p (at.CallDestination form sum) = (tt, refl)
-reader-quiet saw p (at.TakeWriter next) = (tt, refl)
-reader-quiet saw p (at.WakeWriter next) = wake-quiet saw p.reader_call.taken
+reader-quiet saw p ReadPoint.Idle = (tt, refl)
+reader-quiet saw p ReadPoint.Dropped = (tt, refl)
+reader-quiet saw p (ReadPoint.LookRegister l) = context-quiet saw Reader p.reader_call.context
+reader-quiet saw p (ReadPoint.LookTake l) = (tt, refl)
+reader-quiet saw p ReadPoint.Yield = yield-quiet saw p.reader_call.context
+reader-quiet saw p (ReadPoint.CallDestination form sum) = (tt, refl)
+reader-quiet saw p (ReadPoint.TakeWriter next) = (tt, refl)
+reader-quiet saw p (ReadPoint.WakeWriter next) = wake-quiet saw p.reader_call.taken
 reader-quiet saw p point = ((tt, tt), refl)
 
 -- where the writer comes before a publication
 abbrev is_storing : WritePoint → Bool
-is_storing (on.StoreTail n next) = true
+is_storing (WritePoint.StoreTail n next) = true
 is_storing point = false
 
 unstored : (point : WritePoint) (saw : Bool) → is_ordinary point ≡ true → is_storing point ≡ true → saw ≡ false
-unstored (on.StoreTail n next) saw ordinary storing = absurd (cc)
+unstored (WritePoint.StoreTail n next) saw ordinary storing = absurd (cc)
 unstored point saw ordinary storing = absurd (cc)
 
 -- a round publishes only where its look at closed did not find it
@@ -116,29 +100,29 @@ StopsAt saw offered point p =
     StopsFrom saw (logged offered point p) × (is_storing (writer_after offered point p).writer ≡ true → saw_closed_from Writer saw (logged offered point p) ≡ false)
 
 writer-stops : (saw : Bool) (offered : List ℕ) (p : Pipe) (point : WritePoint) → (is_storing point ≡ true → saw ≡ false) → StopsAt saw offered point p
-writer-stops saw offered p on.Idle stores = (tt, λ storing. absurd (cc))
-writer-stops saw offered p on.Dropped stores = (tt, λ storing. absurd (cc))
-writer-stops saw offered p (on.LookClosed l) stores = ((tt, tt), unstored (writer_is_open p.is_closed (p.room == 0) l).point p.is_closed (open-ordinary p.is_closed (p.room == 0) l))
-writer-stops saw offered p (on.LookHead l) stores = ((tt, tt), unstored (writer_looked (p.capacity - length p.unread == 0) l) saw (looks-ordinary (p.capacity - length p.unread == 0) l))
-writer-stops saw offered p (on.LookRegister l) stores =
+writer-stops saw offered p WritePoint.Idle stores = (tt, λ storing. absurd (cc))
+writer-stops saw offered p WritePoint.Dropped stores = (tt, λ storing. absurd (cc))
+writer-stops saw offered p (WritePoint.LookClosed l) stores = ((tt, tt), unstored (writer_is_open p.is_closed (p.room == 0) l).point p.is_closed (open-ordinary p.is_closed (p.room == 0) l))
+writer-stops saw offered p (WritePoint.LookHead l) stores = ((tt, tt), unstored (writer_looked (p.capacity - length p.unread == 0) l) saw (looks-ordinary (p.capacity - length p.unread == 0) l))
+writer-stops saw offered p (WritePoint.LookRegister l) stores =
     ((context-quiet saw Writer p.writer_call.context).0, unstored (writer_registered (is_granted p.writer_call.context) l).point _ (registers-ordinary (is_granted p.writer_call.context) l))
-writer-stops saw offered p (on.LookHeadAgain l) stores = ((tt, tt), unstored (writer_looked_again (p.capacity - length p.unread == 0) l) saw (again-ordinary (p.capacity - length p.unread == 0) l))
-writer-stops saw offered p (on.LookTake purpose.Poll) stores = (tt, λ storing. absurd (cc))
-writer-stops saw offered p (on.LookTake (purpose.Copy form)) stores = (tt, unstored (writer_draws form) saw (draws-ordinary form))
-writer-stops saw offered p on.Yield stores = ((yield-quiet saw p.writer_call.context).0, λ storing. absurd (cc))
-writer-stops saw offered p (on.CallSource form sum) stores =
+writer-stops saw offered p (WritePoint.LookHeadAgain l) stores = ((tt, tt), unstored (writer_looked_again (p.capacity - length p.unread == 0) l) saw (again-ordinary (p.capacity - length p.unread == 0) l))
+writer-stops saw offered p (WritePoint.LookTake Purpose.Poll) stores = (tt, λ storing. absurd (cc))
+writer-stops saw offered p (WritePoint.LookTake (Purpose.Copy form)) stores = (tt, unstored (writer_draws form) saw (draws-ordinary form))
+writer-stops saw offered p WritePoint.Yield stores = ((yield-quiet saw p.writer_call.context).0, λ storing. absurd (cc))
+writer-stops saw offered p (WritePoint.CallSource form sum) stores =
     let found = found_of (given (length offered) p.source) in
-    (tt, unstored (write_after p.capacity p.room (on.CallSource form sum) found).point saw (round-ordinary (given (length offered) p.source) p.capacity p.room form sum))
-writer-stops saw offered p (on.RoundClosed n form sum) stores = ((tt, tt), round-stores p.is_closed n form sum)
-writer-stops saw offered p (on.StoreTail n next) stores = ((stores refl, tt), λ storing. absurd (cc))
-writer-stops saw offered p (on.TakeReader next) stores = (tt, unstored (reader_taken next (is_some p.reader_waker)).point saw (take-ordinary next (is_some p.reader_waker)))
-writer-stops saw offered p (on.WakeReader next) stores = ((wake-quiet saw p.writer_call.taken).0, unstored (write_done next).point _ (done-ordinary next))
-writer-stops saw offered p (on.StoreClosed after_write.Answer) stores = ((tt, tt), λ storing. absurd (cc))
-writer-stops saw offered p (on.StoreClosed after_write.Drop) stores = ((tt, tt), λ storing. absurd (cc))
-writer-stops saw offered p (on.StoreClosed after_write.WakeWriter) stores = ((tt, tt), λ storing. absurd (cc))
-writer-stops saw offered p (on.StoreClosed (after_write.Round form sum)) stores = ((tt, tt), λ storing. absurd (cc))
-writer-stops saw offered p on.TakeWriter stores = (tt, unstored (own_taken (is_some p.writer_waker)).point saw (own-ordinary (is_some p.writer_waker)))
-writer-stops saw offered p on.WakeWriter stores = ((wake-quiet saw p.writer_call.taken).0, λ storing. absurd (cc))
+    (tt, unstored (write_after p.capacity p.room (WritePoint.CallSource form sum) found).point saw (round-ordinary (given (length offered) p.source) p.capacity p.room form sum))
+writer-stops saw offered p (WritePoint.RoundClosed n form sum) stores = ((tt, tt), round-stores p.is_closed n form sum)
+writer-stops saw offered p (WritePoint.StoreTail n next) stores = ((stores refl, tt), λ storing. absurd (cc))
+writer-stops saw offered p (WritePoint.TakeReader next) stores = (tt, unstored (reader_taken next (is_some p.reader_waker)).point saw (take-ordinary next (is_some p.reader_waker)))
+writer-stops saw offered p (WritePoint.WakeReader next) stores = ((wake-quiet saw p.writer_call.taken).0, unstored (write_done next).point _ (done-ordinary next))
+writer-stops saw offered p (WritePoint.StoreClosed AfterWrite.Answer) stores = ((tt, tt), λ storing. absurd (cc))
+writer-stops saw offered p (WritePoint.StoreClosed AfterWrite.Drop) stores = ((tt, tt), λ storing. absurd (cc))
+writer-stops saw offered p (WritePoint.StoreClosed AfterWrite.WakeWriter) stores = ((tt, tt), λ storing. absurd (cc))
+writer-stops saw offered p (WritePoint.StoreClosed (AfterWrite.Round form sum)) stores = ((tt, tt), λ storing. absurd (cc))
+writer-stops saw offered p WritePoint.TakeWriter stores = (tt, unstored (own_taken (is_some p.writer_waker)).point saw (own-ordinary (is_some p.writer_waker)))
+writer-stops saw offered p WritePoint.WakeWriter stores = ((wake-quiet saw p.writer_call.taken).0, λ storing. absurd (cc))
 writer-stops saw offered p point stores = ((tt, tt), λ storing. absurd (cc))
 
 -- a call of the writer forgets what the one before it saw; one of the reader leaves the writer as
@@ -147,15 +131,15 @@ abbrev Adds : Bool → Stepped → Type 0
 Adds saw new = StopsFrom saw new.events × (is_storing new.pipe.writer ≡ true → saw_closed_from Writer saw new.events ≡ false)
 
 begin-stops : (lent : List ℕ) (c : Call) (p : Pipe) (saw : Bool) → (is_storing p.writer ≡ true → saw ≡ false) → Adds saw (stepped lent (Begin c) p)
-begin-stops lent (call.Query Reader query) p saw stores = ((tt, tt), stores)
-begin-stops lent (call.IsClosed Reader) p saw stores = ((tt, tt), stores)
-begin-stops lent (call.Poll Reader waker luck) p saw stores = ((tt, tt), stores)
-begin-stops lent (call.Drop Reader) p saw stores = ((tt, tt), stores)
-begin-stops lent (call.TryDrain size) p saw stores = ((tt, tt), stores)
-begin-stops lent (call.PollDrainBytes waker luck size) p saw stores = ((tt, tt), stores)
-begin-stops lent (call.PollDrain waker luck acts) p saw stores = ((tt, tt), stores)
-begin-stops lent (call.Consume n) p saw stores = ((tt, tt), stores)
-begin-stops lent (call.WriteBuf most) p saw stores = ((tt, (tt, tt)), λ storing. refl)
+begin-stops lent (Call.Query Reader query) p saw stores = ((tt, tt), stores)
+begin-stops lent (Call.IsClosed Reader) p saw stores = ((tt, tt), stores)
+begin-stops lent (Call.Poll Reader waker luck) p saw stores = ((tt, tt), stores)
+begin-stops lent (Call.Drop Reader) p saw stores = ((tt, tt), stores)
+begin-stops lent (Call.TryDrain size) p saw stores = ((tt, tt), stores)
+begin-stops lent (Call.PollDrainBytes waker luck size) p saw stores = ((tt, tt), stores)
+begin-stops lent (Call.PollDrain waker luck acts) p saw stores = ((tt, tt), stores)
+begin-stops lent (Call.Consume n) p saw stores = ((tt, tt), stores)
+begin-stops lent (Call.WriteBuf most) p saw stores = ((tt, (tt, tt)), λ storing. refl)
 begin-stops lent c p saw stores = ((tt, tt), λ storing. refl)
 
 step-stops : (lent : List ℕ) (s : Step) (p : Pipe) (saw : Bool) → (is_storing p.writer ≡ true → saw ≡ false) → Adds saw (stepped lent s p)

@@ -1,7 +1,6 @@
 -- Both sides can't be blocked, since the capacity is not 0.
 use Rattle.std.proofs.Common.{◌⊎◌, List, length, true≢false, sym, ap, ◌∙◌, inl, inr, arith}
-use Rattle.piper_protocol.specs.declared.table.Side.TheVariants.{Reader, Writer}
-use Rattle.piper_machine.specs.declared.events.Event.{Event}
+use Rattle.piper_machine.specs.Types.{Event, Reader, Writer}
 use Rattle.piper_machine.specs.Awake.{IsAwake}
 use Rattle.piper_machine.specs.Pipe.{Pipe}
 use Rattle.piper_machine.specs.Refusal.{IsIdle}

@@ -3,22 +3,7 @@
 use Rattle.std.proofs.Common.{◌≡◌, ℕ, List, [], ◌∷◌, ◌++◌, Bool, true, false, Option, None, Some, refl, sym, ap, ◌∙◌, arith}
 use Rattle.std.specs.Bool.{⊤}
 use Rattle.std.proofs.lemmas.Bool.Decides.{nat_tests}
-use Rattle.piper_protocol.specs.declared.table.Side.{Side}
-use Rattle.piper_protocol.specs.declared.table.Side.TheVariants.{Reader, Writer}
-use Rattle.piper_machine.specs.declared.calls.OpenCall.{OpenCall}
-use Rattle.piper_protocol.specs.declared.table.Query.{Query}
-use Rattle.piper_protocol.specs.declared.answer.Answer.{Answer}
-use Rattle.piper_machine.specs.declared.events.Event.{Event}
-use Rattle.piper_machine.specs.declared.polling.Context.{Context}
-use Rattle.piper_protocol.specs.declared.answer.Polled.TheVariants.{Memory}
-use Rattle.piper_protocol.specs.declared.table.Form.{Form}
-use Rattle.piper_protocol.specs.declared.table.Form.TheVariants.{Try, Polling}
-use Rattle.piper_protocol.specs.declared.table.Purpose.{Purpose}
-use Rattle.piper_protocol.specs.declared.table.Purpose.TheVariants as purpose
-use Rattle.piper_protocol.specs.declared.table.ReadPoint.{ReadPoint}
-use Rattle.piper_protocol.specs.declared.table.ReadPoint.TheVariants as at
-use Rattle.piper_protocol.specs.declared.table.WritePoint.{WritePoint}
-use Rattle.piper_protocol.specs.declared.table.WritePoint.TheVariants as on
+use Rattle.piper_machine.specs.Types.{Side, OpenCall, Query, Answer, Event, Context, Form, Purpose, ReadPoint, WritePoint, Reader, Writer, Memory, Try, Polling}
 use Rattle.piper_machine.specs.Log.{answer_event}
 use Rattle.piper_protocol.specs.Table.{query_answer, look_answer, count_answer}
 use Rattle.piper_machine.specs.Pipe.{Pipe}
@@ -36,14 +21,14 @@ pub data Errand : Type 0 where
 
 -- the reader's at the writer's slot
 abbrev pub read_errand : ReadPoint → OpenCall → Errand
-read_errand (at.TakeWriter next) c = takes
-read_errand (at.WakeWriter next) c = wakes c.taken
+read_errand (ReadPoint.TakeWriter next) c = takes
+read_errand (ReadPoint.WakeWriter next) c = wakes c.taken
 read_errand point c = away
 
 -- the writer's at the reader's slot
 abbrev pub write_errand : WritePoint → OpenCall → Errand
-write_errand (on.TakeReader next) c = takes
-write_errand (on.WakeReader next) c = wakes c.taken
+write_errand (WritePoint.TakeReader next) c = takes
+write_errand (WritePoint.WakeReader next) c = wakes c.taken
 write_errand point c = away
 
 -- of a side with this wait and slot, that holds what it took from its own slot: its waker was
@@ -167,15 +152,15 @@ IsHanded context w = (w.is_pending ≡ false) × HandedBy context w
 
 -- so did every look that registers
 abbrev pub HasBegun : Purpose → Option Context → Wait → Type 0
-HasBegun purpose.Poll context w = IsHanded context w
-HasBegun (purpose.Copy Try) context w = ⊤
-HasBegun (purpose.Copy (Polling is_drawn)) context w = IsHanded context w
+HasBegun Purpose.Poll context w = IsHanded context w
+HasBegun (Purpose.Copy Try) context w = ⊤
+HasBegun (Purpose.Copy (Polling is_drawn)) context w = IsHanded context w
 
 -- after its registration a look that can return pending is watched over
 abbrev pub Awaits : Purpose → Wait → Option ℕ → Type 0 → Errand → Type 0
-Awaits purpose.Poll w slot calm e = Watched w slot None calm e
-Awaits (purpose.Copy Try) w slot calm e = ⊤
-Awaits (purpose.Copy (Polling is_drawn)) w slot calm e = Watched w slot None calm e
+Awaits Purpose.Poll w slot calm e = Watched w slot None calm e
+Awaits (Purpose.Copy Try) w slot calm e = ⊤
+Awaits (Purpose.Copy (Polling is_drawn)) w slot calm e = Watched w slot None calm e
 
 handed_by-touched : {p q : Pipe} {slot slot_after : Option ℕ} {e e_after : Errand} {w v : Wait} (context : Option Context) → Touch p q slot slot_after e e_after w v → HandedBy context w → HandedBy context v
 handed_by-touched None t h = tt
@@ -185,36 +170,36 @@ pub handed-touched : {p q : Pipe} {slot slot_after : Option ℕ} {e e_after : Er
 handed-touched context t h = (touched-pending t ∙ h.0, handed_by-touched context t h.1)
 
 pub begun-touched : {p q : Pipe} {slot slot_after : Option ℕ} {e e_after : Errand} {w v : Wait} (l : Purpose) (context : Option Context) → Touch p q slot slot_after e e_after w v → HasBegun l context w → HasBegun l context v
-begun-touched purpose.Poll context t h = handed-touched context t h
-begun-touched (purpose.Copy Try) context t h = tt
-begun-touched (purpose.Copy (Polling is_drawn)) context t h = handed-touched context t h
+begun-touched Purpose.Poll context t h = handed-touched context t h
+begun-touched (Purpose.Copy Try) context t h = tt
+begun-touched (Purpose.Copy (Polling is_drawn)) context t h = handed-touched context t h
 
 pub awaits-touched : {p q : Pipe} {slot slot_after : Option ℕ} {e e_after : Errand} {w v : Wait} (l : Purpose) (calm calm_after : Type 0) → (Same p q → calm → calm_after)
     → Touch p q slot slot_after e e_after w v → Awaits l w slot calm e → Awaits l v slot_after calm_after e_after
-awaits-touched purpose.Poll calm calm_after keeps t h = touched calm calm_after keeps t h
-awaits-touched (purpose.Copy Try) calm calm_after keeps t h = tt
-awaits-touched (purpose.Copy (Polling is_drawn)) calm calm_after keeps t h = touched calm calm_after keeps t h
+awaits-touched Purpose.Poll calm calm_after keeps t h = touched calm calm_after keeps t h
+awaits-touched (Purpose.Copy Try) calm calm_after keeps t h = tt
+awaits-touched (Purpose.Copy (Polling is_drawn)) calm calm_after keeps t h = touched calm calm_after keeps t h
 
 pub awaits-more : (w : Wait) (slot : Option ℕ) (e : Errand) (l : Purpose) (calm calm_after : Type 0) → (calm → calm_after) → Awaits l w slot calm e → Awaits l w slot calm_after e
-awaits-more w slot e purpose.Poll calm calm_after keeps h = rewatch calm calm_after refl refl refl (λ a. a) keeps h
-awaits-more w slot e (purpose.Copy Try) calm calm_after keeps h = tt
-awaits-more w slot e (purpose.Copy (Polling is_drawn)) calm calm_after keeps h = rewatch calm calm_after refl refl refl (λ a. a) keeps h
+awaits-more w slot e Purpose.Poll calm calm_after keeps h = rewatch calm calm_after refl refl refl (λ a. a) keeps h
+awaits-more w slot e (Purpose.Copy Try) calm calm_after keeps h = tt
+awaits-more w slot e (Purpose.Copy (Polling is_drawn)) calm calm_after keeps h = rewatch calm calm_after refl refl refl (λ a. a) keeps h
 
 pub has_begun : (l : Purpose) (context : Option Context) (w : Wait) → IsHanded context w → HasBegun l context w
-has_begun purpose.Poll context w h = h
-has_begun (purpose.Copy Try) context w h = tt
-has_begun (purpose.Copy (Polling is_drawn)) context w h = h
+has_begun Purpose.Poll context w h = h
+has_begun (Purpose.Copy Try) context w h = tt
+has_begun (Purpose.Copy (Polling is_drawn)) context w h = h
 
 pub awaits : (l : Purpose) (w : Wait) (slot : Option ℕ) (calm : Type 0) (e : Errand) → Watched w slot None calm e → Awaits l w slot calm e
-awaits purpose.Poll w slot calm e h = h
-awaits (purpose.Copy Try) w slot calm e h = tt
-awaits (purpose.Copy (Polling is_drawn)) w slot calm e h = h
+awaits Purpose.Poll w slot calm e h = h
+awaits (Purpose.Copy Try) w slot calm e h = tt
+awaits (Purpose.Copy (Polling is_drawn)) w slot calm e h = h
 
 -- want of memory makes nobody wait
 pub refused-noted : (l : Purpose) (w : Wait) → noted (look_answer l Memory) w ≡ w
-refused-noted purpose.Poll w = refl
-refused-noted (purpose.Copy Try) w = refl
-refused-noted (purpose.Copy (Polling is_drawn)) w = refl
+refused-noted Purpose.Poll w = refl
+refused-noted (Purpose.Copy Try) w = refl
+refused-noted (Purpose.Copy (Polling is_drawn)) w = refl
 
 -- nor does a count, or a failure
 pub counted-noted : (form : Form) (sum : ℕ) (w : Wait) → noted (count_answer form sum) w ≡ w

@@ -1,18 +1,6 @@
 -- What remains of a call right after its opening is the call run whole.
 use Rattle.std.proofs.Common.{◌≡◌, ℕ, ◌+◌, ◌-◌, min, nat_lt, List, [], ◌∷◌, length, take, Bool, true, false, None, Some, ◌==◌, Result, Ok, refl, sym, ap, ◌∙◌, arith, append-nil}
-use Rattle.piper_protocol.specs.declared.table.Side.TheVariants.{Reader, Writer}
-use Rattle.piper_machine.specs.declared.polling.Context.{Context}
-use Rattle.piper_protocol.specs.declared.answer.Polled.{Polled}
-use Rattle.piper_protocol.specs.declared.answer.Polled.TheVariants.{Pending, Ready, Memory}
-use Rattle.piper_protocol.specs.declared.answer.Failed.{Failed}
-use Rattle.piper_machine.specs.declared.scripted.DestAct.{DestAct}
-use Rattle.piper_machine.specs.declared.scripted.SourceAct.{SourceAct}
-use Rattle.piper_machine.specs.declared.scripted.SourceAct.TheVariants as source
-use Rattle.piper_protocol.specs.declared.table.Form.TheVariants.{Try}
-use Rattle.piper_protocol.specs.declared.answer.Answer.TheVariants.{Count}
-use Rattle.piper_protocol.specs.declared.table.WritePoint.TheVariants as on
-use Rattle.piper_machine.specs.declared.destination.Destination.{Destination}
-use Rattle.piper_machine.specs.declared.destination.Destination.TheVariants.{Slice, Acts}
+use Rattle.piper_machine.specs.Types.{WritePoint, Context, Polled, Failed, DestAct, SourceAct, Destination, Reader, Writer, Pending, Ready, Memory, Try, Count, Slice, Acts}
 use Rattle.piper_machine.specs.Pipe.{Pipe, begun}
 use Rattle.piper_machine.specs.Look.{reader_look, writer_look}
 use Rattle.piper_machine.specs.Copy.{Copied, answered, filled, unlent, copied_after, drawn, drain_moves, fill_moves, try_drain, try_fill, drain, fill}
@@ -149,11 +137,11 @@ unfailing-source : (is_past : Bool) (n : ℕ) → source_answer is_past false n 
 unfailing-source true n = refl
 unfailing-source false n = refl
 
-pub given-slice : (bytes : List ℕ) → bytes_given (source.Bytes bytes ∷ []) ≡ bytes
+pub given-slice : (bytes : List ℕ) → bytes_given (SourceAct.Bytes bytes ∷ []) ≡ bytes
 given-slice [] = refl
 given-slice (byte ∷ bytes) = ap (λ (xs : List ℕ). byte ∷ xs) (append-nil bytes)
 
-pub failure-slice : (bytes : List ℕ) → ends_in_failure (source.Bytes bytes ∷ []) ≡ false
+pub failure-slice : (bytes : List ℕ) → ends_in_failure (SourceAct.Bytes bytes ∷ []) ≡ false
 failure-slice [] = refl
 failure-slice (byte ∷ bytes) = refl
 
@@ -178,8 +166,8 @@ module _ (acts : List SourceAct) (bytes : List ℕ) (gives : bytes_given acts �
   IsTryFilled p = alone_of Writer (fill_opened None acts (begun (resting Writer p))) ≡ counted_whole (try_fill bytes (resting Writer p))
 
   tried : (q : Pipe) → let moved = fill_moves_more 0 acts q in let n = min (length bytes) q.room in
-      writer_ended on.Idle (moved_answer Try moved.answer) moved.pipe ≡ writer_ended on.Idle (Count n) (filled (take n bytes) q)
-  tried q = ap (λ (m : Copied (Result ℕ Failed)). writer_ended on.Idle (moved_answer Try m.answer) m.pipe) (slice-moves q)
+      writer_ended WritePoint.Idle (moved_answer Try moved.answer) moved.pipe ≡ writer_ended WritePoint.Idle (Count n) (filled (take n bytes) q)
+  tried q = ap (λ (m : Copied (Result ℕ Failed)). writer_ended WritePoint.Idle (moved_answer Try m.answer) m.pipe) (slice-moves q)
 
   try_fills : (p : Pipe) (is_closed knows_none none : Bool) → p.is_closed ≡ is_closed → (p.room == 0) ≡ knows_none → (p.capacity - length p.unread == 0) ≡ none → IsTryFilled p
   try_fills p true knows_none none c r u = rw c refl

@@ -2,30 +2,10 @@
 use Rattle.std.proofs.Common.{◌≡◌, ℕ, ◌+◌, ◌*◌, ◌≤◌, List, [], ◌∷◌, ◌++◌, length, replicate, Bool, true, false, Option, None, Some, if◌then◌else◌, ◌==◌, nat_le, refl, sym, ap, ◌∙◌, subst, arith, append_assoc}
 use Rattle.std.proofs.lemmas.Bool.Decides.{nat_tests}
 use Rattle.std.proofs.lemmas.List.{length-replicate}
-use Rattle.piper_protocol.specs.declared.table.Side.{Side}
-use Rattle.piper_protocol.specs.declared.table.Side.TheVariants.{Reader, Writer}
-use Rattle.piper_machine.specs.declared.calls.SideState.TheVariants.{Busy}
-use Rattle.piper_machine.specs.declared.calls.Call.{Call}
-use Rattle.piper_machine.specs.declared.calls.Call.TheVariants as call
-use Rattle.piper_machine.specs.declared.calls.Step.TheVariants.{Begin, Go}
-use Rattle.piper_protocol.specs.declared.answer.Answer.{Answer}
-use Rattle.piper_protocol.specs.declared.answer.Answer.TheVariants.{Lent}
-use Rattle.piper_machine.specs.declared.events.Event.{Event}
-use Rattle.piper_machine.specs.declared.events.Event.TheVariants.{Began, Answered}
-use Rattle.piper_machine.specs.declared.refusals.StepRefusal.{StepRefusal}
+use Rattle.piper_machine.specs.Types.{SourceAct, Side, Call, Answer, Event, StepRefusal, Form, Purpose, ReadPoint, WritePoint, Reader, Writer, Busy, Begin, Go, Lent, Began, Answered, Try, Polling, Slice}
 use Rattle.piper_machine.specs.declared.refusals.StepRefusal.TheVariants.{BadDraw}
-use Rattle.piper_protocol.specs.declared.table.Form.TheVariants.{Try, Polling}
-use Rattle.piper_protocol.specs.declared.table.Form.{Form}
-use Rattle.piper_machine.specs.declared.scripted.SourceAct.TheVariants as source
 use Rattle.piper_machine.specs.Counts.{most_steps}
-use Rattle.piper_protocol.specs.declared.table.Purpose.{Purpose}
-use Rattle.piper_protocol.specs.declared.table.Purpose.TheVariants as purpose
-use Rattle.piper_protocol.specs.declared.table.ReadPoint.{ReadPoint}
-use Rattle.piper_protocol.specs.declared.table.ReadPoint.TheVariants as at
-use Rattle.piper_protocol.specs.declared.table.WritePoint.{WritePoint}
-use Rattle.piper_protocol.specs.declared.table.WritePoint.TheVariants as on
 use Rattle.piper_machine.specs.Open.{no_call}
-use Rattle.piper_machine.specs.declared.destination.Destination.TheVariants.{Slice}
 use Rattle.piper_machine.specs.declared.machine.Machine.TheInside.{Inside}
 use Rattle.piper_machine.specs.Machine.{pipe_of, IsMachine}
 use Rattle.piper_machine.proofs.Soundness.{sound}
@@ -47,15 +27,15 @@ use Rattle.piper_machine.proofs.Whole.{reader-polls, drain-slice, drain-acts, tr
 
 -- between two calls a side holds nothing of a call
 abbrev pub HoldsNothing : Side → Pipe → Type 0
-HoldsNothing Reader p = p.reader ≡ at.Idle → (p.reader_call ≡ no_call) × (p.destination ≡ Slice 0)
-HoldsNothing Writer p = p.writer ≡ on.Idle → (p.writer_call ≡ no_call) × (p.source ≡ [])
+HoldsNothing Reader p = p.reader ≡ ReadPoint.Idle → (p.reader_call ≡ no_call) × (p.destination ≡ Slice 0)
+HoldsNothing Writer p = p.writer ≡ WritePoint.Idle → (p.writer_call ≡ no_call) × (p.source ≡ [])
 
-reader-idle : (point : ReadPoint) → cannot_begin (reader_state point) ≡ None → point ≡ at.Idle
-reader-idle at.Idle none = refl
+reader-idle : (point : ReadPoint) → cannot_begin (reader_state point) ≡ None → point ≡ ReadPoint.Idle
+reader-idle ReadPoint.Idle none = refl
 reader-idle point none = absurd (cc)
 
-writer-idle : (point : WritePoint) → cannot_begin (writer_state point) ≡ None → point ≡ on.Idle
-writer-idle on.Idle none = refl
+writer-idle : (point : WritePoint) → cannot_begin (writer_state point) ≡ None → point ≡ WritePoint.Idle
+writer-idle WritePoint.Idle none = refl
 writer-idle point none = absurd (cc)
 
 idle-of : (side : Side) (p : Pipe) → cannot_begin (state_of side p) ≡ None → IsIdle side p
@@ -86,23 +66,23 @@ pub record IsOpened (c : Call) (lent others : List ℕ) (p : Pipe) : Type 0 wher
 
 looks-busy : (knows_none : Bool) (l : Purpose) → reader_state (reader_looks_for knows_none l) ≡ Busy
 looks-busy true l = refl
-looks-busy false purpose.Poll = refl
-looks-busy false (purpose.Copy Try) = refl
-looks-busy false (purpose.Copy (Polling drawn)) = refl
+looks-busy false Purpose.Poll = refl
+looks-busy false (Purpose.Copy Try) = refl
+looks-busy false (Purpose.Copy (Polling drawn)) = refl
 
 looks-store : (knows_none : Bool) (l : Purpose) → head_store (reader_looks_for knows_none l) ≡ 0
 looks-store true l = refl
-looks-store false purpose.Poll = refl
-looks-store false (purpose.Copy Try) = refl
-looks-store false (purpose.Copy (Polling drawn)) = refl
+looks-store false Purpose.Poll = refl
+looks-store false (Purpose.Copy Try) = refl
+looks-store false (Purpose.Copy (Polling drawn)) = refl
 
 -- the look of a drain, and its rounds
-looks-few : (knows_none : Bool) (form : Form) (unread known : ℕ) → (known == 0) ≡ knows_none → read_steps unread known (reader_looks_for knows_none (purpose.Copy form)) ≤ 6 + 4 * (if known == 0 then unread else known)
+looks-few : (knows_none : Bool) (form : Form) (unread known : ℕ) → (known == 0) ≡ knows_none → read_steps unread known (reader_looks_for knows_none (Purpose.Copy form)) ≤ 6 + 4 * (if known == 0 then unread else known)
 looks-few true form unread known test = let is = ap (λ (b : Bool). if b then unread else known) test in omega arith
 looks-few false Try unread known test = let is = ap (λ (b : Bool). if b then unread else known) test in omega arith
 looks-few false (Polling drawn) unread known test = let is = ap (λ (b : Bool). if b then unread else known) test in omega arith
 
-poll-few : (knows_none : Bool) (capacity known : ℕ) → read_steps capacity known (reader_looks_for knows_none purpose.Poll) ≤ 5
+poll-few : (knows_none : Bool) (capacity known : ℕ) → read_steps capacity known (reader_looks_for knows_none Purpose.Poll) ≤ 5
 poll-few true capacity known = omega arith
 poll-few false capacity known = omega arith
 
@@ -114,38 +94,38 @@ within-of : (n most : ℕ) → nat_le n most ≡ true → n ≤ most
 within-of n most test = grind (arith, nat_tests)
 
 is_lending : Call → Bool
-is_lending (call.WriteBuf most) = true
+is_lending (Call.WriteBuf most) = true
 is_lending c = false
 
 opens : (c : Call) (lent others : List ℕ) (r : Pipe) → is_lending c ≡ false → let p = resting (side_of c) r in IsSound p → past c p ≡ None → IsOpened c lent others p
 unfolding is_lending
-opens (call.Query Reader query) lent others r stepped sound fits = record { commutes = refl; at_once = refl; busy = refl; valid = record { unread = sound.unread; start = sound.start; known = sound.known; store = omega arith }; rest = refl; unwoken = refl; few = omega arith }
-opens (call.IsClosed Reader) lent others r stepped sound fits = record { commutes = refl; at_once = refl; busy = refl; valid = record { unread = sound.unread; start = sound.start; known = sound.known; store = omega arith }; rest = refl; unwoken = refl; few = omega arith }
-opens (call.Poll Reader waker luck) lent others r stepped sound fits =
-    let none = looks-store (r.known == 0) purpose.Poll in
-    record { commutes = refl; at_once = refl; busy = looks-busy (r.known == 0) purpose.Poll; valid = record { unread = sound.unread; start = sound.start; known = sound.known; store = omega arith }; rest = reader-polls (context waker luck) r; unwoken = refl; few = poll-few (r.known == 0) (length r.unread) r.known }
-opens (call.TryDrain size) lent others r stepped sound fits =
-    let none = looks-store (r.known == 0) (purpose.Copy Try) in
-    record { commutes = refl; at_once = refl; busy = looks-busy (r.known == 0) (purpose.Copy Try); valid = record { unread = sound.unread; start = sound.start; known = sound.known; store = omega arith }; rest = try_drain-whole size r; unwoken = refl; few = looks-few (r.known == 0) Try (length r.unread) r.known refl }
-opens (call.PollDrainBytes waker luck size) lent others r stepped sound fits =
-    let none = looks-store (r.known == 0) (purpose.Copy (Polling (luck.draw == 0))) in
-    record { commutes = refl; at_once = refl; busy = looks-busy (r.known == 0) (purpose.Copy (Polling (luck.draw == 0))); valid = record { unread = sound.unread; start = sound.start; known = sound.known; store = omega arith }; rest = drain-slice (context waker luck) size r; unwoken = refl; few = looks-few (r.known == 0) (Polling (luck.draw == 0)) (length r.unread) r.known refl }
-opens (call.PollDrain waker luck acts) lent others r stepped sound fits =
-    let none = looks-store (r.known == 0) (purpose.Copy (Polling (luck.draw == 0))) in
-    record { commutes = refl; at_once = refl; busy = looks-busy (r.known == 0) (purpose.Copy (Polling (luck.draw == 0))); valid = record { unread = sound.unread; start = sound.start; known = sound.known; store = omega arith }; rest = drain-acts (context waker luck) acts r; unwoken = refl; few = looks-few (r.known == 0) (Polling (luck.draw == 0)) (length r.unread) r.known refl }
-opens (call.Consume n) lent others r stepped sound fits =
+opens (Call.Query Reader query) lent others r stepped sound fits = record { commutes = refl; at_once = refl; busy = refl; valid = record { unread = sound.unread; start = sound.start; known = sound.known; store = omega arith }; rest = refl; unwoken = refl; few = omega arith }
+opens (Call.IsClosed Reader) lent others r stepped sound fits = record { commutes = refl; at_once = refl; busy = refl; valid = record { unread = sound.unread; start = sound.start; known = sound.known; store = omega arith }; rest = refl; unwoken = refl; few = omega arith }
+opens (Call.Poll Reader waker luck) lent others r stepped sound fits =
+    let none = looks-store (r.known == 0) Purpose.Poll in
+    record { commutes = refl; at_once = refl; busy = looks-busy (r.known == 0) Purpose.Poll; valid = record { unread = sound.unread; start = sound.start; known = sound.known; store = omega arith }; rest = reader-polls (context waker luck) r; unwoken = refl; few = poll-few (r.known == 0) (length r.unread) r.known }
+opens (Call.TryDrain size) lent others r stepped sound fits =
+    let none = looks-store (r.known == 0) (Purpose.Copy Try) in
+    record { commutes = refl; at_once = refl; busy = looks-busy (r.known == 0) (Purpose.Copy Try); valid = record { unread = sound.unread; start = sound.start; known = sound.known; store = omega arith }; rest = try_drain-whole size r; unwoken = refl; few = looks-few (r.known == 0) Try (length r.unread) r.known refl }
+opens (Call.PollDrainBytes waker luck size) lent others r stepped sound fits =
+    let none = looks-store (r.known == 0) (Purpose.Copy (Polling (luck.draw == 0))) in
+    record { commutes = refl; at_once = refl; busy = looks-busy (r.known == 0) (Purpose.Copy (Polling (luck.draw == 0))); valid = record { unread = sound.unread; start = sound.start; known = sound.known; store = omega arith }; rest = drain-slice (context waker luck) size r; unwoken = refl; few = looks-few (r.known == 0) (Polling (luck.draw == 0)) (length r.unread) r.known refl }
+opens (Call.PollDrain waker luck acts) lent others r stepped sound fits =
+    let none = looks-store (r.known == 0) (Purpose.Copy (Polling (luck.draw == 0))) in
+    record { commutes = refl; at_once = refl; busy = looks-busy (r.known == 0) (Purpose.Copy (Polling (luck.draw == 0))); valid = record { unread = sound.unread; start = sound.start; known = sound.known; store = omega arith }; rest = drain-acts (context waker luck) acts r; unwoken = refl; few = looks-few (r.known == 0) (Polling (luck.draw == 0)) (length r.unread) r.known refl }
+opens (Call.Consume n) lent others r stepped sound fits =
     let within = within-of n _ (test-holds _ _ fits) in
     record { commutes = refl; at_once = refl; busy = refl; valid = record { unread = sound.unread; start = sound.start; known = sound.known; store = within }; rest = refl; unwoken = refl; few = omega arith }
-opens (call.Drop Reader) lent others r stepped sound fits = record { commutes = refl; at_once = refl; busy = refl; valid = record { unread = sound.unread; start = sound.start; known = sound.known; store = omega arith }; rest = refl; unwoken = refl; few = omega arith }
-opens (call.WriteBuf most) lent others r stepped sound fits = absurd (cc)
-opens (call.Produced n) lent others r stepped sound fits =
+opens (Call.Drop Reader) lent others r stepped sound fits = record { commutes = refl; at_once = refl; busy = refl; valid = record { unread = sound.unread; start = sound.start; known = sound.known; store = omega arith }; rest = refl; unwoken = refl; few = omega arith }
+opens (Call.WriteBuf most) lent others r stepped sound fits = absurd (cc)
+opens (Call.Produced n) lent others r stepped sound fits =
     let within = within-of n _ (test-holds _ _ fits) in
     let room = sound.lent_room in
     record { commutes = refl; at_once = refl; busy = refl; valid = (record { unread = sound.unread; start = sound.start; room = sound.room; store = omega arith; shut = sound.closed; unclosed = λ saw. absurd (cc) }, refl); rest = refl; unwoken = refl; few = omega arith }
-opens (call.Poll Writer waker luck) lent others r stepped sound fits = record { commutes = refl; at_once = refl; busy = refl; valid = (record { unread = sound.unread; start = sound.start; room = sound.room; store = omega arith; shut = sound.closed; unclosed = λ saw. absurd (cc) }, refl); rest = writer-polls (context waker luck) r; unwoken = refl; few = omega arith }
-opens (call.TryFill bytes) lent others r stepped sound fits = record { commutes = refl; at_once = refl; busy = refl; valid = (record { unread = sound.unread; start = sound.start; room = sound.room; store = omega arith; shut = sound.closed; unclosed = λ saw. absurd (cc) }, refl); rest = try_fill-whole (source.Bytes bytes ∷ []) bytes (given-slice bytes) (failure-slice bytes) r; unwoken = refl; few = omega arith }
-opens (call.PollFillBytes waker luck bytes) lent others r stepped sound fits = record { commutes = refl; at_once = refl; busy = refl; valid = (record { unread = sound.unread; start = sound.start; room = sound.room; store = omega arith; shut = sound.closed; unclosed = λ saw. absurd (cc) }, refl); rest = fill-slice (source.Bytes bytes ∷ []) bytes (given-slice bytes) (failure-slice bytes) (context waker luck) r; unwoken = refl; few = omega arith }
-opens (call.PollFill waker luck acts) lent others r stepped sound fits = record { commutes = refl; at_once = refl; busy = refl; valid = (record { unread = sound.unread; start = sound.start; room = sound.room; store = omega arith; shut = sound.closed; unclosed = λ saw. absurd (cc) }, refl); rest = fill-acts (context waker luck) acts r; unwoken = refl; few = omega arith }
+opens (Call.Poll Writer waker luck) lent others r stepped sound fits = record { commutes = refl; at_once = refl; busy = refl; valid = (record { unread = sound.unread; start = sound.start; room = sound.room; store = omega arith; shut = sound.closed; unclosed = λ saw. absurd (cc) }, refl); rest = writer-polls (context waker luck) r; unwoken = refl; few = omega arith }
+opens (Call.TryFill bytes) lent others r stepped sound fits = record { commutes = refl; at_once = refl; busy = refl; valid = (record { unread = sound.unread; start = sound.start; room = sound.room; store = omega arith; shut = sound.closed; unclosed = λ saw. absurd (cc) }, refl); rest = try_fill-whole (SourceAct.Bytes bytes ∷ []) bytes (given-slice bytes) (failure-slice bytes) r; unwoken = refl; few = omega arith }
+opens (Call.PollFillBytes waker luck bytes) lent others r stepped sound fits = record { commutes = refl; at_once = refl; busy = refl; valid = (record { unread = sound.unread; start = sound.start; room = sound.room; store = omega arith; shut = sound.closed; unclosed = λ saw. absurd (cc) }, refl); rest = fill-slice (SourceAct.Bytes bytes ∷ []) bytes (given-slice bytes) (failure-slice bytes) (context waker luck) r; unwoken = refl; few = omega arith }
+opens (Call.PollFill waker luck acts) lent others r stepped sound fits = record { commutes = refl; at_once = refl; busy = refl; valid = (record { unread = sound.unread; start = sound.start; room = sound.room; store = omega arith; shut = sound.closed; unclosed = λ saw. absurd (cc) }, refl); rest = fill-acts (context waker luck) acts r; unwoken = refl; few = omega arith }
 opens c lent others r stepped sound fits = record { commutes = refl; at_once = refl; busy = refl; valid = (record { unread = sound.unread; start = sound.start; room = sound.room; store = omega arith; shut = sound.closed; unclosed = λ saw. absurd (cc) }, refl); rest = refl; unwoken = refl; few = omega arith }
 
 or_else-second : (first second : Option StepRefusal) → or_else first second ≡ None → second ≡ None
@@ -172,7 +152,7 @@ is-opened c lent others p stepped sound holds accepted =
 -- a call that is not refused can be opened
 opens-plain : (c : Call) (p : Pipe) (before : List Event) → is_lending c ≡ false → refusal_of (Begin c) p ≡ None → (q : Pipe) × (after : List Event) × Made p (Begin c) q before after
 unfolding is_lending
-opens-plain (call.WriteBuf most) p before stepped accepted = absurd (cc)
+opens-plain (Call.WriteBuf most) p before stepped accepted = absurd (cc)
 opens-plain c p before stepped accepted = (opened [] c p, before ++ (began [] c p).events, record { accepted = accepted; made = record { lent = tt; pipe = refl; events = refl } })
 
 makes : (c : Call) (p : Pipe) → is_lending c ≡ false → IsSound p → HoldsNothing (side_of c) p → IsWholeBySteps c p
@@ -217,23 +197,23 @@ pub record IsPlainOpened (c : Call) (p q : Pipe) : Type 0 where
   pub wakes : length q.woken + wakes_of (side_of c) q ≤ 2
   pub rest : alone_of (side_of c) q ≡ whole [] c p
 
-polls-plain : (knows_none : Bool) → (is_draining (reader_looks_for knows_none purpose.Poll) ≡ false) × (read_wakes (reader_looks_for knows_none purpose.Poll) ≡ 0)
+polls-plain : (knows_none : Bool) → (is_draining (reader_looks_for knows_none Purpose.Poll) ≡ false) × (read_wakes (reader_looks_for knows_none Purpose.Poll) ≡ 0)
 polls-plain true = (refl, refl)
 polls-plain false = (refl, refl)
 
 is-plain : (c : Call) (lent : List ℕ) (p : Pipe) → is_plain c ≡ true → let q = opened lent c p in (is_lending c ≡ false) × (is_copying (side_of c) q ≡ false) × (wakes_of (side_of c) q ≤ 2)
 unfolding is_lending
-is-plain (call.Query Reader query) lent p plain = (refl, refl, omega arith)
-is-plain (call.IsClosed Reader) lent p plain = (refl, refl, omega arith)
-is-plain (call.Poll Reader waker luck) lent p plain = let polls = polls-plain (p.known == 0) in let none = polls.1 in (refl, polls.0, omega arith)
-is-plain (call.Drop Reader) lent p plain = (refl, refl, omega arith)
-is-plain (call.TryDrain size) lent p plain = absurd (cc)
-is-plain (call.PollDrainBytes waker luck size) lent p plain = absurd (cc)
-is-plain (call.PollDrain waker luck acts) lent p plain = absurd (cc)
-is-plain (call.TryFill bytes) lent p plain = absurd (cc)
-is-plain (call.PollFillBytes waker luck bytes) lent p plain = absurd (cc)
-is-plain (call.PollFill waker luck acts) lent p plain = absurd (cc)
-is-plain (call.WriteBuf most) lent p plain = absurd (cc)
+is-plain (Call.Query Reader query) lent p plain = (refl, refl, omega arith)
+is-plain (Call.IsClosed Reader) lent p plain = (refl, refl, omega arith)
+is-plain (Call.Poll Reader waker luck) lent p plain = let polls = polls-plain (p.known == 0) in let none = polls.1 in (refl, polls.0, omega arith)
+is-plain (Call.Drop Reader) lent p plain = (refl, refl, omega arith)
+is-plain (Call.TryDrain size) lent p plain = absurd (cc)
+is-plain (Call.PollDrainBytes waker luck size) lent p plain = absurd (cc)
+is-plain (Call.PollDrain waker luck acts) lent p plain = absurd (cc)
+is-plain (Call.TryFill bytes) lent p plain = absurd (cc)
+is-plain (Call.PollFillBytes waker luck bytes) lent p plain = absurd (cc)
+is-plain (Call.PollFill waker luck acts) lent p plain = absurd (cc)
+is-plain (Call.WriteBuf most) lent p plain = absurd (cc)
 is-plain c lent p plain = (refl, refl, omega arith)
 
 pub plain-opens : (c : Call) (p b q : Pipe) → is_plain c ≡ true → IsSound p → p ≡ resting (side_of c) p → past c p ≡ None → b ≡ begun p → q ≡ opened q.lent c b → IsPlainOpened c p q
@@ -249,24 +229,24 @@ plain-opens c p b q plain sound is fits begins opens_it =
     subst (λ (v : Pipe). IsPlainOpened c p v) (sym same) (record { busy = opening.busy; moves = plainly.1; wakes = omega arith; rest = opening.rest })
 
 -- a call of write_buf has no step
-lends : (most : ℕ) (p : Pipe) → IsSound p → IsWholeBySteps (call.WriteBuf most) p
+lends : (most : ℕ) (p : Pipe) → IsSound p → IsWholeBySteps (Call.WriteBuf most) p
 lends most p sound = record {
   opens = λ accepted before.
       let can = lends-some most p sound.unread sound.start in
       let lent = replicate can.count 0 in
       let may = subst (λ (n : ℕ). Lendable most p n) (sym (length-replicate can.count 0)) can.may in
-      (lending lent p, before ++ (began lent (call.WriteBuf most) p).events, record { accepted = accepted; made = record { lent = may; pipe = refl; events = refl } });
+      (lending lent p, before ++ (began lent (Call.WriteBuf most) p).events, record { accepted = accepted; made = record { lent = may; pipe = refl; events = refl } });
   ends = λ k q before after run.
       let mid = run.0 in
-      let idle = ap (λ (r : Pipe). r.writer) run.2.made.pipe ∙ writer-idle p.writer (begins-idle (call.WriteBuf most) p run.2.accepted) in
+      let idle = ap (λ (r : Pipe). r.writer) run.2.made.pipe ∙ writer-idle p.writer (begins-idle (Call.WriteBuf most) p run.2.accepted) in
       let over = no_more k Writer mid q run.1 after (subst (λ (point : WritePoint). cannot_go (writer_state point) ≡ None → ⊥) (sym idle) (λ none. absurd (cc))) run.3 in
       let rests = ap (λ (r : Pipe). r.writer) over.1 ∙ idle in
       record { steps = 0; pipe = q; after = after; runs = (refl, refl); returned = subst (λ (point : WritePoint). writer_state point ≡ Busy → ⊥) (sym rests) (λ busy. absurd (cc)) };
   made = λ k q before after run ends.
       let mid = run.0 in
       let made = run.2.made in
-      let began = Began Writer (kind_of (call.WriteBuf most)) None in
-      let idle = ap (λ (r : Pipe). r.writer) made.pipe ∙ writer-idle p.writer (begins-idle (call.WriteBuf most) p run.2.accepted) in
+      let began = Began Writer (kind_of (Call.WriteBuf most)) None in
+      let idle = ap (λ (r : Pipe). r.writer) made.pipe ∙ writer-idle p.writer (begins-idle (Call.WriteBuf most) p run.2.accepted) in
       let over = no_more k Writer mid q run.1 after (subst (λ (point : WritePoint). cannot_go (writer_state point) ≡ None → ⊥) (sym idle) (λ none. absurd (cc))) run.3 in
       let last = over.0 in (
         omega arith,
@@ -281,7 +261,7 @@ lends most p sound = record {
 
 pub whole-by_steps : (c : Call) (p : Pipe) → IsSound p → HoldsNothing (side_of c) p → IsWholeBySteps c p
 unfolding is_lending
-whole-by_steps (call.WriteBuf most) p sound holds = lends most p sound
+whole-by_steps (Call.WriteBuf most) p sound holds = lends most p sound
 whole-by_steps c p sound holds = makes c p refl sound holds
 
 module _ (m : Inside) (i : IsMachine m) where

@@ -1,34 +1,11 @@
 -- What the log says of the writer's open call at each point, and that its steps keep this and give
 -- right answers.
-use Rattle.std.specs.Prelude.{IsSomeAnd}
-use Rattle.std.proofs.Common.{◌≡◌, ℕ, ◌+◌, ◌-◌, ◌≤◌, min, List, [], ◌∷◌, ◌++◌, take, drop, length, Bool, true, false, Option, None, Some, ◌==◌, is_some, refl, sym, ap, subst, ◌∙◌, arith, append_assoc, append-nil, length-append, length-take-le, take-append-drop, take_all}
+use Rattle.std.proofs.Common.{◌≡◌, ℕ, ◌+◌, ◌-◌, ◌≤◌, min, List, [], ◌∷◌, ◌++◌, take, drop, length, Bool, true, false, Option, None, Some, ◌==◌, is_some, refl, sym, ap, subst, ◌∙◌, arith, append_assoc, append-nil, length-append, length-take-le, take-append-drop, take_all, IsSomeAnd}
 use Rattle.std.proofs.lemmas.List.{take-append-le}
 use Rattle.std.proofs.lemmas.Bool.Decides.{nat_tests}
-use Rattle.piper_protocol.specs.declared.table.Side.TheVariants.{Writer}
-use Rattle.piper_machine.specs.declared.calls.Call.{Call}
-use Rattle.piper_machine.specs.declared.calls.Call.TheVariants as call
-use Rattle.piper_protocol.specs.declared.answer.Answer.{Answer}
-use Rattle.piper_protocol.specs.declared.answer.Answer.TheVariants as answer
-use Rattle.piper_machine.specs.declared.events.Event.{Event}
-use Rattle.piper_machine.specs.declared.events.Event.TheVariants.{Looked}
-use Rattle.piper_machine.specs.declared.events.Seen.{Seen}
-use Rattle.piper_machine.specs.declared.events.Seen.TheVariants as seen
-use Rattle.piper_protocol.specs.declared.answer.Polled.{Polled}
-use Rattle.piper_protocol.specs.declared.answer.Polled.TheVariants.{Ready, Pending, Memory}
-use Rattle.piper_machine.specs.declared.scripted.SourceAct.{SourceAct}
-use Rattle.piper_machine.specs.declared.scripted.SourceAct.TheVariants as source
-use Rattle.piper_protocol.specs.declared.table.Form.{Form}
-use Rattle.piper_protocol.specs.declared.table.Form.TheVariants.{Try, Polling}
-use Rattle.piper_protocol.specs.declared.table.Purpose.{Purpose}
-use Rattle.piper_protocol.specs.declared.table.Purpose.TheVariants as purpose
-use Rattle.piper_protocol.specs.declared.table.Action.TheVariants as does
-use Rattle.piper_protocol.specs.declared.table.AfterWrite.{AfterWrite}
-use Rattle.piper_protocol.specs.declared.table.AfterWrite.TheVariants as after_read
-use Rattle.piper_protocol.specs.declared.table.WritePoint.{WritePoint}
-use Rattle.piper_protocol.specs.declared.table.WritePoint.TheVariants as at
+use Rattle.piper_machine.specs.Types.{Action, Call, Answer, Event, Seen, Polled, SourceAct, Form, Purpose, AfterWrite, WritePoint, Writer, Looked, Ready, Pending, Memory, Try, Polling, Nothing as nothing, Granted as granted}
 use Rattle.piper_machine.specs.Open.{is_granted, is_yield_granted}
 use Rattle.piper_protocol.specs.Table.{Next, copy_answer, count_answer, end_or_pending, failed_answer, look_answer, own_taken, query_answer, reader_taken, tail_store, write_after, write_done, writer_found, writer_is_open, writer_is_true, writer_looked, writer_looked_again, writer_moved, writer_registered, writer_rounds, yield_answer}
-use Rattle.piper_protocol.specs.declared.table.Found.TheVariants.{Nothing as nothing, Granted as granted}
 use Rattle.piper_machine.specs.Log.{answer_event}
 use Rattle.piper_machine.specs.Pipe.{Pipe}
 use Rattle.piper_machine.specs.Round.{given, found_of, moved_by, unspent, left_of_source}
@@ -44,14 +21,14 @@ use Rattle.piper_machine.proofs.Showing.{noted-append, right-append, registers-l
 
 -- a fill of this form that was handed these bytes, and whether its source fails after them
 abbrev pub IsFill : Form → Call → List ℕ → Bool → Type 0
-IsFill Try (call.TryFill bytes) handed fails = (handed ≡ bytes) × (fails ≡ false)
-IsFill (Polling is_drawn) (call.PollFillBytes waker luck bytes) handed fails = (handed ≡ bytes) × (fails ≡ false)
-IsFill (Polling is_drawn) (call.PollFill waker luck acts) handed fails = (handed ≡ bytes_given acts) × (fails ≡ ends_in_failure acts)
+IsFill Try (Call.TryFill bytes) handed fails = (handed ≡ bytes) × (fails ≡ false)
+IsFill (Polling is_drawn) (Call.PollFillBytes waker luck bytes) handed fails = (handed ≡ bytes) × (fails ≡ false)
+IsFill (Polling is_drawn) (Call.PollFill waker luck acts) handed fails = (handed ≡ bytes_given acts) × (fails ≡ ends_in_failure acts)
 IsFill form c handed fails = ⊥
 
 -- the first look of a fill that goes on
 abbrev pub found_open : Option Seen
-found_open = Some (seen.Closed false)
+found_open = Some (Seen.Closed false)
 
 -- the source of the fill has given so many bytes, of which these last ones are not published yet
 pub record Fills (first : Option Seen) (form : Form) (held : List SourceAct) (last : List ℕ) (sum : ℕ) (t : Noted) : Type 0 where
@@ -62,46 +39,46 @@ pub record Fills (first : Option Seen) (form : Form) (held : List SourceAct) (la
   pub found : first_look t.looks ≡ first
 
 abbrev pub WriterLooks : Option Seen → Purpose → List SourceAct → Noted → Type 0
-WriterLooks first purpose.Poll held t = Polls t
-WriterLooks first (purpose.Copy form) held t = Fills first form held [] 0 t
+WriterLooks first Purpose.Poll held t = Polls t
+WriterLooks first (Purpose.Copy form) held t = Fills first form held [] 0 t
 
 abbrev pub WriterAfter : AfterWrite → List SourceAct → Noted → Type 0
-WriterAfter after_read.Answer held t = t.call ≡ Some (call.Produced (length t.moved))
-WriterAfter after_read.Drop held t = t.call ≡ Some (call.Drop Writer)
-WriterAfter after_read.WakeWriter held t = t.call ≡ Some call.Close
-WriterAfter (after_read.Round form sum) held t = Fills found_open form held [] sum t
+WriterAfter AfterWrite.Answer held t = t.call ≡ Some (Call.Produced (length t.moved))
+WriterAfter AfterWrite.Drop held t = t.call ≡ Some (Call.Drop Writer)
+WriterAfter AfterWrite.WakeWriter held t = t.call ≡ Some Call.Close
+WriterAfter (AfterWrite.Round form sum) held t = Fills found_open form held [] sum t
 
 abbrev pub WriterStores : ℕ → AfterWrite → List SourceAct → List ℕ → Noted → Type 0
-WriterStores n after_read.Answer held lent t = (t.call ≡ Some (call.Produced n)) × (t.moved ≡ [])
-WriterStores n (after_read.Round form sum) held lent t = Fills found_open form held (take n lent) sum t
+WriterStores n AfterWrite.Answer held lent t = (t.call ≡ Some (Call.Produced n)) × (t.moved ≡ [])
+WriterStores n (AfterWrite.Round form sum) held lent t = Fills found_open form held (take n lent) sum t
 WriterStores n next held lent t = ⊥
 
 abbrev pub WriterCloses : AfterWrite → Noted → Type 0
-WriterCloses after_read.Drop t = t.call ≡ Some (call.Drop Writer)
-WriterCloses after_read.WakeWriter t = t.call ≡ Some call.Close
+WriterCloses AfterWrite.Drop t = t.call ≡ Some (Call.Drop Writer)
+WriterCloses AfterWrite.WakeWriter t = t.call ≡ Some Call.Close
 WriterCloses next t = ⊥
 
 abbrev pub WriterAt : ℕ → WritePoint → List SourceAct → List ℕ → Noted → Type 0
-WriterAt capacity at.Idle held lent t = Unit {0}
-WriterAt capacity at.Dropped held lent t = Unit {0}
-WriterAt capacity (at.QueryHead query) held lent t = (t.call ≡ Some (call.Query Writer query)) × (t.looks ≡ [])
-WriterAt capacity (at.QueryTail query count) held lent t = (count ≤ capacity) × (t.call ≡ Some (call.Query Writer query)) × (t.looks ≡ seen.Head count ∷ [])
-WriterAt capacity at.QueryClosed held lent t = (t.call ≡ Some (call.IsClosed Writer)) × (t.looks ≡ [])
-WriterAt capacity (at.LookClosed l) held lent t = WriterLooks None l held t
-WriterAt capacity (at.LookHead l) held lent t = WriterLooks found_open l held t
-WriterAt capacity (at.LookRegister l) held lent t = WriterLooks found_open l held t
-WriterAt capacity (at.LookHeadAgain l) held lent t = WriterLooks found_open l held t
-WriterAt capacity (at.LookClosedAgain l) held lent t = WriterLooks found_open l held t
-WriterAt capacity (at.LookTake l) held lent t = WriterLooks found_open l held t
-WriterAt capacity at.Yield held lent t = Fills found_open (Polling true) held [] 0 t
-WriterAt capacity (at.CallSource form sum) held lent t = Fills found_open form held [] sum t
-WriterAt capacity (at.RoundClosed n form sum) held lent t = Fills found_open form held (take n lent) sum t
-WriterAt capacity (at.StoreTail n next) held lent t = WriterStores n next held lent t
-WriterAt capacity (at.TakeReader next) held lent t = WriterAfter next held t
-WriterAt capacity (at.WakeReader next) held lent t = WriterAfter next held t
-WriterAt capacity (at.StoreClosed next) held lent t = WriterCloses next t
-WriterAt capacity at.TakeWriter held lent t = t.call ≡ Some call.Close
-WriterAt capacity at.WakeWriter held lent t = t.call ≡ Some call.Close
+WriterAt capacity WritePoint.Idle held lent t = Unit {0}
+WriterAt capacity WritePoint.Dropped held lent t = Unit {0}
+WriterAt capacity (WritePoint.QueryHead query) held lent t = (t.call ≡ Some (Call.Query Writer query)) × (t.looks ≡ [])
+WriterAt capacity (WritePoint.QueryTail query count) held lent t = (count ≤ capacity) × (t.call ≡ Some (Call.Query Writer query)) × (t.looks ≡ Seen.Head count ∷ [])
+WriterAt capacity WritePoint.QueryClosed held lent t = (t.call ≡ Some (Call.IsClosed Writer)) × (t.looks ≡ [])
+WriterAt capacity (WritePoint.LookClosed l) held lent t = WriterLooks None l held t
+WriterAt capacity (WritePoint.LookHead l) held lent t = WriterLooks found_open l held t
+WriterAt capacity (WritePoint.LookRegister l) held lent t = WriterLooks found_open l held t
+WriterAt capacity (WritePoint.LookHeadAgain l) held lent t = WriterLooks found_open l held t
+WriterAt capacity (WritePoint.LookClosedAgain l) held lent t = WriterLooks found_open l held t
+WriterAt capacity (WritePoint.LookTake l) held lent t = WriterLooks found_open l held t
+WriterAt capacity WritePoint.Yield held lent t = Fills found_open (Polling true) held [] 0 t
+WriterAt capacity (WritePoint.CallSource form sum) held lent t = Fills found_open form held [] sum t
+WriterAt capacity (WritePoint.RoundClosed n form sum) held lent t = Fills found_open form held (take n lent) sum t
+WriterAt capacity (WritePoint.StoreTail n next) held lent t = WriterStores n next held lent t
+WriterAt capacity (WritePoint.TakeReader next) held lent t = WriterAfter next held t
+WriterAt capacity (WritePoint.WakeReader next) held lent t = WriterAfter next held t
+WriterAt capacity (WritePoint.StoreClosed next) held lent t = WriterCloses next t
+WriterAt capacity WritePoint.TakeWriter held lent t = t.call ≡ Some Call.Close
+WriterAt capacity WritePoint.WakeWriter held lent t = t.call ≡ Some Call.Close
 
 -- a step that leads there gives a right answer, or goes on where this holds
 abbrev Leads : ℕ → List SourceAct → (Option Answer → List ℕ) → Next WritePoint → Noted → Type 0
@@ -123,7 +100,7 @@ steps capacity held lent_then next t u es right noted leads =
 
 -- the count of a fill is all that its source gave, whether the last bytes are published or found
 -- the pipe closed
-filled : (handed moved last left : List ℕ) (sum : ℕ) (looks : List Seen) → moved ++ (last ++ left) ≡ handed → length moved + length last ≡ sum → (found_closed looks ≡ false → length last ≡ 0) → (first_look looks ≡ Some (seen.Closed true) → sum ≡ 0) → IsFilled handed looks moved sum
+filled : (handed moved last left : List ℕ) (sum : ℕ) (looks : List Seen) → moved ++ (last ++ left) ≡ handed → length moved + length last ≡ sum → (found_closed looks ≡ false → length last ≡ 0) → (first_look looks ≡ Some (Seen.Closed true) → sum ≡ 0) → IsFilled handed looks moved sum
 filled handed moved last left sum looks bytes count open_none closed_none =
     let all : length (moved ++ (last ++ left)) ≡ length handed = ap (λ (xs : List ℕ). length xs) bytes in
     let parts = length-append moved (last ++ left) in
@@ -148,38 +125,38 @@ first-made : (looks : List Seen) (look : Seen) → first_look looks ≡ None →
 first-made [] look none = refl
 first-made (before ∷ looks) look none = absurd (some_first before looks none)
 
-closed-none : (looks : List Seen) (sum : ℕ) → first_look looks ≡ found_open → first_look looks ≡ Some (seen.Closed true) → sum ≡ 0
+closed-none : (looks : List Seen) (sum : ℕ) → first_look looks ≡ found_open → first_look looks ≡ Some (Seen.Closed true) → sum ≡ 0
 closed-none looks sum found closed = absurd (let clash = sym found ∙ closed in cc)
 
 module _ (capacity : ℕ) where
   -- the answers of a fill
 
   fill-counts : (form : Form) (c : Call) (moved last left : List ℕ) (fails : Bool) (sum : ℕ) (looks : List Seen) → IsFill form c (moved ++ (last ++ left)) fails → length moved + length last ≡ sum → (found_closed looks ≡ false → length last ≡ 0) → first_look looks ≡ found_open → IsAnswer capacity c looks moved (count_answer form sum)
-  fill-counts Try (call.TryFill bytes) moved last left fails sum looks fills count none found = filled bytes moved last left sum looks fills.0 count none (closed-none looks sum found)
-  fill-counts (Polling is_drawn) (call.PollFillBytes waker luck bytes) moved last left fails sum looks fills count none found = filled bytes moved last left sum looks fills.0 count none (closed-none looks sum found)
-  fill-counts (Polling is_drawn) (call.PollFill waker luck acts) moved last left fails sum looks fills count none found = filled (bytes_given acts) moved last left sum looks fills.0 count none (closed-none looks sum found)
+  fill-counts Try (Call.TryFill bytes) moved last left fails sum looks fills count none found = filled bytes moved last left sum looks fills.0 count none (closed-none looks sum found)
+  fill-counts (Polling is_drawn) (Call.PollFillBytes waker luck bytes) moved last left fails sum looks fills count none found = filled bytes moved last left sum looks fills.0 count none (closed-none looks sum found)
+  fill-counts (Polling is_drawn) (Call.PollFill waker luck acts) moved last left fails sum looks fills count none found = filled (bytes_given acts) moved last left sum looks fills.0 count none (closed-none looks sum found)
   fill-counts form c moved last left fails sum looks fills count none found = absurd fills
 
   fill-waits : (form : Form) (c : Call) (moved left : List ℕ) (fails : Bool) (answer : Polled Bool) (looks : List Seen) → IsFill form c (moved ++ left) fails → length moved + 0 ≡ 0 → IsAnswer capacity c looks moved (copy_answer form answer)
-  fill-waits Try (call.TryFill bytes) moved left fails answer looks fills count = filled bytes moved [] left 0 looks fills.0 count (λ is_open. refl) (λ is_closed. refl)
-  fill-waits (Polling is_drawn) (call.PollFillBytes waker luck bytes) moved left fails (Ready b) looks fills count = filled bytes moved [] left 0 looks fills.0 count (λ is_open. refl) (λ is_closed. refl)
-  fill-waits (Polling is_drawn) (call.PollFillBytes waker luck bytes) moved left fails Pending looks fills count = none_moved moved count
-  fill-waits (Polling is_drawn) (call.PollFillBytes waker luck bytes) moved left fails Memory looks fills count = none_moved moved count
-  fill-waits (Polling is_drawn) (call.PollFill waker luck acts) moved left fails (Ready b) looks fills count = filled (bytes_given acts) moved [] left 0 looks fills.0 count (λ is_open. refl) (λ is_closed. refl)
-  fill-waits (Polling is_drawn) (call.PollFill waker luck acts) moved left fails Pending looks fills count = none_moved moved count
-  fill-waits (Polling is_drawn) (call.PollFill waker luck acts) moved left fails Memory looks fills count = none_moved moved count
+  fill-waits Try (Call.TryFill bytes) moved left fails answer looks fills count = filled bytes moved [] left 0 looks fills.0 count (λ is_open. refl) (λ is_closed. refl)
+  fill-waits (Polling is_drawn) (Call.PollFillBytes waker luck bytes) moved left fails (Ready b) looks fills count = filled bytes moved [] left 0 looks fills.0 count (λ is_open. refl) (λ is_closed. refl)
+  fill-waits (Polling is_drawn) (Call.PollFillBytes waker luck bytes) moved left fails Pending looks fills count = none_moved moved count
+  fill-waits (Polling is_drawn) (Call.PollFillBytes waker luck bytes) moved left fails Memory looks fills count = none_moved moved count
+  fill-waits (Polling is_drawn) (Call.PollFill waker luck acts) moved left fails (Ready b) looks fills count = filled (bytes_given acts) moved [] left 0 looks fills.0 count (λ is_open. refl) (λ is_closed. refl)
+  fill-waits (Polling is_drawn) (Call.PollFill waker luck acts) moved left fails Pending looks fills count = none_moved moved count
+  fill-waits (Polling is_drawn) (Call.PollFill waker luck acts) moved left fails Memory looks fills count = none_moved moved count
   fill-waits form c moved left fails answer looks fills count = absurd fills
 
   fill-fails : (form : Form) (c : Call) (moved : List ℕ) (looks : List Seen) → IsFill form c (moved ++ []) true → IsAnswer capacity c looks moved failed_answer
-  fill-fails Try (call.TryFill bytes) moved looks fills = absurd (let clash = fills.1 in cc)
-  fill-fails (Polling is_drawn) (call.PollFillBytes waker luck bytes) moved looks fills = absurd (let clash = fills.1 in cc)
-  fill-fails (Polling is_drawn) (call.PollFill waker luck acts) moved looks fills = record { fails = sym fills.1; published = sym (append-nil moved) ∙ fills.0 }
+  fill-fails Try (Call.TryFill bytes) moved looks fills = absurd (let clash = fills.1 in cc)
+  fill-fails (Polling is_drawn) (Call.PollFillBytes waker luck bytes) moved looks fills = absurd (let clash = fills.1 in cc)
+  fill-fails (Polling is_drawn) (Call.PollFill waker luck acts) moved looks fills = record { fails = sym fills.1; published = sym (append-nil moved) ∙ fills.0 }
   fill-fails form c moved looks fills = absurd fills
 
   fill-moves : (form : Form) (c : Call) (moved left : List ℕ) (fails : Bool) → IsFill form c (moved ++ left) fails → MayHaveMoved c moved
-  fill-moves Try (call.TryFill bytes) moved left fails fills = (left, fills.0)
-  fill-moves (Polling is_drawn) (call.PollFillBytes waker luck bytes) moved left fails fills = (left, fills.0)
-  fill-moves (Polling is_drawn) (call.PollFill waker luck acts) moved left fails fills = (left, fills.0)
+  fill-moves Try (Call.TryFill bytes) moved left fails fills = (left, fills.0)
+  fill-moves (Polling is_drawn) (Call.PollFillBytes waker luck bytes) moved left fails fills = (left, fills.0)
+  fill-moves (Polling is_drawn) (Call.PollFill waker luck acts) moved left fails fills = (left, fills.0)
   fill-moves form c moved left fails fills = absurd fills
 
   -- where each step leads
@@ -189,20 +166,20 @@ module _ (capacity : ℕ) where
     waits first form answer looks = answers capacity t Writer looks.fill _ looks.is (fill-waits form looks.fill t.moved (bytes_given held) (ends_in_failure held) answer t.looks looks.fills looks.count)
 
     found-leads : (l : Purpose) → WriterLooks found_open l held t → WriterAt capacity (writer_found l) held (lent_then None) t
-    found-leads purpose.Poll looks = looks
-    found-leads (purpose.Copy Try) looks = looks
-    found-leads (purpose.Copy (Polling is_drawn)) looks = looks
+    found-leads Purpose.Poll looks = looks
+    found-leads (Purpose.Copy Try) looks = looks
+    found-leads (Purpose.Copy (Polling is_drawn)) looks = looks
 
-    open-leads : (is_closed none : Bool) (l : Purpose) → WriterLooks (Some (seen.Closed is_closed)) l held t → Leads capacity held lent_then (writer_is_open is_closed none l) t
-    open-leads true none purpose.Poll looks = (poll-answers capacity Writer t (Ready false) looks, tt)
-    open-leads true none (purpose.Copy form) looks = (waits _ form (Ready false) looks, tt)
+    open-leads : (is_closed none : Bool) (l : Purpose) → WriterLooks (Some (Seen.Closed is_closed)) l held t → Leads capacity held lent_then (writer_is_open is_closed none l) t
+    open-leads true none Purpose.Poll looks = (poll-answers capacity Writer t (Ready false) looks, tt)
+    open-leads true none (Purpose.Copy form) looks = (waits _ form (Ready false) looks, tt)
     open-leads false true l looks = (tt, looks)
     open-leads false false l looks = (tt, found-leads l looks)
 
     looks-leads : (none : Bool) (l : Purpose) → WriterLooks found_open l held t → WriterAt capacity (writer_looked none l) held (lent_then None) t
-    looks-leads true purpose.Poll looks = looks
-    looks-leads true (purpose.Copy Try) looks = looks
-    looks-leads true (purpose.Copy (Polling is_drawn)) looks = looks
+    looks-leads true Purpose.Poll looks = looks
+    looks-leads true (Purpose.Copy Try) looks = looks
+    looks-leads true (Purpose.Copy (Polling is_drawn)) looks = looks
     looks-leads false l looks = found-leads l looks
 
     again-leads : (none : Bool) (l : Purpose) → WriterLooks found_open l held t → WriterAt capacity (writer_looked_again none l) held (lent_then None) t
@@ -211,38 +188,38 @@ module _ (capacity : ℕ) where
 
     registers-leads : (is_granted : Bool) (l : Purpose) → WriterLooks found_open l held t → Leads capacity held lent_then (writer_registered is_granted l) t
     registers-leads true l looks = (tt, looks)
-    registers-leads false purpose.Poll looks = (poll-answers capacity Writer t Memory looks, tt)
-    registers-leads false (purpose.Copy form) looks = (waits found_open form Memory looks, tt)
+    registers-leads false Purpose.Poll looks = (poll-answers capacity Writer t Memory looks, tt)
+    registers-leads false (Purpose.Copy form) looks = (waits found_open form Memory looks, tt)
 
     ends-leads : (is_closed : Bool) (l : Purpose) → WriterLooks found_open l held t → AreRightFrom capacity Writer t (answer_event Writer (Some (look_answer l (end_or_pending is_closed))))
-    ends-leads is_closed purpose.Poll looks = poll-answers capacity Writer t (end_or_pending is_closed) looks
-    ends-leads is_closed (purpose.Copy form) looks = waits found_open form (end_or_pending is_closed) looks
+    ends-leads is_closed Purpose.Poll looks = poll-answers capacity Writer t (end_or_pending is_closed) looks
+    ends-leads is_closed (Purpose.Copy form) looks = waits found_open form (end_or_pending is_closed) looks
 
     true-leads : (l : Purpose) → WriterLooks found_open l held t → Leads capacity held lent_then (writer_is_true l) t
-    true-leads purpose.Poll looks = (poll-answers capacity Writer t (Ready true) looks, tt)
-    true-leads (purpose.Copy Try) looks = (tt, looks)
-    true-leads (purpose.Copy (Polling true)) looks = (tt, looks)
-    true-leads (purpose.Copy (Polling false)) looks = (tt, looks)
+    true-leads Purpose.Poll looks = (poll-answers capacity Writer t (Ready true) looks, tt)
+    true-leads (Purpose.Copy Try) looks = (tt, looks)
+    true-leads (Purpose.Copy (Polling true)) looks = (tt, looks)
+    true-leads (Purpose.Copy (Polling false)) looks = (tt, looks)
 
     yields-leads : (is_granted : Bool) → Fills found_open (Polling true) held [] 0 t → AreRightFrom capacity Writer t (answer_event Writer (Some (yield_answer is_granted)))
     yields-leads true looks = waits found_open (Polling true) Pending looks
     yields-leads false looks = waits found_open (Polling true) Memory looks
 
     done-leads : (next : AfterWrite) → WriterAfter next held t → Leads capacity held lent_then (write_done next) t
-    done-leads after_read.Answer noted = (answers capacity t Writer _ _ noted refl, tt)
-    done-leads after_read.Drop noted = (answers capacity t Writer _ _ noted tt, tt)
-    done-leads after_read.WakeWriter noted = (tt, noted)
-    done-leads (after_read.Round form sum) noted = (tt, noted)
+    done-leads AfterWrite.Answer noted = (answers capacity t Writer _ _ noted refl, tt)
+    done-leads AfterWrite.Drop noted = (answers capacity t Writer _ _ noted tt, tt)
+    done-leads AfterWrite.WakeWriter noted = (tt, noted)
+    done-leads (AfterWrite.Round form sum) noted = (tt, noted)
 
     take-leads : (next : AfterWrite) (is_found : Bool) → WriterAfter next held t → Leads capacity held lent_then (reader_taken next is_found) t
     take-leads next true noted = (tt, noted)
     take-leads next false noted = done-leads next noted
 
-    own-leads : (is_found : Bool) → t.call ≡ Some call.Close → Leads capacity held lent_then (own_taken is_found) t
+    own-leads : (is_found : Bool) → t.call ≡ Some Call.Close → Leads capacity held lent_then (own_taken is_found) t
     own-leads true noted = (tt, noted)
     own-leads false noted = (answers capacity t Writer _ _ noted tt, tt)
 
-    rounds-leads : (is_closed : Bool) (n : ℕ) (form : Form) (sum : ℕ) (looks : List Seen) → t.looks ≡ seen.Closed is_closed ∷ looks → Fills found_open form held (take n (lent_then None)) sum t → Leads capacity held lent_then (writer_rounds is_closed n form sum) t
+    rounds-leads : (is_closed : Bool) (n : ℕ) (form : Form) (sum : ℕ) (looks : List Seen) → t.looks ≡ Seen.Closed is_closed ∷ looks → Fills found_open form held (take n (lent_then None)) sum t → Leads capacity held lent_then (writer_rounds is_closed n form sum) t
     rounds-leads true n form sum looks is given =
         let closed : found_closed t.looks ≡ true = ap found_closed is in
         (answers capacity t Writer given.fill _ given.is (fill-counts form given.fill t.moved (take n (lent_then None)) (bytes_given held) (ends_in_failure held) sum t.looks given.fills given.count (λ is_open. absurd (cc)) given.found), tt)
@@ -250,12 +227,12 @@ module _ (capacity : ℕ) where
 
   -- what the log says of a look does not depend on what it found, but for the first one
   looked : (l : Purpose) (held : List SourceAct) (t : Noted) (look : Seen) → WriterLooks found_open l held t → WriterLooks found_open l held (record t { looks = look ∷ t.looks })
-  looked purpose.Poll held t look looks = record { poll = looks.poll; is = looks.is; polls = looks.polls }
-  looked (purpose.Copy form) held t look looks = record { fill = looks.fill; is = looks.is; fills = looks.fills; count = looks.count; found = first-stays t.looks look (seen.Closed false) looks.found }
+  looked Purpose.Poll held t look looks = record { poll = looks.poll; is = looks.is; polls = looks.polls }
+  looked (Purpose.Copy form) held t look looks = record { fill = looks.fill; is = looks.is; fills = looks.fills; count = looks.count; found = first-stays t.looks look (Seen.Closed false) looks.found }
 
   first-looked : (l : Purpose) (held : List SourceAct) (t : Noted) (look : Seen) → WriterLooks None l held t → WriterLooks (Some look) l held (record t { looks = look ∷ t.looks })
-  first-looked purpose.Poll held t look looks = record { poll = looks.poll; is = looks.is; polls = looks.polls }
-  first-looked (purpose.Copy form) held t look looks = record { fill = looks.fill; is = looks.is; fills = looks.fills; count = looks.count; found = first-made t.looks look looks.found }
+  first-looked Purpose.Poll held t look looks = record { poll = looks.poll; is = looks.is; polls = looks.polls }
+  first-looked (Purpose.Copy form) held t look looks = record { fill = looks.fill; is = looks.is; fills = looks.fills; count = looks.count; found = first-made t.looks look looks.found }
 
   -- one call of the source
 
@@ -263,20 +240,20 @@ module _ (capacity : ℕ) where
   ends-call form sum held t given = answers capacity t Writer given.fill _ given.is (fill-counts form given.fill t.moved [] (bytes_given held) (ends_in_failure held) sum t.looks given.fills given.count (λ is_open. refl) given.found)
 
   -- some bytes of an act
-  round-leads : (none : Bool) (n : ℕ) (form : Form) (sum : ℕ) (bytes : List ℕ) (acts : List SourceAct) (lent : List ℕ) (t : Noted) → (n == 0) ≡ none → n ≤ length bytes → Fills found_open form (source.Bytes bytes ∷ acts) [] sum t
+  round-leads : (none : Bool) (n : ℕ) (form : Form) (sum : ℕ) (bytes : List ℕ) (acts : List SourceAct) (lent : List ℕ) (t : Noted) → (n == 0) ≡ none → n ≤ length bytes → Fills found_open form (SourceAct.Bytes bytes ∷ acts) [] sum t
       → Leads capacity (unspent (drop n bytes) acts) (λ answer. filled_out true answer (take n bytes ++ drop n lent)) (writer_moved none n form sum) t
-  round-leads true n form sum bytes acts lent t test within given = (ends-call form sum (source.Bytes bytes ∷ acts) t given, tt)
+  round-leads true n form sum bytes acts lent t test within given = (ends-call form sum (SourceAct.Bytes bytes ∷ acts) t given, tt)
   round-leads false n form sum bytes acts lent t test within given =
       let some : length bytes ≡ 0 → ⊥ = λ none. absurd (let zero : n ≡ 0 = omega arith in let is : (n == 0) ≡ true = grind (arith, nat_tests) in cc) in
       let long : length (take n bytes) ≡ n = length-take-le n bytes within in
       let front : take n (take n bytes ++ drop n lent) ≡ take n bytes = take-front n (take n bytes) (drop n lent) long in
-      let parts : bytes_given (source.Bytes bytes ∷ acts) ≡ take n bytes ++ bytes_given (unspent (drop n bytes) acts) =
+      let parts : bytes_given (SourceAct.Bytes bytes ∷ acts) ≡ take n bytes ++ bytes_given (unspent (drop n bytes) acts) =
       bytes_given-cons bytes acts some
       ∙ ap (λ (xs : List ℕ). xs ++ bytes_given acts) (sym (take-append-drop n bytes))
       ∙ append_assoc (take n bytes) (drop n bytes) (bytes_given acts)
       ∙ ap (λ (xs : List ℕ). take n bytes ++ xs) (sym (given-unspent (drop n bytes) acts)) in
-      let fails : ends_in_failure (source.Bytes bytes ∷ acts) ≡ ends_in_failure (unspent (drop n bytes) acts) = ends_in_failure-cons bytes acts some ∙ sym (failure-unspent (drop n bytes) acts) in
-      let fills = subst (λ (xs : List ℕ). IsFill form given.fill (t.moved ++ xs) (ends_in_failure (source.Bytes bytes ∷ acts))) (parts ∙ ap (λ (xs : List ℕ). xs ++ bytes_given (unspent (drop n bytes) acts)) (sym front)) given.fills in
+      let fails : ends_in_failure (SourceAct.Bytes bytes ∷ acts) ≡ ends_in_failure (unspent (drop n bytes) acts) = ends_in_failure-cons bytes acts some ∙ sym (failure-unspent (drop n bytes) acts) in
+      let fills = subst (λ (xs : List ℕ). IsFill form given.fill (t.moved ++ xs) (ends_in_failure (SourceAct.Bytes bytes ∷ acts))) (parts ∙ ap (λ (xs : List ℕ). xs ++ bytes_given (unspent (drop n bytes) acts)) (sym front)) given.fills in
       let count = given.count in
       let same : length (take n (take n bytes ++ drop n lent)) ≡ n = ap (λ (xs : List ℕ). length xs) front ∙ long in (
         tt,
@@ -294,23 +271,23 @@ module _ (capacity : ℕ) where
 
   source-leads : (held : List SourceAct) (form : Form) (sum : ℕ) (lent : List ℕ) (t : Noted) (room : ℕ) → Fills found_open form held [] sum t
       → let n = moved_by (given (length lent) held) in
-      Leads capacity (left_of_source n held) (λ answer. filled_out true answer (take n (bytes_of held) ++ drop n lent)) (write_after capacity room (at.CallSource form sum) (found_of (given (length lent) held))) t
+      Leads capacity (left_of_source n held) (λ answer. filled_out true answer (take n (bytes_of held) ++ drop n lent)) (write_after capacity room (WritePoint.CallSource form sum) (found_of (given (length lent) held))) t
   source-leads [] form sum lent t room given = (ends-call form sum [] t given, tt)
-  source-leads (source.Fail ∷ acts) form sum lent t room given = (answers capacity t Writer given.fill _ given.is (fill-fails form given.fill t.moved t.looks given.fills), tt)
-  source-leads (source.Bytes bytes ∷ acts) form sum lent t room given =
+  source-leads (SourceAct.Fail ∷ acts) form sum lent t room given = (answers capacity t Writer given.fill _ given.is (fill-fails form given.fill t.moved t.looks given.fills), tt)
+  source-leads (SourceAct.Bytes bytes ∷ acts) form sum lent t room given =
       let n = min (length lent) (length bytes) in
       round-leads (n == 0) n form sum bytes acts lent t refl (omega arith) given
 
   -- a store of tail
   stores : (n : ℕ) (next : AfterWrite) (held : List SourceAct) (lent : List ℕ) (t : Noted) → n ≤ length lent → WriterStores n next held lent t
       → let u = record t { moved = t.moved ++ take n lent } in IsSomeAnd t.call (λ (c : Call). MayHaveMoved c u.moved) × WriterAfter next held u
-  stores n after_read.Answer held lent t within noted =
+  stores n AfterWrite.Answer held lent t within noted =
       let whole : t.moved ++ take n lent ≡ take n lent = ap (λ (xs : List ℕ). xs ++ take n lent) noted.1 in
       let count : length (t.moved ++ take n lent) ≡ n = ap (λ (xs : List ℕ). length xs) whole ∙ length-take-le n lent within in
-      (rw noted.0 count, noted.0 ∙ ap (λ (k : ℕ). Some (call.Produced k)) (sym count))
-  stores n after_read.Drop held lent t within noted = absurd noted
-  stores n after_read.WakeWriter held lent t within noted = absurd noted
-  stores n (after_read.Round form sum) held lent t within noted =
+      (rw noted.0 count, noted.0 ∙ ap (λ (k : ℕ). Some (Call.Produced k)) (sym count))
+  stores n AfterWrite.Drop held lent t within noted = absurd noted
+  stores n AfterWrite.WakeWriter held lent t within noted = absurd noted
+  stores n (AfterWrite.Round form sum) held lent t within noted =
       let both = length-append t.moved (take n lent) in
       let count = noted.count in
       let fills = subst (λ (xs : List ℕ). IsFill form noted.fill xs (ends_in_failure held)) (sym (append_assoc t.moved (take n lent) (bytes_given held))) noted.fills in
@@ -319,51 +296,51 @@ module _ (capacity : ℕ) where
 -- the step of each point
 pub writer-point : (point : WritePoint) (offered : List ℕ) (p : Pipe) (t : Noted) → length p.unread ≤ p.capacity → tail_store point ≤ length p.lent → WriterAt p.capacity point p.source p.lent t
     → let new = went Writer (offering offered (record p { writer = point })) in AreRightFrom p.capacity Writer t new.events × WriterAt p.capacity new.pipe.writer new.pipe.source new.pipe.lent (noted_from Writer t new.events)
-writer-point at.Idle offered p t fits within noted = (tt, tt)
-writer-point at.Dropped offered p t fits within noted = (tt, tt)
-writer-point (at.QueryHead query) offered p t fits within noted = ((tt, tt), (fits, noted.0, ap (λ (looks : List Seen). seen.Head (length p.unread) ∷ looks) noted.1))
-writer-point (at.QueryTail query count) offered p t fits within noted =
-    let u = record t { looks = seen.Tail (length p.unread) ∷ t.looks } in
-    let looks = ap (λ (before : List Seen). seen.Tail (length p.unread) ∷ before) noted.2 in
-    ((tt, answers p.capacity u Writer (call.Query Writer query) (query_answer query p.capacity count) noted.1 (record { number = count; is_found = ap (λ (all : List Seen). number_found Writer all) looks; within = noted.0; answers = refl })), tt)
-writer-point at.QueryClosed offered p t fits within noted =
-    let u = record t { looks = seen.Closed p.is_closed ∷ t.looks } in
-    ((tt, answers p.capacity u Writer (call.IsClosed Writer) _ noted.0 (ap (λ (before : List Seen). seen.Closed p.is_closed ∷ before) noted.1)), tt)
-writer-point (at.LookClosed l) offered p t fits within noted =
-    let u = record t { looks = seen.Closed p.is_closed ∷ t.looks } in
-    steps p.capacity p.source (λ answer. lent_after does.LoadClosed (at.LookClosed l) answer p.lent) (writer_is_open p.is_closed (p.room == 0) l) t u (Looked Writer (seen.Closed p.is_closed) ∷ []) (tt, tt) refl (open-leads p.capacity u p.source (λ answer. lent_after does.LoadClosed (at.LookClosed l) answer p.lent) p.is_closed (p.room == 0) l (first-looked p.capacity l p.source t (seen.Closed p.is_closed) noted))
-writer-point (at.LookHead l) offered p t fits within noted = ((tt, tt), looks-leads p.capacity _ p.source (λ answer. p.lent) (p.capacity - length p.unread == 0) l (looked p.capacity l p.source t _ noted))
-writer-point (at.LookRegister l) offered p t fits within noted =
+writer-point WritePoint.Idle offered p t fits within noted = (tt, tt)
+writer-point WritePoint.Dropped offered p t fits within noted = (tt, tt)
+writer-point (WritePoint.QueryHead query) offered p t fits within noted = ((tt, tt), (fits, noted.0, ap (λ (looks : List Seen). Seen.Head (length p.unread) ∷ looks) noted.1))
+writer-point (WritePoint.QueryTail query count) offered p t fits within noted =
+    let u = record t { looks = Seen.Tail (length p.unread) ∷ t.looks } in
+    let looks = ap (λ (before : List Seen). Seen.Tail (length p.unread) ∷ before) noted.2 in
+    ((tt, answers p.capacity u Writer (Call.Query Writer query) (query_answer query p.capacity count) noted.1 (record { number = count; is_found = ap (λ (all : List Seen). number_found Writer all) looks; within = noted.0; answers = refl })), tt)
+writer-point WritePoint.QueryClosed offered p t fits within noted =
+    let u = record t { looks = Seen.Closed p.is_closed ∷ t.looks } in
+    ((tt, answers p.capacity u Writer (Call.IsClosed Writer) _ noted.0 (ap (λ (before : List Seen). Seen.Closed p.is_closed ∷ before) noted.1)), tt)
+writer-point (WritePoint.LookClosed l) offered p t fits within noted =
+    let u = record t { looks = Seen.Closed p.is_closed ∷ t.looks } in
+    steps p.capacity p.source (λ answer. lent_after Action.LoadClosed (WritePoint.LookClosed l) answer p.lent) (writer_is_open p.is_closed (p.room == 0) l) t u (Looked Writer (Seen.Closed p.is_closed) ∷ []) (tt, tt) refl (open-leads p.capacity u p.source (λ answer. lent_after Action.LoadClosed (WritePoint.LookClosed l) answer p.lent) p.is_closed (p.room == 0) l (first-looked p.capacity l p.source t (Seen.Closed p.is_closed) noted))
+writer-point (WritePoint.LookHead l) offered p t fits within noted = ((tt, tt), looks-leads p.capacity _ p.source (λ answer. p.lent) (p.capacity - length p.unread == 0) l (looked p.capacity l p.source t _ noted))
+writer-point (WritePoint.LookRegister l) offered p t fits within noted =
     let quiet = registers-leaves p.capacity t Writer Writer p.writer_call.context in
-    steps p.capacity p.source (λ answer. lent_after does.Register (at.LookRegister l) answer p.lent) (writer_registered (is_granted p.writer_call.context) l) t t (registration_of Writer p.writer_call.context) quiet.0 quiet.1 (registers-leads p.capacity t p.source (λ answer. lent_after does.Register (at.LookRegister l) answer p.lent) (is_granted p.writer_call.context) l noted)
-writer-point (at.LookHeadAgain l) offered p t fits within noted = ((tt, tt), again-leads p.capacity _ p.source (λ answer. p.lent) (p.capacity - length p.unread == 0) l (looked p.capacity l p.source t _ noted))
-writer-point (at.LookClosedAgain l) offered p t fits within noted =
-    let u = record t { looks = seen.Closed p.is_closed ∷ t.looks } in
+    steps p.capacity p.source (λ answer. lent_after Action.Register (WritePoint.LookRegister l) answer p.lent) (writer_registered (is_granted p.writer_call.context) l) t t (registration_of Writer p.writer_call.context) quiet.0 quiet.1 (registers-leads p.capacity t p.source (λ answer. lent_after Action.Register (WritePoint.LookRegister l) answer p.lent) (is_granted p.writer_call.context) l noted)
+writer-point (WritePoint.LookHeadAgain l) offered p t fits within noted = ((tt, tt), again-leads p.capacity _ p.source (λ answer. p.lent) (p.capacity - length p.unread == 0) l (looked p.capacity l p.source t _ noted))
+writer-point (WritePoint.LookClosedAgain l) offered p t fits within noted =
+    let u = record t { looks = Seen.Closed p.is_closed ∷ t.looks } in
     ((tt, ends-leads p.capacity u p.source (λ answer. p.lent) p.is_closed l (looked p.capacity l p.source t _ noted)), tt)
-writer-point (at.LookTake l) offered p t fits within noted = steps p.capacity p.source (λ answer. p.lent) (writer_is_true l) t t [] tt refl (true-leads p.capacity t p.source (λ answer. p.lent) l noted)
-writer-point at.Yield offered p t fits within noted =
+writer-point (WritePoint.LookTake l) offered p t fits within noted = steps p.capacity p.source (λ answer. p.lent) (writer_is_true l) t t [] tt refl (true-leads p.capacity t p.source (λ answer. p.lent) l noted)
+writer-point WritePoint.Yield offered p t fits within noted =
     let quiet = yield-leaves p.capacity t Writer p.writer_call.context in
-    steps p.capacity p.source (λ answer. lent_after does.Yield at.Yield answer p.lent) (write_after p.capacity p.room at.Yield (granted (is_yield_granted p.writer_call.context))) t t (yield_of p.writer_call.context) quiet.0 quiet.1 (yields-leads p.capacity t p.source (λ answer. p.lent) (is_yield_granted p.writer_call.context) noted, tt)
-writer-point (at.CallSource form sum) offered p t fits within noted =
+    steps p.capacity p.source (λ answer. lent_after Action.Yield WritePoint.Yield answer p.lent) (write_after p.capacity p.room WritePoint.Yield (granted (is_yield_granted p.writer_call.context))) t t (yield_of p.writer_call.context) quiet.0 quiet.1 (yields-leads p.capacity t p.source (λ answer. p.lent) (is_yield_granted p.writer_call.context) noted, tt)
+writer-point (WritePoint.CallSource form sum) offered p t fits within noted =
     let n = moved_by (given (length offered) p.source) in
-    steps p.capacity (left_of_source n p.source) (λ answer. filled_out true answer (take n (bytes_of p.source) ++ drop n offered)) (write_after p.capacity p.room (at.CallSource form sum) (found_of (given (length offered) p.source))) t t [] tt refl
+    steps p.capacity (left_of_source n p.source) (λ answer. filled_out true answer (take n (bytes_of p.source) ++ drop n offered)) (write_after p.capacity p.room (WritePoint.CallSource form sum) (found_of (given (length offered) p.source))) t t [] tt refl
     (source-leads p.capacity p.source form sum offered t p.room noted)
-writer-point (at.RoundClosed n form sum) offered p t fits within noted =
-    let u = record t { looks = seen.Closed p.is_closed ∷ t.looks } in
-    let given : Fills found_open form p.source (take n p.lent) sum u = record { fill = noted.fill; is = noted.is; fills = noted.fills; count = noted.count; found = first-stays t.looks (seen.Closed p.is_closed) (seen.Closed false) noted.found } in
-    steps p.capacity p.source (λ answer. filled_out true answer p.lent) (writer_rounds p.is_closed n form sum) t u (Looked Writer (seen.Closed p.is_closed) ∷ []) (tt, tt) refl (rounds-leads p.capacity u p.source (λ answer. filled_out true answer p.lent) p.is_closed n form sum t.looks refl given)
-writer-point (at.StoreTail n next) offered p t fits within noted =
+writer-point (WritePoint.RoundClosed n form sum) offered p t fits within noted =
+    let u = record t { looks = Seen.Closed p.is_closed ∷ t.looks } in
+    let given : Fills found_open form p.source (take n p.lent) sum u = record { fill = noted.fill; is = noted.is; fills = noted.fills; count = noted.count; found = first-stays t.looks (Seen.Closed p.is_closed) (Seen.Closed false) noted.found } in
+    steps p.capacity p.source (λ answer. filled_out true answer p.lent) (writer_rounds p.is_closed n form sum) t u (Looked Writer (Seen.Closed p.is_closed) ∷ []) (tt, tt) refl (rounds-leads p.capacity u p.source (λ answer. filled_out true answer p.lent) p.is_closed n form sum t.looks refl given)
+writer-point (WritePoint.StoreTail n next) offered p t fits within noted =
     let stored = stores p.capacity n next p.source p.lent t within noted in
     ((stored.0, tt), stored.1)
-writer-point (at.TakeReader next) offered p t fits within noted = steps p.capacity p.source (λ answer. p.lent) (reader_taken next (is_some p.reader_waker)) t t [] tt refl (take-leads p.capacity t p.source (λ answer. p.lent) next (is_some p.reader_waker) noted)
-writer-point (at.WakeReader next) offered p t fits within noted =
+writer-point (WritePoint.TakeReader next) offered p t fits within noted = steps p.capacity p.source (λ answer. p.lent) (reader_taken next (is_some p.reader_waker)) t t [] tt refl (take-leads p.capacity t p.source (λ answer. p.lent) next (is_some p.reader_waker) noted)
+writer-point (WritePoint.WakeReader next) offered p t fits within noted =
     let quiet = wake-leaves p.capacity t Writer p.writer_call.taken in
     steps p.capacity p.source (λ answer. p.lent) (write_done next) t t (wake_of p.writer_call.taken) quiet.0 quiet.1 (done-leads p.capacity t p.source (λ answer. p.lent) next noted)
-writer-point (at.StoreClosed after_read.WakeWriter) offered p t fits within noted = ((tt, tt), noted)
-writer-point (at.StoreClosed after_read.Drop) offered p t fits within noted = ((tt, tt), noted)
-writer-point (at.StoreClosed after_read.Answer) offered p t fits within noted = absurd noted
-writer-point (at.StoreClosed (after_read.Round form sum)) offered p t fits within noted = absurd noted
-writer-point at.TakeWriter offered p t fits within noted = steps p.capacity p.source (λ answer. p.lent) (own_taken (is_some p.writer_waker)) t t [] tt refl (own-leads p.capacity t p.source (λ answer. p.lent) (is_some p.writer_waker) noted)
-writer-point at.WakeWriter offered p t fits within noted =
+writer-point (WritePoint.StoreClosed AfterWrite.WakeWriter) offered p t fits within noted = ((tt, tt), noted)
+writer-point (WritePoint.StoreClosed AfterWrite.Drop) offered p t fits within noted = ((tt, tt), noted)
+writer-point (WritePoint.StoreClosed AfterWrite.Answer) offered p t fits within noted = absurd noted
+writer-point (WritePoint.StoreClosed (AfterWrite.Round form sum)) offered p t fits within noted = absurd noted
+writer-point WritePoint.TakeWriter offered p t fits within noted = steps p.capacity p.source (λ answer. p.lent) (own_taken (is_some p.writer_waker)) t t [] tt refl (own-leads p.capacity t p.source (λ answer. p.lent) (is_some p.writer_waker) noted)
+writer-point WritePoint.WakeWriter offered p t fits within noted =
     let quiet = wake-leaves p.capacity t Writer p.writer_call.taken in
-    steps p.capacity p.source (λ answer. p.lent) (write_after p.capacity p.room at.WakeWriter nothing) t t (wake_of p.writer_call.taken) quiet.0 quiet.1 (answers p.capacity t Writer call.Close answer.Done noted tt, tt)
+    steps p.capacity p.source (λ answer. p.lent) (write_after p.capacity p.room WritePoint.WakeWriter nothing) t t (wake_of p.writer_call.taken) quiet.0 quiet.1 (answers p.capacity t Writer Call.Close Answer.Done noted tt, tt)

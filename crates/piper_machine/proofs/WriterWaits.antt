@@ -3,20 +3,7 @@
 use Rattle.std.proofs.Common.{◌≡◌, ℕ, ◌-◌, ◌≤◌, List, [], ◌++◌, length, take, Bool, true, false, Option, None, Some, ◌==◌, Result, Ok, Err, refl, sym, ap, subst, ◌∙◌, arith, length-append, length-take-le}
 use Rattle.std.specs.Bool.{⊤}
 use Rattle.std.proofs.lemmas.Bool.Decides.{nat_tests}
-use Rattle.piper_protocol.specs.declared.table.Side.TheVariants.{Reader, Writer}
-use Rattle.piper_protocol.specs.declared.table.Query.{Query}
-use Rattle.piper_protocol.specs.declared.answer.Answer.TheVariants.{Done}
-use Rattle.piper_machine.specs.declared.polling.Context.{Context}
-use Rattle.piper_protocol.specs.declared.answer.Failed.{Failed}
-use Rattle.piper_machine.specs.declared.scripted.SourceAct.{SourceAct}
-use Rattle.piper_protocol.specs.declared.table.Form.{Form}
-use Rattle.piper_protocol.specs.declared.table.Form.TheVariants.{Try, Polling}
-use Rattle.piper_protocol.specs.declared.table.Purpose.{Purpose}
-use Rattle.piper_protocol.specs.declared.table.Purpose.TheVariants as purpose
-use Rattle.piper_protocol.specs.declared.table.AfterWrite.{AfterWrite}
-use Rattle.piper_protocol.specs.declared.table.AfterWrite.TheVariants as after_read
-use Rattle.piper_protocol.specs.declared.table.WritePoint.{WritePoint}
-use Rattle.piper_protocol.specs.declared.table.WritePoint.TheVariants as at
+use Rattle.piper_machine.specs.Types.{Query, Context, Failed, SourceAct, Form, Purpose, AfterWrite, WritePoint, Reader, Writer, Done, Try, Polling}
 use Rattle.piper_protocol.specs.Table.{Next, write_action, end_or_pending, look_answer, writer_is_open, writer_looked, writer_looked_again, writer_moved, writer_rounds, write_after, yield_answer, ends, write_done}
 use Rattle.piper_machine.specs.Log.{answer_event}
 use Rattle.piper_machine.specs.Open.{is_yield_granted}
@@ -33,31 +20,31 @@ use Rattle.piper_machine.proofs.Watching.{Errand, wakes, write_errand, Watched, 
 -- writer itself has closed; after its own take it is not there, and a close that wakes the reader
 -- alone does not occur
 abbrev pub write_calm : WritePoint → Pipe → Type 0
-write_calm at.Dropped p = ⊤
-write_calm (at.TakeReader after_read.Drop) p = ⊤
-write_calm (at.TakeReader after_read.WakeWriter) p = ⊤
-write_calm (at.WakeReader after_read.Drop) p = ⊤
-write_calm (at.WakeReader after_read.WakeWriter) p = ⊤
-write_calm at.TakeWriter p = ⊤
-write_calm at.WakeWriter p = ⊥
-write_calm (at.StoreClosed after_read.Answer) p = ⊥
-write_calm (at.StoreClosed (after_read.Round form sum)) p = ⊥
+write_calm WritePoint.Dropped p = ⊤
+write_calm (WritePoint.TakeReader AfterWrite.Drop) p = ⊤
+write_calm (WritePoint.TakeReader AfterWrite.WakeWriter) p = ⊤
+write_calm (WritePoint.WakeReader AfterWrite.Drop) p = ⊤
+write_calm (WritePoint.WakeReader AfterWrite.WakeWriter) p = ⊤
+write_calm WritePoint.TakeWriter p = ⊤
+write_calm WritePoint.WakeWriter p = ⊥
+write_calm (WritePoint.StoreClosed AfterWrite.Answer) p = ⊥
+write_calm (WritePoint.StoreClosed (AfterWrite.Round form sum)) p = ⊥
 write_calm point p = IsBlocked Writer p
 
 -- what the writer took from its own slot
 abbrev pub write_held : WritePoint → Option ℕ → Option ℕ
-write_held at.WakeWriter taken = taken
+write_held WritePoint.WakeWriter taken = taken
 write_held point taken = None
 
 -- inside a look: handed over, and after the registration watched over
 abbrev pub WriteLook : WritePoint → Pipe → Errand → Wait → Type 0
-WriteLook (at.LookClosed l) p e w = HasBegun l p.writer_call.context w
-WriteLook (at.LookHead l) p e w = HasBegun l p.writer_call.context w
-WriteLook (at.LookRegister l) p e w = IsHanded p.writer_call.context w
-WriteLook (at.LookHeadAgain l) p e w = HasBegun l p.writer_call.context w × Awaits l w p.writer_waker ⊤ e
-WriteLook (at.LookClosedAgain l) p e w = HasBegun l p.writer_call.context w × Awaits l w p.writer_waker (length p.unread ≡ p.capacity) e
-WriteLook (at.LookTake l) p e w = IsHanded p.writer_call.context w
-WriteLook at.Yield p e w = IsHanded p.writer_call.context w
+WriteLook (WritePoint.LookClosed l) p e w = HasBegun l p.writer_call.context w
+WriteLook (WritePoint.LookHead l) p e w = HasBegun l p.writer_call.context w
+WriteLook (WritePoint.LookRegister l) p e w = IsHanded p.writer_call.context w
+WriteLook (WritePoint.LookHeadAgain l) p e w = HasBegun l p.writer_call.context w × Awaits l w p.writer_waker ⊤ e
+WriteLook (WritePoint.LookClosedAgain l) p e w = HasBegun l p.writer_call.context w × Awaits l w p.writer_waker (length p.unread ≡ p.capacity) e
+WriteLook (WritePoint.LookTake l) p e w = IsHanded p.writer_call.context w
+WriteLook WritePoint.Yield p e w = IsHanded p.writer_call.context w
 WriteLook point p e w = ⊤
 
 pub record WriteWaits (p : Pipe) (e : Errand) (w : Wait) : Type 0 where
@@ -73,25 +60,25 @@ same-blocked : {p q : Pipe} → Same p q → IsBlocked Writer p → IsBlocked Wr
 same-blocked same b = (same-full same b.0, same.closed ∙ b.1)
 
 write_calm-same : {p q : Pipe} (point : WritePoint) → Same p q → write_calm point p → write_calm point q
-write_calm-same at.Dropped same c = tt
-write_calm-same (at.TakeReader after_read.Drop) same c = tt
-write_calm-same (at.TakeReader after_read.WakeWriter) same c = tt
-write_calm-same (at.WakeReader after_read.Drop) same c = tt
-write_calm-same (at.WakeReader after_read.WakeWriter) same c = tt
-write_calm-same at.TakeWriter same c = tt
-write_calm-same at.WakeWriter same c = c
-write_calm-same (at.StoreClosed after_read.Answer) same c = c
-write_calm-same (at.StoreClosed (after_read.Round form sum)) same c = c
+write_calm-same WritePoint.Dropped same c = tt
+write_calm-same (WritePoint.TakeReader AfterWrite.Drop) same c = tt
+write_calm-same (WritePoint.TakeReader AfterWrite.WakeWriter) same c = tt
+write_calm-same (WritePoint.WakeReader AfterWrite.Drop) same c = tt
+write_calm-same (WritePoint.WakeReader AfterWrite.WakeWriter) same c = tt
+write_calm-same WritePoint.TakeWriter same c = tt
+write_calm-same WritePoint.WakeWriter same c = c
+write_calm-same (WritePoint.StoreClosed AfterWrite.Answer) same c = c
+write_calm-same (WritePoint.StoreClosed (AfterWrite.Round form sum)) same c = c
 write_calm-same point same c = same-blocked same c
 
 look-touched : (p q : Pipe) (e e_after : Errand) (w v : Wait) (point : WritePoint) → q.writer_call ≡ p.writer_call → Touch p q p.writer_waker q.writer_waker e e_after w v → WriteLook point p e w → WriteLook point q e_after v
-look-touched p q e e_after w v (at.LookClosed l) same t h = rw same (begun-touched l p.writer_call.context t h)
-look-touched p q e e_after w v (at.LookHead l) same t h = rw same (begun-touched l p.writer_call.context t h)
-look-touched p q e e_after w v (at.LookRegister l) same t h = rw same (handed-touched p.writer_call.context t h)
-look-touched p q e e_after w v (at.LookHeadAgain l) same t h = (rw same (begun-touched l p.writer_call.context t h.0), awaits-touched l _ _ (λ s c. c) t h.1)
-look-touched p q e e_after w v (at.LookClosedAgain l) same t h = (rw same (begun-touched l p.writer_call.context t h.0), awaits-touched l _ _ same-full t h.1)
-look-touched p q e e_after w v (at.LookTake l) same t h = rw same (handed-touched p.writer_call.context t h)
-look-touched p q e e_after w v at.Yield same t h = rw same (handed-touched p.writer_call.context t h)
+look-touched p q e e_after w v (WritePoint.LookClosed l) same t h = rw same (begun-touched l p.writer_call.context t h)
+look-touched p q e e_after w v (WritePoint.LookHead l) same t h = rw same (begun-touched l p.writer_call.context t h)
+look-touched p q e e_after w v (WritePoint.LookRegister l) same t h = rw same (handed-touched p.writer_call.context t h)
+look-touched p q e e_after w v (WritePoint.LookHeadAgain l) same t h = (rw same (begun-touched l p.writer_call.context t h.0), awaits-touched l _ _ (λ s c. c) t h.1)
+look-touched p q e e_after w v (WritePoint.LookClosedAgain l) same t h = (rw same (begun-touched l p.writer_call.context t h.0), awaits-touched l _ _ same-full t h.1)
+look-touched p q e e_after w v (WritePoint.LookTake l) same t h = rw same (handed-touched p.writer_call.context t h)
+look-touched p q e e_after w v WritePoint.Yield same t h = rw same (handed-touched p.writer_call.context t h)
 look-touched p q e e_after w v point same t h = tt
 
 held-same : (p q : Pipe) → q.writer ≡ p.writer → q.writer_call ≡ p.writer_call → write_held q.writer q.writer_call.taken ≡ write_held p.writer p.writer_call.taken
@@ -110,7 +97,7 @@ writer-touched p q e e_after w v point call t h = record {
 abbrev Goes : Pipe → Errand → Wait → Type 0
 Goes p e w = WriteWaits p e w → let to = went Writer p in WriteWaits to.pipe e (wait_from Writer w to.events)
 
-queried : (query : Query) (count : ℕ) (p : Pipe) (e : Errand) (w : Wait) → Goes (record p { writer = at.QueryTail query count }) e w
+queried : (query : Query) (count : ℕ) (p : Pipe) (e : Errand) (w : Wait) → Goes (record p { writer = WritePoint.QueryTail query count }) e w
 queried query count p e w h = rw (query-noted query p.capacity count w) (record { waiting = h.waiting; look = tt })
 
 -- a call that goes on, or has returned, with this left of its source and of what is lent
@@ -118,25 +105,25 @@ abbrev IsValid : Next WritePoint → List SourceAct → List ℕ → Pipe → Er
 IsValid next source lent p e w =
     WriteWaits (record p { writer = next.point; writer_call = call_after next.answer p.writer_call; source = source; lent = lent }) e (wait_from Writer w (answer_event Writer next.answer))
 
-opens : (l : Purpose) (is_closed none : Bool) (source : List SourceAct) (lent : List ℕ) (p : Pipe) (e : Errand) (w : Wait) → WriteWaits (record p { writer = at.LookClosed l }) e w → IsValid (writer_is_open is_closed none l) source lent p e w
-opens purpose.Poll true none source lent p e w h = record { waiting = h.waiting; look = tt }
-opens (purpose.Copy Try) true none source lent p e w h = record { waiting = h.waiting; look = tt }
-opens (purpose.Copy (Polling is_drawn)) true none source lent p e w h = record { waiting = h.waiting; look = tt }
+opens : (l : Purpose) (is_closed none : Bool) (source : List SourceAct) (lent : List ℕ) (p : Pipe) (e : Errand) (w : Wait) → WriteWaits (record p { writer = WritePoint.LookClosed l }) e w → IsValid (writer_is_open is_closed none l) source lent p e w
+opens Purpose.Poll true none source lent p e w h = record { waiting = h.waiting; look = tt }
+opens (Purpose.Copy Try) true none source lent p e w h = record { waiting = h.waiting; look = tt }
+opens (Purpose.Copy (Polling is_drawn)) true none source lent p e w h = record { waiting = h.waiting; look = tt }
 opens l false true source lent p e w h = record { waiting = h.waiting; look = h.look }
-opens purpose.Poll false false source lent p e w h = record { waiting = h.waiting; look = h.look }
-opens (purpose.Copy Try) false false source lent p e w h = record { waiting = h.waiting; look = tt }
-opens (purpose.Copy (Polling is_drawn)) false false source lent p e w h = record { waiting = h.waiting; look = h.look }
+opens Purpose.Poll false false source lent p e w h = record { waiting = h.waiting; look = h.look }
+opens (Purpose.Copy Try) false false source lent p e w h = record { waiting = h.waiting; look = tt }
+opens (Purpose.Copy (Polling is_drawn)) false false source lent p e w h = record { waiting = h.waiting; look = h.look }
 
-looked : (l : Purpose) (none : Bool) (p : Pipe) (e : Errand) (w : Wait) → WriteWaits (record p { writer = at.LookHead l }) e w → WriteWaits (record p { writer = writer_looked none l }) e w
-looked purpose.Poll true p e w h = record { waiting = h.waiting; look = h.look }
-looked purpose.Poll false p e w h = record { waiting = h.waiting; look = h.look }
-looked (purpose.Copy Try) true p e w h = record { waiting = h.waiting; look = (tt, tt) }
-looked (purpose.Copy Try) false p e w h = record { waiting = h.waiting; look = tt }
-looked (purpose.Copy (Polling is_drawn)) true p e w h = record { waiting = h.waiting; look = h.look }
-looked (purpose.Copy (Polling is_drawn)) false p e w h = record { waiting = h.waiting; look = h.look }
+looked : (l : Purpose) (none : Bool) (p : Pipe) (e : Errand) (w : Wait) → WriteWaits (record p { writer = WritePoint.LookHead l }) e w → WriteWaits (record p { writer = writer_looked none l }) e w
+looked Purpose.Poll true p e w h = record { waiting = h.waiting; look = h.look }
+looked Purpose.Poll false p e w h = record { waiting = h.waiting; look = h.look }
+looked (Purpose.Copy Try) true p e w h = record { waiting = h.waiting; look = (tt, tt) }
+looked (Purpose.Copy Try) false p e w h = record { waiting = h.waiting; look = tt }
+looked (Purpose.Copy (Polling is_drawn)) true p e w h = record { waiting = h.waiting; look = h.look }
+looked (Purpose.Copy (Polling is_drawn)) false p e w h = record { waiting = h.waiting; look = h.look }
 
 abbrev with_context : Option Context → Option ℕ → Purpose → Pipe → Pipe
-with_context context taken l p = record p { writer = at.LookRegister l; writer_call = record { context = context; taken = taken } }
+with_context context taken l p = record p { writer = WritePoint.LookRegister l; writer_call = record { context = context; taken = taken } }
 
 registers : (l : Purpose) (granted : Bool) (waker draw : ℕ) (yields : Bool) (taken : Option ℕ) (p : Pipe) (e : Errand) (w : Wait)
     → Goes (with_context (Some (context_of granted waker draw yields)) taken l p) e w
@@ -151,49 +138,49 @@ registers-if l None taken p e w h = rw (refused-noted l w) (record { waiting = h
 registers-if l (Some cx) taken p e w h = registers l cx.luck.register_granted cx.waker cx.luck.draw cx.luck.yield_granted taken p e w h
 
 -- the second load of head
-looked-again : (l : Purpose) (none : Bool) (p : Pipe) (e : Errand) (w : Wait) → (none ≡ true → length p.unread ≡ p.capacity) → WriteWaits (record p { writer = at.LookHeadAgain l }) e w
+looked-again : (l : Purpose) (none : Bool) (p : Pipe) (e : Errand) (w : Wait) → (none ≡ true → length p.unread ≡ p.capacity) → WriteWaits (record p { writer = WritePoint.LookHeadAgain l }) e w
     → WriteWaits (record p { writer = writer_looked_again none l }) e w
 looked-again l true p e w full h = record { waiting = h.waiting; look = (h.look.0, awaits-more w p.writer_waker e l _ _ (λ c. full refl) h.look.1) }
-looked-again purpose.Poll false p e w full h = record { waiting = h.waiting; look = h.look.0 }
-looked-again (purpose.Copy Try) false p e w full h = record { waiting = h.waiting; look = tt }
-looked-again (purpose.Copy (Polling is_drawn)) false p e w full h = record { waiting = h.waiting; look = h.look.0 }
+looked-again Purpose.Poll false p e w full h = record { waiting = h.waiting; look = h.look.0 }
+looked-again (Purpose.Copy Try) false p e w full h = record { waiting = h.waiting; look = tt }
+looked-again (Purpose.Copy (Polling is_drawn)) false p e w full h = record { waiting = h.waiting; look = h.look.0 }
 
 -- the last load of closed: without room in an open pipe the writer waits from now on
-closed-again : (l : Purpose) (is_closed : Bool) (source : List SourceAct) (lent : List ℕ) (p : Pipe) (e : Errand) (w : Wait) → p.is_closed ≡ is_closed → WriteWaits (record p { writer = at.LookClosedAgain l }) e w
-    → IsValid (ends at.Idle (look_answer l (end_or_pending is_closed))) source lent p e w
-closed-again purpose.Poll true source lent p e w flag h = record { waiting = h.waiting; look = tt }
-closed-again purpose.Poll false source lent p e w flag h = record { waiting = λ pending. rewatch _ _ refl refl refl (λ a. a) (λ full. (full, flag)) h.look.1; look = tt }
-closed-again (purpose.Copy Try) is_closed source lent p e w flag h = record { waiting = h.waiting; look = tt }
-closed-again (purpose.Copy (Polling is_drawn)) true source lent p e w flag h = record { waiting = h.waiting; look = tt }
-closed-again (purpose.Copy (Polling is_drawn)) false source lent p e w flag h = record { waiting = λ pending. rewatch _ _ refl refl refl (λ a. a) (λ full. (full, flag)) h.look.1; look = tt }
+closed-again : (l : Purpose) (is_closed : Bool) (source : List SourceAct) (lent : List ℕ) (p : Pipe) (e : Errand) (w : Wait) → p.is_closed ≡ is_closed → WriteWaits (record p { writer = WritePoint.LookClosedAgain l }) e w
+    → IsValid (ends WritePoint.Idle (look_answer l (end_or_pending is_closed))) source lent p e w
+closed-again Purpose.Poll true source lent p e w flag h = record { waiting = h.waiting; look = tt }
+closed-again Purpose.Poll false source lent p e w flag h = record { waiting = λ pending. rewatch _ _ refl refl refl (λ a. a) (λ full. (full, flag)) h.look.1; look = tt }
+closed-again (Purpose.Copy Try) is_closed source lent p e w flag h = record { waiting = h.waiting; look = tt }
+closed-again (Purpose.Copy (Polling is_drawn)) true source lent p e w flag h = record { waiting = h.waiting; look = tt }
+closed-again (Purpose.Copy (Polling is_drawn)) false source lent p e w flag h = record { waiting = λ pending. rewatch _ _ refl refl refl (λ a. a) (λ full. (full, flag)) h.look.1; look = tt }
 
-takes-own-room : (l : Purpose) (p : Pipe) (e : Errand) (w : Wait) → Goes (record p { writer = at.LookTake l }) e w
-takes-own-room purpose.Poll p e w h = record { waiting = λ pending. absurd (let never = h.look.0 in cc); look = tt }
-takes-own-room (purpose.Copy Try) p e w h = record { waiting = λ pending. absurd (let never = h.look.0 in cc); look = tt }
-takes-own-room (purpose.Copy (Polling true)) p e w h = record { waiting = λ pending. absurd (let never = h.look.0 in cc); look = h.look }
-takes-own-room (purpose.Copy (Polling false)) p e w h = record { waiting = λ pending. absurd (let never = h.look.0 in cc); look = tt }
+takes-own-room : (l : Purpose) (p : Pipe) (e : Errand) (w : Wait) → Goes (record p { writer = WritePoint.LookTake l }) e w
+takes-own-room Purpose.Poll p e w h = record { waiting = λ pending. absurd (let never = h.look.0 in cc); look = tt }
+takes-own-room (Purpose.Copy Try) p e w h = record { waiting = λ pending. absurd (let never = h.look.0 in cc); look = tt }
+takes-own-room (Purpose.Copy (Polling true)) p e w h = record { waiting = λ pending. absurd (let never = h.look.0 in cc); look = h.look }
+takes-own-room (Purpose.Copy (Polling false)) p e w h = record { waiting = λ pending. absurd (let never = h.look.0 in cc); look = tt }
 
 -- a yield: the call returns pending, and its waker was called
 yields : (granted : Bool) (waker draw : ℕ) (registers : Bool) (taken : Option ℕ) (p : Pipe) (e : Errand) (w : Wait)
-    → Goes (record p { writer = at.Yield; writer_call = record { context = Some (record { waker = waker; luck = record { draw = draw; register_granted = registers; yield_granted = granted } }); taken = taken } }) e w
+    → Goes (record p { writer = WritePoint.Yield; writer_call = record { context = Some (record { waker = waker; luck = record { draw = draw; register_granted = registers; yield_granted = granted } }); taken = taken } }) e w
 yields true waker draw registers taken p e w h = record { waiting = λ pending. woken (hears-it (Some waker) w (ap (λ (n : ℕ). Some n) (sym h.look.1))); look = tt }
 yields false waker draw registers taken p e w h = record { waiting = h.waiting; look = tt }
 
-yields-if : (context : Option Context) (taken : Option ℕ) (p : Pipe) (e : Errand) (w : Wait) → Goes (record p { writer = at.Yield; writer_call = record { context = context; taken = taken } }) e w
+yields-if : (context : Option Context) (taken : Option ℕ) (p : Pipe) (e : Errand) (w : Wait) → Goes (record p { writer = WritePoint.Yield; writer_call = record { context = context; taken = taken } }) e w
 yields-if None taken p e w h = record { waiting = h.waiting; look = tt }
 yields-if (Some cx) taken p e w h = yields cx.luck.yield_granted cx.waker cx.luck.draw cx.luck.register_granted taken p e w h
 
 -- a round: it goes on, or the call returns a count or a failure
-moves-on : (none : Bool) (n : ℕ) (form : Form) (sum : ℕ) (source : List SourceAct) (lent : List ℕ) (p : Pipe) (e : Errand) (w : Wait) → WriteWaits (record p { writer = at.CallSource form sum }) e w → IsValid (writer_moved none n form sum) source lent p e w
+moves-on : (none : Bool) (n : ℕ) (form : Form) (sum : ℕ) (source : List SourceAct) (lent : List ℕ) (p : Pipe) (e : Errand) (w : Wait) → WriteWaits (record p { writer = WritePoint.CallSource form sum }) e w → IsValid (writer_moved none n form sum) source lent p e w
 moves-on true n form sum source lent p e w h = rw (counted-noted form sum w) (record { waiting = h.waiting; look = tt })
 moves-on false n form sum source lent p e w h = record { waiting = h.waiting; look = tt }
 
-moves : (given : Result ℕ Failed) (form : Form) (sum : ℕ) (source : List SourceAct) (lent : List ℕ) (p : Pipe) (e : Errand) (w : Wait) → WriteWaits (record p { writer = at.CallSource form sum }) e w
-    → IsValid (write_after p.capacity p.room (at.CallSource form sum) (found_of given)) source lent p e w
+moves : (given : Result ℕ Failed) (form : Form) (sum : ℕ) (source : List SourceAct) (lent : List ℕ) (p : Pipe) (e : Errand) (w : Wait) → WriteWaits (record p { writer = WritePoint.CallSource form sum }) e w
+    → IsValid (write_after p.capacity p.room (WritePoint.CallSource form sum) (found_of given)) source lent p e w
 moves (Ok n) form sum source lent p e w h = moves-on (n == 0) n form sum source lent p e w h
 moves (Err fails) form sum source lent p e w h = record { waiting = h.waiting; look = tt }
 
-rounds : (is_closed : Bool) (n : ℕ) (form : Form) (sum : ℕ) (source : List SourceAct) (lent : List ℕ) (p : Pipe) (e : Errand) (w : Wait) → WriteWaits (record p { writer = at.RoundClosed n form sum }) e w → IsValid (writer_rounds is_closed n form sum) source lent p e w
+rounds : (is_closed : Bool) (n : ℕ) (form : Form) (sum : ℕ) (source : List SourceAct) (lent : List ℕ) (p : Pipe) (e : Errand) (w : Wait) → WriteWaits (record p { writer = WritePoint.RoundClosed n form sum }) e w → IsValid (writer_rounds is_closed n form sum) source lent p e w
 rounds true n form sum source lent p e w h = rw (counted-noted form sum w) (record { waiting = h.waiting; look = tt })
 rounds false n form sum source lent p e w h = record { waiting = h.waiting; look = tt }
 
@@ -204,38 +191,38 @@ none_stored p n sound within full =
     let some = length-take-le n p.lent within in
     omega (arith, sound.room, sound.lent_room)
 
-publishes : (next : AfterWrite) (n : ℕ) (p : Pipe) (e : Errand) (w : Wait) → IsSound (record p { writer = at.StoreTail n next }) → Goes (record p { writer = at.StoreTail n next }) e w
-publishes after_read.Answer n p e w sound h = record { waiting = λ pending. rewatch _ _ refl refl refl (λ a. a) (λ c. (none_stored (record p { writer = at.StoreTail n after_read.Answer }) n sound sound.tail_store c.0, c.1)) (h.waiting pending); look = tt }
-publishes after_read.Drop n p e w sound h = record { waiting = λ pending. rewatch _ _ refl refl refl (λ a. a) (λ c. tt) (h.waiting pending); look = tt }
-publishes after_read.WakeWriter n p e w sound h = record { waiting = λ pending. rewatch _ _ refl refl refl (λ a. a) (λ c. tt) (h.waiting pending); look = tt }
-publishes (after_read.Round form sum) n p e w sound h =
-    record { waiting = λ pending. rewatch _ _ refl refl refl (λ a. a) (λ c. (none_stored (record p { writer = at.StoreTail n (after_read.Round form sum) }) n sound sound.tail_store c.0, c.1)) (h.waiting pending); look = tt }
+publishes : (next : AfterWrite) (n : ℕ) (p : Pipe) (e : Errand) (w : Wait) → IsSound (record p { writer = WritePoint.StoreTail n next }) → Goes (record p { writer = WritePoint.StoreTail n next }) e w
+publishes AfterWrite.Answer n p e w sound h = record { waiting = λ pending. rewatch _ _ refl refl refl (λ a. a) (λ c. (none_stored (record p { writer = WritePoint.StoreTail n AfterWrite.Answer }) n sound sound.tail_store c.0, c.1)) (h.waiting pending); look = tt }
+publishes AfterWrite.Drop n p e w sound h = record { waiting = λ pending. rewatch _ _ refl refl refl (λ a. a) (λ c. tt) (h.waiting pending); look = tt }
+publishes AfterWrite.WakeWriter n p e w sound h = record { waiting = λ pending. rewatch _ _ refl refl refl (λ a. a) (λ c. tt) (h.waiting pending); look = tt }
+publishes (AfterWrite.Round form sum) n p e w sound h =
+    record { waiting = λ pending. rewatch _ _ refl refl refl (λ a. a) (λ c. (none_stored (record p { writer = WritePoint.StoreTail n (AfterWrite.Round form sum) }) n sound sound.tail_store c.0, c.1)) (h.waiting pending); look = tt }
 
-takes-readers : (next : AfterWrite) (slot : Option ℕ) (p : Pipe) (e : Errand) (w : Wait) → Goes (record p { writer = at.TakeReader next; reader_waker = slot }) e w
-takes-readers after_read.Answer None p e w h = record { waiting = h.waiting; look = tt }
-takes-readers after_read.Drop None p e w h = record { waiting = h.waiting; look = tt }
-takes-readers after_read.WakeWriter None p e w h = record { waiting = h.waiting; look = tt }
-takes-readers after_read.Answer (Some waker) p e w h = record { waiting = h.waiting; look = tt }
-takes-readers after_read.Drop (Some waker) p e w h = record { waiting = h.waiting; look = tt }
-takes-readers after_read.WakeWriter (Some waker) p e w h = record { waiting = h.waiting; look = tt }
-takes-readers (after_read.Round form sum) None p e w h = record { waiting = h.waiting; look = tt }
-takes-readers (after_read.Round form sum) (Some waker) p e w h = record { waiting = h.waiting; look = tt }
+takes-readers : (next : AfterWrite) (slot : Option ℕ) (p : Pipe) (e : Errand) (w : Wait) → Goes (record p { writer = WritePoint.TakeReader next; reader_waker = slot }) e w
+takes-readers AfterWrite.Answer None p e w h = record { waiting = h.waiting; look = tt }
+takes-readers AfterWrite.Drop None p e w h = record { waiting = h.waiting; look = tt }
+takes-readers AfterWrite.WakeWriter None p e w h = record { waiting = h.waiting; look = tt }
+takes-readers AfterWrite.Answer (Some waker) p e w h = record { waiting = h.waiting; look = tt }
+takes-readers AfterWrite.Drop (Some waker) p e w h = record { waiting = h.waiting; look = tt }
+takes-readers AfterWrite.WakeWriter (Some waker) p e w h = record { waiting = h.waiting; look = tt }
+takes-readers (AfterWrite.Round form sum) None p e w h = record { waiting = h.waiting; look = tt }
+takes-readers (AfterWrite.Round form sum) (Some waker) p e w h = record { waiting = h.waiting; look = tt }
 
-wakes-reader : (next : AfterWrite) (context : Option Context) (name : Option ℕ) (p : Pipe) (e : Errand) (w : Wait) → Goes (record p { writer = at.WakeReader next; writer_call = record { context = context; taken = name } }) e w
-wakes-reader after_read.Answer context None p e w h = record { waiting = h.waiting; look = tt }
-wakes-reader after_read.Drop context None p e w h = record { waiting = h.waiting; look = tt }
-wakes-reader after_read.WakeWriter context None p e w h = record { waiting = h.waiting; look = tt }
-wakes-reader after_read.Answer context (Some waker) p e w h = record { waiting = λ pending. rewatch _ _ refl refl refl (hears-more (Some waker) w) (λ c. c) (h.waiting pending); look = tt }
-wakes-reader after_read.Drop context (Some waker) p e w h = record { waiting = λ pending. rewatch _ _ refl refl refl (hears-more (Some waker) w) (λ c. c) (h.waiting pending); look = tt }
-wakes-reader after_read.WakeWriter context (Some waker) p e w h = record { waiting = λ pending. rewatch _ _ refl refl refl (hears-more (Some waker) w) (λ c. c) (h.waiting pending); look = tt }
-wakes-reader (after_read.Round form sum) context None p e w h = record { waiting = h.waiting; look = tt }
-wakes-reader (after_read.Round form sum) context (Some waker) p e w h = record { waiting = λ pending. rewatch _ _ refl refl refl (hears-more (Some waker) w) (λ c. c) (h.waiting pending); look = tt }
+wakes-reader : (next : AfterWrite) (context : Option Context) (name : Option ℕ) (p : Pipe) (e : Errand) (w : Wait) → Goes (record p { writer = WritePoint.WakeReader next; writer_call = record { context = context; taken = name } }) e w
+wakes-reader AfterWrite.Answer context None p e w h = record { waiting = h.waiting; look = tt }
+wakes-reader AfterWrite.Drop context None p e w h = record { waiting = h.waiting; look = tt }
+wakes-reader AfterWrite.WakeWriter context None p e w h = record { waiting = h.waiting; look = tt }
+wakes-reader AfterWrite.Answer context (Some waker) p e w h = record { waiting = λ pending. rewatch _ _ refl refl refl (hears-more (Some waker) w) (λ c. c) (h.waiting pending); look = tt }
+wakes-reader AfterWrite.Drop context (Some waker) p e w h = record { waiting = λ pending. rewatch _ _ refl refl refl (hears-more (Some waker) w) (λ c. c) (h.waiting pending); look = tt }
+wakes-reader AfterWrite.WakeWriter context (Some waker) p e w h = record { waiting = λ pending. rewatch _ _ refl refl refl (hears-more (Some waker) w) (λ c. c) (h.waiting pending); look = tt }
+wakes-reader (AfterWrite.Round form sum) context None p e w h = record { waiting = h.waiting; look = tt }
+wakes-reader (AfterWrite.Round form sum) context (Some waker) p e w h = record { waiting = λ pending. rewatch _ _ refl refl refl (hears-more (Some waker) w) (λ c. c) (h.waiting pending); look = tt }
 
-closes : (next : AfterWrite) (p : Pipe) (e : Errand) (w : Wait) → Goes (record p { writer = at.StoreClosed next }) e w
-closes after_read.Answer p e w h = record { waiting = λ pending. rewatch _ _ refl refl refl (λ a. a) (λ c. absurd c) (h.waiting pending); look = tt }
-closes (after_read.Round form sum) p e w h = record { waiting = λ pending. rewatch _ _ refl refl refl (λ a. a) (λ c. absurd c) (h.waiting pending); look = tt }
-closes after_read.Drop p e w h = record { waiting = λ pending. rewatch _ _ refl refl refl (λ a. a) (λ c. tt) (h.waiting pending); look = tt }
-closes after_read.WakeWriter p e w h = record { waiting = λ pending. rewatch _ _ refl refl refl (λ a. a) (λ c. tt) (h.waiting pending); look = tt }
+closes : (next : AfterWrite) (p : Pipe) (e : Errand) (w : Wait) → Goes (record p { writer = WritePoint.StoreClosed next }) e w
+closes AfterWrite.Answer p e w h = record { waiting = λ pending. rewatch _ _ refl refl refl (λ a. a) (λ c. absurd c) (h.waiting pending); look = tt }
+closes (AfterWrite.Round form sum) p e w h = record { waiting = λ pending. rewatch _ _ refl refl refl (λ a. a) (λ c. absurd c) (h.waiting pending); look = tt }
+closes AfterWrite.Drop p e w h = record { waiting = λ pending. rewatch _ _ refl refl refl (λ a. a) (λ c. tt) (h.waiting pending); look = tt }
+closes AfterWrite.WakeWriter p e w h = record { waiting = λ pending. rewatch _ _ refl refl refl (λ a. a) (λ c. tt) (h.waiting pending); look = tt }
 
 -- after a close the writer empties its own slot: what was there it holds
 empties : {w : Wait} {e : Errand} (slot : Option ℕ) (calm : Type 0) → Watched w slot None calm e → Watched w None slot ⊥ e
@@ -248,7 +235,7 @@ empties slot calm (holding h) = absurd (cc)
 none_emptied : {w : Wait} {e : Errand} (calm : Type 0) → Watched w None None ⊥ e → Watched w None None calm e
 none_emptied calm h = rewatch ⊥ calm refl refl refl (λ a. a) (λ c. absurd c) h
 
-takes-own-slot : (slot : Option ℕ) (p : Pipe) (e : Errand) (w : Wait) → Goes (record p { writer = at.TakeWriter; writer_waker = slot }) e w
+takes-own-slot : (slot : Option ℕ) (p : Pipe) (e : Errand) (w : Wait) → Goes (record p { writer = WritePoint.TakeWriter; writer_waker = slot }) e w
 takes-own-slot None p e w h = record { waiting = λ pending. none_emptied _ (empties None ⊤ (h.waiting pending)); look = tt }
 takes-own-slot (Some waker) p e w h = record { waiting = λ pending. empties (Some waker) ⊤ (h.waiting pending); look = tt }
 
@@ -260,7 +247,7 @@ hears-held {w = w} name calm (taking h t) = taking (h ∙ ap (λ (n : ℕ). Some
 hears-held {w = w} name calm (waking t) = waking (t ∙ ap (λ (n : ℕ). wakes (Some n)) (sym (hears-handed name w)))
 hears-held {w = w} name calm (holding h) = woken (hears-it name w h)
 
-wakes-own : (context : Option Context) (name : Option ℕ) (p : Pipe) (e : Errand) (w : Wait) → Goes (record p { writer = at.WakeWriter; writer_call = record { context = context; taken = name } }) e w
+wakes-own : (context : Option Context) (name : Option ℕ) (p : Pipe) (e : Errand) (w : Wait) → Goes (record p { writer = WritePoint.WakeWriter; writer_call = record { context = context; taken = name } }) e w
 wakes-own context None p e w h = record { waiting = λ pending. hears-held None _ (h.waiting pending); look = tt }
 wakes-own context (Some waker) p e w h = record { waiting = λ pending. hears-held (Some waker) _ (h.waiting pending); look = tt }
 
@@ -272,27 +259,27 @@ abbrev pub GoesOffered : List ℕ → Pipe → Errand → Wait → Type 0
 GoesOffered offered p e w = WriteWaits p e w → let to = went Writer (offering offered p) in WriteWaits to.pipe e (wait_from Writer w to.events)
 
 pub writer-goes : (offered : List ℕ) (point : WritePoint) (p : Pipe) (e : Errand) (w : Wait) → IsSound (record p { writer = point }) → GoesOffered offered (record p { writer = point }) e w
-writer-goes offered at.Idle p e w sound h = record { waiting = h.waiting; look = tt }
-writer-goes offered at.Dropped p e w sound h = record { waiting = h.waiting; look = tt }
-writer-goes offered (at.QueryHead query) p e w sound h = record { waiting = h.waiting; look = tt }
-writer-goes offered (at.QueryTail query count) p e w sound h = queried query count p e w h
-writer-goes offered at.QueryClosed p e w sound h = record { waiting = h.waiting; look = tt }
-writer-goes offered (at.LookClosed l) p e w sound h = opens l p.is_closed (p.room == 0) _ _ p e w h
-writer-goes offered (at.LookHead l) p e w sound h = looked l (p.capacity - length p.unread == 0) (index_loaded_by Writer p) e w (record { waiting = h.waiting; look = h.look })
-writer-goes offered (at.LookRegister l) p e w sound h = registers-if l p.writer_call.context p.writer_call.taken p e w h
-writer-goes offered (at.LookHeadAgain l) p e w sound h =
-    looked-again l (p.capacity - length p.unread == 0) (index_loaded_by Writer p) e w (full_from (record p { writer = at.LookHeadAgain l }) sound) (record { waiting = h.waiting; look = h.look })
-writer-goes offered (at.LookClosedAgain l) p e w sound h = closed-again l p.is_closed _ _ p e w refl h
-writer-goes offered (at.LookTake l) p e w sound h = takes-own-room l p e w h
-writer-goes offered at.Yield p e w sound h = yields-if p.writer_call.context p.writer_call.taken p e w h
-writer-goes offered (at.CallSource form sum) p e w sound h = moves (given (length offered) p.source) form sum _ _ p e w h
-writer-goes offered (at.RoundClosed n form sum) p e w sound h = rounds p.is_closed n form sum _ _ p e w h
-writer-goes offered (at.StoreTail n next) p e w sound h = publishes next n p e w sound h
-writer-goes offered (at.TakeReader next) p e w sound h = takes-readers next p.reader_waker p e w h
-writer-goes offered (at.WakeReader next) p e w sound h = wakes-reader next p.writer_call.context p.writer_call.taken p e w h
-writer-goes offered (at.StoreClosed next) p e w sound h = closes next p e w h
-writer-goes offered at.TakeWriter p e w sound h = takes-own-slot p.writer_waker p e w h
-writer-goes offered at.WakeWriter p e w sound h = wakes-own p.writer_call.context p.writer_call.taken p e w h
+writer-goes offered WritePoint.Idle p e w sound h = record { waiting = h.waiting; look = tt }
+writer-goes offered WritePoint.Dropped p e w sound h = record { waiting = h.waiting; look = tt }
+writer-goes offered (WritePoint.QueryHead query) p e w sound h = record { waiting = h.waiting; look = tt }
+writer-goes offered (WritePoint.QueryTail query count) p e w sound h = queried query count p e w h
+writer-goes offered WritePoint.QueryClosed p e w sound h = record { waiting = h.waiting; look = tt }
+writer-goes offered (WritePoint.LookClosed l) p e w sound h = opens l p.is_closed (p.room == 0) _ _ p e w h
+writer-goes offered (WritePoint.LookHead l) p e w sound h = looked l (p.capacity - length p.unread == 0) (index_loaded_by Writer p) e w (record { waiting = h.waiting; look = h.look })
+writer-goes offered (WritePoint.LookRegister l) p e w sound h = registers-if l p.writer_call.context p.writer_call.taken p e w h
+writer-goes offered (WritePoint.LookHeadAgain l) p e w sound h =
+    looked-again l (p.capacity - length p.unread == 0) (index_loaded_by Writer p) e w (full_from (record p { writer = WritePoint.LookHeadAgain l }) sound) (record { waiting = h.waiting; look = h.look })
+writer-goes offered (WritePoint.LookClosedAgain l) p e w sound h = closed-again l p.is_closed _ _ p e w refl h
+writer-goes offered (WritePoint.LookTake l) p e w sound h = takes-own-room l p e w h
+writer-goes offered WritePoint.Yield p e w sound h = yields-if p.writer_call.context p.writer_call.taken p e w h
+writer-goes offered (WritePoint.CallSource form sum) p e w sound h = moves (given (length offered) p.source) form sum _ _ p e w h
+writer-goes offered (WritePoint.RoundClosed n form sum) p e w sound h = rounds p.is_closed n form sum _ _ p e w h
+writer-goes offered (WritePoint.StoreTail n next) p e w sound h = publishes next n p e w sound h
+writer-goes offered (WritePoint.TakeReader next) p e w sound h = takes-readers next p.reader_waker p e w h
+writer-goes offered (WritePoint.WakeReader next) p e w sound h = wakes-reader next p.writer_call.context p.writer_call.taken p e w h
+writer-goes offered (WritePoint.StoreClosed next) p e w sound h = closes next p e w h
+writer-goes offered WritePoint.TakeWriter p e w sound h = takes-own-slot p.writer_waker p e w h
+writer-goes offered WritePoint.WakeWriter p e w sound h = wakes-own p.writer_call.context p.writer_call.taken p e w h
 
 -- what each step is to a waiting reader
 
@@ -301,15 +288,15 @@ Touches p w =
     let to = went Writer p in
     Touch p to.pipe p.reader_waker to.pipe.reader_waker (write_errand p.writer p.writer_call) (write_errand to.pipe.writer to.pipe.writer_call) w (wait_from Reader w to.events)
 
-takes-touch : (next : AfterWrite) (slot : Option ℕ) (p : Pipe) (w : Wait) → Touches (record p { writer = at.TakeReader next; reader_waker = slot }) w
+takes-touch : (next : AfterWrite) (slot : Option ℕ) (p : Pipe) (w : Wait) → Touches (record p { writer = WritePoint.TakeReader next; reader_waker = slot }) w
 takes-touch next None p w = misses refl refl (answered-passes Reader Writer w w [] (write_done next).answer refl refl)
 takes-touch next (Some waker) p w = finds waker refl refl refl refl
 
-closes-touch : (next : AfterWrite) (p : Pipe) (w : Wait) → Touches (record p { writer = at.StoreClosed next }) w
-closes-touch after_read.Answer p w = stores refl refl refl refl
-closes-touch (after_read.Round form sum) p w = stores refl refl refl refl
-closes-touch after_read.Drop p w = stores refl refl refl refl
-closes-touch after_read.WakeWriter p w = stores refl refl refl refl
+closes-touch : (next : AfterWrite) (p : Pipe) (w : Wait) → Touches (record p { writer = WritePoint.StoreClosed next }) w
+closes-touch AfterWrite.Answer p w = stores refl refl refl refl
+closes-touch (AfterWrite.Round form sum) p w = stores refl refl refl refl
+closes-touch AfterWrite.Drop p w = stores refl refl refl refl
+closes-touch AfterWrite.WakeWriter p w = stores refl refl refl refl
 
 abbrev pub TouchesOffered : List ℕ → Pipe → Wait → Type 0
 TouchesOffered offered p w =
@@ -317,25 +304,25 @@ TouchesOffered offered p w =
     Touch p to.pipe p.reader_waker to.pipe.reader_waker (write_errand p.writer p.writer_call) (write_errand to.pipe.writer to.pipe.writer_call) w (wait_from Reader w to.events)
 
 pub writer-touches : (offered : List ℕ) (point : WritePoint) (p : Pipe) (w : Wait) → TouchesOffered offered (record p { writer = point }) w
-writer-touches offered at.Idle p w = rests None (same _ _ refl refl refl) refl refl refl
-writer-touches offered at.Dropped p w = rests None (same _ _ refl refl refl) refl refl refl
-writer-touches offered (at.QueryHead query) p w = rests None (same _ _ refl refl refl) refl refl refl
-writer-touches offered (at.QueryTail query count) p w = rests None (same _ _ refl refl refl) refl refl refl
-writer-touches offered at.QueryClosed p w = rests None (same _ _ refl refl refl) refl refl refl
-writer-touches offered (at.LookClosed l) p w = rests None (same _ _ refl refl refl) refl refl (answered-passes Reader Writer w w (logged_of Writer (write_action (at.LookClosed l)) p) _ refl refl)
-writer-touches offered (at.LookHead l) p w = rests None (same _ _ refl refl refl) refl refl refl
-writer-touches offered (at.LookRegister l) p w = rests None (same _ _ refl refl refl) refl refl
+writer-touches offered WritePoint.Idle p w = rests None (same _ _ refl refl refl) refl refl refl
+writer-touches offered WritePoint.Dropped p w = rests None (same _ _ refl refl refl) refl refl refl
+writer-touches offered (WritePoint.QueryHead query) p w = rests None (same _ _ refl refl refl) refl refl refl
+writer-touches offered (WritePoint.QueryTail query count) p w = rests None (same _ _ refl refl refl) refl refl refl
+writer-touches offered WritePoint.QueryClosed p w = rests None (same _ _ refl refl refl) refl refl refl
+writer-touches offered (WritePoint.LookClosed l) p w = rests None (same _ _ refl refl refl) refl refl (answered-passes Reader Writer w w (logged_of Writer (write_action (WritePoint.LookClosed l)) p) _ refl refl)
+writer-touches offered (WritePoint.LookHead l) p w = rests None (same _ _ refl refl refl) refl refl refl
+writer-touches offered (WritePoint.LookRegister l) p w = rests None (same _ _ refl refl refl) refl refl
     (answered-passes Reader Writer w w (registration_of Writer p.writer_call.context) _ refl (registration-passes Reader Writer w p.writer_call.context refl))
-writer-touches offered (at.LookHeadAgain l) p w = rests None (same _ _ refl refl refl) refl refl refl
-writer-touches offered (at.LookClosedAgain l) p w = rests None (same _ _ refl refl refl) refl refl refl
-writer-touches offered (at.LookTake l) p w = rests None (same _ _ refl refl refl) refl refl (answered-passes Reader Writer w w [] _ refl refl)
-writer-touches offered at.Yield p w = rests (yielded p.writer_call.context) (same _ _ refl refl refl) refl refl
+writer-touches offered (WritePoint.LookHeadAgain l) p w = rests None (same _ _ refl refl refl) refl refl refl
+writer-touches offered (WritePoint.LookClosedAgain l) p w = rests None (same _ _ refl refl refl) refl refl refl
+writer-touches offered (WritePoint.LookTake l) p w = rests None (same _ _ refl refl refl) refl refl (answered-passes Reader Writer w w [] _ refl refl)
+writer-touches offered WritePoint.Yield p w = rests (yielded p.writer_call.context) (same _ _ refl refl refl) refl refl
     (answered-passes Reader Writer w _ (yield_of p.writer_call.context) (Some (yield_answer (is_yield_granted p.writer_call.context))) refl (yield-heard Reader w p.writer_call.context))
-writer-touches offered (at.CallSource form sum) p w = rests None (same _ _ refl refl refl) refl refl (answered-passes Reader Writer w w [] _ refl refl)
-writer-touches offered (at.RoundClosed n form sum) p w = rests None (same _ _ refl refl refl) refl refl (answered-passes Reader Writer w w (logged_of Writer (write_action (at.RoundClosed n form sum)) p) _ refl refl)
-writer-touches offered (at.StoreTail n next) p w = stores refl refl refl refl
-writer-touches offered (at.TakeReader next) p w = takes-touch next p.reader_waker p w
-writer-touches offered (at.WakeReader next) p w = calls p.writer_call.taken (same _ _ refl refl refl) refl refl (answered-passes Reader Writer w _ (wake_of p.writer_call.taken) (write_done next).answer refl (wake-heard Reader w p.writer_call.taken))
-writer-touches offered (at.StoreClosed next) p w = closes-touch next p w
-writer-touches offered at.TakeWriter p w = rests None (same _ _ refl refl refl) refl refl (answered-passes Reader Writer w w [] _ refl refl)
-writer-touches offered at.WakeWriter p w = rests p.writer_call.taken (same _ _ refl refl refl) refl refl (answered-passes Reader Writer w _ (wake_of p.writer_call.taken) (Some Done) refl (wake-heard Reader w p.writer_call.taken))
+writer-touches offered (WritePoint.CallSource form sum) p w = rests None (same _ _ refl refl refl) refl refl (answered-passes Reader Writer w w [] _ refl refl)
+writer-touches offered (WritePoint.RoundClosed n form sum) p w = rests None (same _ _ refl refl refl) refl refl (answered-passes Reader Writer w w (logged_of Writer (write_action (WritePoint.RoundClosed n form sum)) p) _ refl refl)
+writer-touches offered (WritePoint.StoreTail n next) p w = stores refl refl refl refl
+writer-touches offered (WritePoint.TakeReader next) p w = takes-touch next p.reader_waker p w
+writer-touches offered (WritePoint.WakeReader next) p w = calls p.writer_call.taken (same _ _ refl refl refl) refl refl (answered-passes Reader Writer w _ (wake_of p.writer_call.taken) (write_done next).answer refl (wake-heard Reader w p.writer_call.taken))
+writer-touches offered (WritePoint.StoreClosed next) p w = closes-touch next p w
+writer-touches offered WritePoint.TakeWriter p w = rests None (same _ _ refl refl refl) refl refl (answered-passes Reader Writer w w [] _ refl refl)
+writer-touches offered WritePoint.WakeWriter p w = rests p.writer_call.taken (same _ _ refl refl refl) refl refl (answered-passes Reader Writer w _ (wake_of p.writer_call.taken) (Some Done) refl (wake-heard Reader w p.writer_call.taken))

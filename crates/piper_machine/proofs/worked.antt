@@ -1,20 +1,10 @@
--- Worked examples: what lists of calls and of steps answer, evaluated on the definitions by
--- computation.
-mod Script
-mod Counts
-mod WrapAround
-mod StaleCounts
-mod InPlace
-mod Ends
-mod Wakers
-mod Yields
-mod ScriptedEnds
+-- Worked examples of the definitions, by computation. What calls answer is in the scripts of
+-- `piper_compare`.
 mod Lends
-mod StepScript
+mod Gone
 mod BySteps
 mod Steps
 mod Known
-mod Refusals
 mod HonestEnd
 mod Waiters
 mod ToldEnd

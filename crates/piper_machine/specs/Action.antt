@@ -1,24 +1,14 @@
 -- The atomic steps of a side, by their kinds:
 -- what each changes, what it finds, and what is logged of it.
 use Rattle.std.specs.Prelude.{ℕ, ◌-◌, min, List, [], ◌∷◌, ◌++◌, take, drop, length, Bool, true, false, Option, None, Some, ◌==◌, is_some}
-use Rattle.piper_protocol.specs.declared.table.Side.{Side}
-use Rattle.piper_protocol.specs.declared.table.Side.TheVariants.{Reader, Writer}
-use Rattle.piper_machine.specs.declared.calls.OpenCall.{OpenCall}
-use Rattle.piper_machine.specs.declared.polling.Context.{Context}
-use Rattle.piper_protocol.specs.declared.table.Action.{Action}
-use Rattle.piper_protocol.specs.declared.table.Action.TheVariants as does
-use Rattle.piper_machine.specs.declared.events.Event.{Event}
-use Rattle.piper_machine.specs.declared.events.Event.TheVariants.{Looked, Published, Consumed, Closed, Registered, Woken}
-use Rattle.piper_machine.specs.declared.events.Seen.TheVariants as seen
-use Rattle.piper_protocol.specs.declared.table.TheConstants.{MOST_A_ROUND}
+use Rattle.piper_machine.specs.Types.{Seen, Side, OpenCall, Context, Action, Event, Found, Reader, Writer, Looked, Published, Consumed, Closed, Registered, Woken, MOST_A_ROUND, Nothing as nothing, Unread as unread, IndexLoaded as index_loaded, Granted as granted, Waker as waker}
 use Rattle.piper_machine.specs.Open.{is_granted, is_yield_granted}
 use Rattle.piper_machine.specs.Pipe.{Pipe}
 use Rattle.piper_machine.specs.Places.{peeked_count}
 use Rattle.piper_machine.specs.Move.{published, consumed}
 use Rattle.piper_machine.specs.Source.{bytes_of}
 use Rattle.piper_machine.specs.Round.{given, taken, left_of_source, left_of_destination, found_of, moved_by}
-use Rattle.piper_protocol.specs.declared.table.Found.{Found}
-use Rattle.piper_protocol.specs.declared.table.Found.TheVariants.{Nothing as nothing, Unread as unread, IndexLoaded as index_loaded, Flag as flag, Granted as granted, Waker as waker}
+use Rattle.piper_protocol.specs.declared.table.Found.TheVariants.{Flag as flag}
 
 -- what the open call of a side holds
 abbrev pub call_of : Side → Pipe → OpenCall
@@ -78,36 +68,36 @@ source_called p = let n = moved_by (given (length p.lent) p.source) in
 
 -- the pipe after a step of this side
 abbrev pub performed : Side → Action → Pipe → Pipe
-performed side does.Rest p = p
-performed side does.LoadHead p = p
-performed side does.LoadTail p = p
-performed side does.LoadIndex p = index_loaded_by side p
-performed side does.LoadClosed p = p
-performed side does.Register p =
+performed side Action.Rest p = p
+performed side Action.LoadHead p = p
+performed side Action.LoadTail p = p
+performed side Action.LoadIndex p = index_loaded_by side p
+performed side Action.LoadClosed p = p
+performed side Action.Register p =
     with_waker_in side (registered_in (call_of side p).context (waker_in side p)) p
-performed side (does.StoreHead n) p = consumed n p
-performed side (does.StoreTail n) p = published n p
-performed side (does.StoreClosed is_shut) p = closed_by is_shut p
-performed side (does.Take slot) p = taken_by side slot p
-performed side does.Wake p = with_call side (record (call_of side p) { taken = None }) p
-performed side does.Yield p = p
-performed side does.CallDestination p = destination_called p
-performed side does.CallSource p = source_called p
+performed side (Action.StoreHead n) p = consumed n p
+performed side (Action.StoreTail n) p = published n p
+performed side (Action.StoreClosed is_shut) p = closed_by is_shut p
+performed side (Action.Take slot) p = taken_by side slot p
+performed side Action.Wake p = with_call side (record (call_of side p) { taken = None }) p
+performed side Action.Yield p = p
+performed side Action.CallDestination p = destination_called p
+performed side Action.CallSource p = source_called p
 
 -- what the step finds: the reader's count of unread bytes is
 -- that of its load of tail, the writer's that of its load of head
 abbrev pub found_by : Side → Action → Pipe → Found
-found_by Reader does.LoadTail p = unread (length p.unread)
-found_by Writer does.LoadHead p = unread (length p.unread)
-found_by Reader does.LoadIndex p = index_loaded (length p.unread == 0)
-found_by Writer does.LoadIndex p = index_loaded (p.capacity - length p.unread == 0)
-found_by side does.LoadClosed p = flag p.is_closed
-found_by side does.Register p = granted (is_granted (call_of side p).context)
-found_by side does.Yield p = granted (is_yield_granted (call_of side p).context)
-found_by Reader does.CallDestination p = found_of (taken (round_count p) p.destination)
-found_by Writer does.CallSource p = found_of (given (length p.lent) p.source)
-found_by Reader (does.Take Writer) p = waker (is_some p.writer_waker)
-found_by Writer (does.Take slot) p = waker (is_some (waker_in slot p))
+found_by Reader Action.LoadTail p = unread (length p.unread)
+found_by Writer Action.LoadHead p = unread (length p.unread)
+found_by Reader Action.LoadIndex p = index_loaded (length p.unread == 0)
+found_by Writer Action.LoadIndex p = index_loaded (p.capacity - length p.unread == 0)
+found_by side Action.LoadClosed p = flag p.is_closed
+found_by side Action.Register p = granted (is_granted (call_of side p).context)
+found_by side Action.Yield p = granted (is_yield_granted (call_of side p).context)
+found_by Reader Action.CallDestination p = found_of (taken (round_count p) p.destination)
+found_by Writer Action.CallSource p = found_of (given (length p.lent) p.source)
+found_by Reader (Action.Take Writer) p = waker (is_some p.writer_waker)
+found_by Writer (Action.Take slot) p = waker (is_some (waker_in slot p))
 found_by side action p = nothing
 
 -- what is logged of the step
@@ -121,8 +111,8 @@ registration_of side None = []
 registration_of side (Some cx) = registration side cx.luck.register_granted cx.waker
 
 abbrev pub index_event : Side → ℕ → Event
-index_event Reader count = Looked Reader (seen.Tail count)
-index_event Writer count = Looked Writer (seen.Head count)
+index_event Reader count = Looked Reader (Seen.Tail count)
+index_event Writer count = Looked Writer (Seen.Head count)
 
 abbrev pub wake_of : Option ℕ → List Event
 wake_of None = []
@@ -137,17 +127,17 @@ yield_of None = []
 yield_of (Some cx) = woken_if cx.luck.yield_granted cx.waker
 
 abbrev pub logged_of : Side → Action → Pipe → List Event
-logged_of side does.Rest p = []
-logged_of side does.LoadHead p = Looked side (seen.Head (length p.unread)) ∷ []
-logged_of side does.LoadTail p = Looked side (seen.Tail (length p.unread)) ∷ []
-logged_of side does.LoadIndex p = index_event side (length p.unread) ∷ []
-logged_of side does.LoadClosed p = Looked side (seen.Closed p.is_closed) ∷ []
-logged_of side does.Register p = registration_of side (call_of side p).context
-logged_of side (does.StoreHead n) p = Consumed (take n p.unread) ∷ []
-logged_of side (does.StoreTail n) p = Published (take n p.lent) ∷ []
-logged_of side (does.StoreClosed is_shut) p = Closed side ∷ []
-logged_of side (does.Take slot) p = []
-logged_of side does.Wake p = wake_of (call_of side p).taken
-logged_of side does.Yield p = yield_of (call_of side p).context
-logged_of side does.CallDestination p = []
-logged_of side does.CallSource p = []
+logged_of side Action.Rest p = []
+logged_of side Action.LoadHead p = Looked side (Seen.Head (length p.unread)) ∷ []
+logged_of side Action.LoadTail p = Looked side (Seen.Tail (length p.unread)) ∷ []
+logged_of side Action.LoadIndex p = index_event side (length p.unread) ∷ []
+logged_of side Action.LoadClosed p = Looked side (Seen.Closed p.is_closed) ∷ []
+logged_of side Action.Register p = registration_of side (call_of side p).context
+logged_of side (Action.StoreHead n) p = Consumed (take n p.unread) ∷ []
+logged_of side (Action.StoreTail n) p = Published (take n p.lent) ∷ []
+logged_of side (Action.StoreClosed is_shut) p = Closed side ∷ []
+logged_of side (Action.Take slot) p = []
+logged_of side Action.Wake p = wake_of (call_of side p).taken
+logged_of side Action.Yield p = yield_of (call_of side p).context
+logged_of side Action.CallDestination p = []
+logged_of side Action.CallSource p = []

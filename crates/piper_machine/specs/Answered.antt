@@ -1,13 +1,7 @@
 -- What calls answer: over the log of a run, each side opens the
 -- calls of the list of steps, and what they move and answer is right.
 use Rattle.std.specs.Prelude.{◌≡◌, ℕ, List, [], ◌∷◌, ◌++◌, Option, IsSomeAnd, ⊤}
-use Rattle.piper_protocol.specs.declared.table.Side.{Side}
-use Rattle.piper_protocol.specs.declared.table.Side.TheVariants.{Reader, Writer}
-use Rattle.piper_machine.specs.declared.calls.Call.{Call}
-use Rattle.piper_machine.specs.declared.calls.Kind.{Kind}
-use Rattle.piper_machine.specs.declared.calls.Step.{Step}
-use Rattle.piper_machine.specs.declared.events.Event.{Event}
-use Rattle.piper_machine.specs.declared.events.Event.TheVariants.{Began, Published, Consumed, Answered}
+use Rattle.piper_machine.specs.Types.{Side, Call, Kind, Step, Event, Reader, Writer, Began, Published, Consumed, Answered}
 use Rattle.piper_machine.specs.Call.{kind_of, waker_of}
 use Rattle.piper_machine.specs.Noted.{Noted, unnoted, calls_of, noted_after}
 use Rattle.piper_machine.specs.Outcome.{MayHaveMoved, IsAnswer}

@@ -1,7 +1,6 @@
 -- No two sleepers: an empty pipe blocks the reader alone, and a full one the writer alone.
 use Rattle.std.specs.Prelude.{◌≡◌, ◌⊎◌, List, true}
-use Rattle.piper_protocol.specs.declared.table.Side.TheVariants.{Reader, Writer}
-use Rattle.piper_machine.specs.declared.events.Event.{Event}
+use Rattle.piper_machine.specs.Types.{Event, Reader, Writer}
 use Rattle.piper_machine.specs.Pipe.{Pipe}
 use Rattle.piper_machine.specs.Refusal.{IsIdle}
 use Rattle.piper_machine.specs.Remembered.{WasCalled}

@@ -1,18 +1,7 @@
 -- A call made by steps, none of which is the other side's, is the call run whole.
 use Rattle.std.specs.Prelude.{◌≡◌, ℕ, ◌≤◌, List, [], ◌∷◌, ◌++◌, length, replicate, Bool, true, false, Result, Ok, Err, None, Some}
-use Rattle.piper_protocol.specs.declared.table.Side.{Side}
-use Rattle.piper_protocol.specs.declared.table.Side.TheVariants.{Reader, Writer}
-use Rattle.piper_machine.specs.declared.calls.SideState.TheVariants.{Busy}
-use Rattle.piper_machine.specs.declared.calls.Call.{Call}
-use Rattle.piper_machine.specs.declared.calls.Call.TheVariants as call
-use Rattle.piper_machine.specs.declared.calls.Step.TheVariants.{Begin, Go}
-use Rattle.piper_protocol.specs.declared.answer.Answer.{Answer}
-use Rattle.piper_protocol.specs.declared.answer.Answer.TheVariants.{Count, Flag, Poll, Copy, Lent, Done}
-use Rattle.piper_machine.specs.declared.events.Event.{Event}
-use Rattle.piper_machine.specs.declared.events.Event.TheVariants.{Woken, Answered}
-use Rattle.piper_protocol.specs.declared.answer.Polled.{Polled}
-use Rattle.piper_protocol.specs.declared.answer.Polled.TheVariants.{Pending, Ready, Memory}
-use Rattle.piper_protocol.specs.declared.answer.Failed.{Failed}
+use Rattle.piper_machine.specs.Types.{Side, Call, Answer, Event, Polled, Failed, Reader, Writer, Busy, Begin, Go, Count, Lent, Done, Woken, Answered, Pending, Ready, Memory}
+use Rattle.piper_protocol.specs.declared.answer.Answer.TheVariants.{Flag, Poll, Copy}
 use Rattle.piper_machine.specs.Call.{side_of}
 use Rattle.piper_protocol.specs.Table.{query_answer}
 use Rattle.piper_machine.specs.Pipe.{Pipe, begun}
@@ -60,36 +49,36 @@ copied_acts copied = answering (Copy copied.answer) copied.pipe
 -- what a call returns and leaves that is run whole, with these bytes in what a call of write_buf
 -- lends
 abbrev pub whole : List ℕ → Call → Pipe → Ended
-whole lent (call.Query side query) p =
+whole lent (Call.Query side query) p =
     answering (query_answer query p.capacity (unread_count p)) (begun p)
-whole lent (call.IsClosed side) p = answering (Flag (is_closed p)) (begun p)
-whole lent (call.Poll side waker luck) p =
+whole lent (Call.IsClosed side) p = answering (Flag (is_closed p)) (begun p)
+whole lent (Call.Poll side waker luck) p =
     looked_whole (look_of side (Some (context waker luck)) (begun p))
-whole lent (call.TryDrain size) p = counted_whole (try_drain size p)
-whole lent (call.PollDrainBytes waker luck size) p =
+whole lent (Call.TryDrain size) p = counted_whole (try_drain size p)
+whole lent (Call.PollDrainBytes waker luck size) p =
     copied_slice (drain (Some (context waker luck)) size p)
-whole lent (call.PollDrain waker luck acts) p =
+whole lent (Call.PollDrain waker luck acts) p =
     copied_acts (drain_to (Some (context waker luck)) acts p)
-whole lent (call.Consume n) p = answering Done (consume n (begun p))
-whole lent (call.TryFill bytes) p = counted_whole (try_fill bytes p)
-whole lent (call.PollFillBytes waker luck bytes) p =
+whole lent (Call.Consume n) p = answering Done (consume n (begun p))
+whole lent (Call.TryFill bytes) p = counted_whole (try_fill bytes p)
+whole lent (Call.PollFillBytes waker luck bytes) p =
     copied_slice (fill (Some (context waker luck)) bytes p)
-whole lent (call.PollFill waker luck acts) p =
+whole lent (Call.PollFill waker luck acts) p =
     copied_acts (fill_from (Some (context waker luck)) acts p)
-whole lent (call.WriteBuf most) p = answering (Lent (length lent)) (lending lent (begun p))
-whole lent (call.Produced n) p = answering Done (produce n (begun p))
-whole lent call.Close p = answering Done (close (begun p))
-whole lent (call.Drop side) p = answering Done (dropped side (begun p))
+whole lent (Call.WriteBuf most) p = answering (Lent (length lent)) (lending lent (begun p))
+whole lent (Call.Produced n) p = answering Done (produce n (begun p))
+whole lent Call.Close p = answering Done (close (begun p))
+whole lent (Call.Drop side) p = answering Done (dropped side (begun p))
 
 -- a call that neither copies bytes nor lends places
 abbrev pub is_plain : Call → Bool
-is_plain (call.TryDrain size) = false
-is_plain (call.PollDrainBytes waker luck size) = false
-is_plain (call.PollDrain waker luck acts) = false
-is_plain (call.TryFill bytes) = false
-is_plain (call.PollFillBytes waker luck bytes) = false
-is_plain (call.PollFill waker luck acts) = false
-is_plain (call.WriteBuf most) = false
+is_plain (Call.TryDrain size) = false
+is_plain (Call.PollDrainBytes waker luck size) = false
+is_plain (Call.PollDrain waker luck acts) = false
+is_plain (Call.TryFill bytes) = false
+is_plain (Call.PollFillBytes waker luck bytes) = false
+is_plain (Call.PollFill waker luck acts) = false
+is_plain (Call.WriteBuf most) = false
 is_plain c = true
 
 -- the wakers that were called

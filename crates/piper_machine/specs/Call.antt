@@ -1,52 +1,46 @@
 -- What a call is, apart from what it does.
 use Rattle.std.specs.Prelude.{ℕ, Bool, true, Option, None, Some, nat_lt}
-use Rattle.piper_protocol.specs.declared.table.Side.{Side}
-use Rattle.piper_protocol.specs.declared.table.Side.TheVariants.{Reader, Writer}
-use Rattle.piper_machine.specs.declared.calls.Call.{Call}
-use Rattle.piper_machine.specs.declared.calls.Call.TheVariants as call
-use Rattle.piper_machine.specs.declared.polling.Context.{Context}
-use Rattle.piper_machine.specs.declared.calls.Kind.{Kind}
-use Rattle.piper_machine.specs.declared.calls.Kind.TheVariants as kind
+use Rattle.piper_machine.specs.Types.{Side, Call, Context, Kind, Reader, Writer}
 
 abbrev pub side_of : Call → Side
-side_of (call.Query side query) = side
-side_of (call.IsClosed side) = side
-side_of (call.Poll side waker luck) = side
-side_of (call.TryDrain size) = Reader
-side_of (call.PollDrainBytes waker luck size) = Reader
-side_of (call.PollDrain waker luck acts) = Reader
-side_of (call.Consume n) = Reader
-side_of (call.TryFill bytes) = Writer
-side_of (call.PollFillBytes waker luck bytes) = Writer
-side_of (call.PollFill waker luck acts) = Writer
-side_of (call.WriteBuf most) = Writer
-side_of (call.Produced n) = Writer
-side_of call.Close = Writer
-side_of (call.Drop side) = side
+side_of (Call.Query side query) = side
+side_of (Call.IsClosed side) = side
+side_of (Call.Poll side waker luck) = side
+side_of (Call.TryDrain size) = Reader
+side_of (Call.PollDrainBytes waker luck size) = Reader
+side_of (Call.PollDrain waker luck acts) = Reader
+side_of (Call.Consume n) = Reader
+side_of (Call.TryFill bytes) = Writer
+side_of (Call.PollFillBytes waker luck bytes) = Writer
+side_of (Call.PollFill waker luck acts) = Writer
+side_of (Call.WriteBuf most) = Writer
+side_of (Call.Produced n) = Writer
+side_of Call.Close = Writer
+side_of (Call.Drop side) = side
 
 abbrev pub kind_of : Call → Kind
-kind_of (call.Query side query) = kind.Query query
-kind_of (call.IsClosed side) = kind.IsClosed
-kind_of (call.Poll side waker luck) = kind.Poll
-kind_of (call.TryDrain size) = kind.TryDrain
-kind_of (call.PollDrainBytes waker luck size) = kind.PollDrainBytes
-kind_of (call.PollDrain waker luck acts) = kind.PollDrain
-kind_of (call.Consume n) = kind.Consume
-kind_of (call.TryFill bytes) = kind.TryFill
-kind_of (call.PollFillBytes waker luck bytes) = kind.PollFillBytes
-kind_of (call.PollFill waker luck acts) = kind.PollFill
-kind_of (call.WriteBuf most) = kind.WriteBuf
-kind_of (call.Produced n) = kind.Produced
-kind_of call.Close = kind.Close
-kind_of (call.Drop side) = kind.Drop
+kind_of (Call.Query side query) = Kind.Query query
+kind_of (Call.IsClosed side) = Kind.IsClosed
+kind_of (Call.Poll side waker luck) = Kind.Poll
+kind_of (Call.TryDrain size) = Kind.TryDrain
+kind_of (Call.PollDrainBytes waker luck size) = Kind.PollDrainBytes
+kind_of (Call.PollDrain waker luck acts) = Kind.PollDrain
+kind_of (Call.Consume n) = Kind.Consume
+kind_of (Call.TryFill bytes) = Kind.TryFill
+kind_of (Call.PollFillBytes waker luck bytes) = Kind.PollFillBytes
+kind_of (Call.PollFill waker luck acts) = Kind.PollFill
+kind_of (Call.WriteBuf most) = Kind.WriteBuf
+kind_of (Call.Produced n) = Kind.Produced
+kind_of Call.Close = Kind.Close
+kind_of (Call.Drop side) = Kind.Drop
 
 -- what a polling call is handed beside its side, its bytes or its script
 abbrev pub context_of : Call → Option Context
-context_of (call.Poll side waker luck) = Some (record { waker = waker; luck = luck })
-context_of (call.PollDrainBytes waker luck size) = Some (record { waker = waker; luck = luck })
-context_of (call.PollDrain waker luck acts) = Some (record { waker = waker; luck = luck })
-context_of (call.PollFillBytes waker luck bytes) = Some (record { waker = waker; luck = luck })
-context_of (call.PollFill waker luck acts) = Some (record { waker = waker; luck = luck })
+context_of (Call.Poll side waker luck) = Some (record { waker = waker; luck = luck })
+context_of (Call.PollDrainBytes waker luck size) = Some (record { waker = waker; luck = luck })
+context_of (Call.PollDrain waker luck acts) = Some (record { waker = waker; luck = luck })
+context_of (Call.PollFillBytes waker luck bytes) = Some (record { waker = waker; luck = luck })
+context_of (Call.PollFill waker luck acts) = Some (record { waker = waker; luck = luck })
 context_of c = None
 
 abbrev pub waker_in : Option Context → Option ℕ

@@ -1,11 +1,6 @@
 -- How often a call calls its destination or its source.
 use Rattle.std.specs.Prelude.{ℕ, ◌+◌, ◌≤◌, List, [], ◌∷◌, Bool, true, false}
-use Rattle.piper_protocol.specs.declared.table.Side.{Side}
-use Rattle.piper_machine.specs.declared.calls.Step.{Step}
-use Rattle.piper_machine.specs.declared.calls.Step.TheVariants.{Begin, Go, Put}
-use Rattle.piper_machine.specs.declared.events.Event.{Event}
-use Rattle.piper_protocol.specs.declared.table.Action.{Action}
-use Rattle.piper_protocol.specs.declared.table.Action.TheVariants as does
+use Rattle.piper_machine.specs.Types.{Side, Step, Event, Action, Begin, Go, Put}
 use Rattle.piper_machine.specs.Call.{side_of}
 use Rattle.piper_machine.specs.Pipe.{Pipe, fresh}
 use Rattle.piper_machine.specs.Step.{action_of}
@@ -15,8 +10,8 @@ use Rattle.piper_machine.specs.Known.{knowledge_of}
 
 -- the calls that a step of this kind makes
 abbrev pub calls_of : Action → ℕ
-calls_of does.CallDestination = 1
-calls_of does.CallSource = 1
+calls_of Action.CallDestination = 1
+calls_of Action.CallSource = 1
 calls_of action = 0
 
 -- a call that is opened has made none

@@ -1,8 +1,7 @@
 -- Conservation: the bytes consumed, followed by those unread, are those published.
 use Rattle.std.specs.Prelude.{◌≡◌, ℕ, ◌%◌, List, [], ◌++◌, length}
 use Rattle.std.specs.List.{flat_map}
-use Rattle.piper_machine.specs.declared.events.Event.{Event}
-use Rattle.piper_machine.specs.declared.events.Event.TheVariants.{Published, Consumed}
+use Rattle.piper_machine.specs.Types.{Event, Published, Consumed}
 use Rattle.piper_machine.specs.Pipe.{Pipe}
 
 abbrev pub consumed_in : Event → List ℕ

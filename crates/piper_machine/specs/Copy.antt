@@ -1,10 +1,8 @@
 -- A call that copies bytes between the pipe and a slice, run whole.
 use Rattle.std.specs.Prelude.{ℕ, ◌+◌, ◌-◌, min, List, [], ◌∷◌, ◌++◌, take, drop, length, Bool, true, false, Option, None, Some, if◌then◌else◌, ◌==◌}
-use Rattle.piper_protocol.specs.declared.answer.Polled.{Polled}
-use Rattle.piper_protocol.specs.declared.answer.Polled.TheVariants.{Pending, Ready, Memory}
+use Rattle.piper_machine.specs.Types.{Polled, Context, Pending, Ready, Memory}
 use Rattle.piper_protocol.specs.Index.{offset_of}
 use Rattle.piper_machine.specs.Pipe.{Pipe, begun}
-use Rattle.piper_machine.specs.declared.polling.Context.{Context}
 use Rattle.piper_machine.specs.Look.{reader_look, writer_look}
 use Rattle.piper_machine.specs.Move.{with_waker}
 

@@ -1,32 +1,26 @@
 -- How many steps a call makes at most, and how many it has made.
 use Rattle.std.specs.Prelude.{ℕ, ◌+◌, ◌*◌, ◌≤◌, List, [], ◌∷◌, Bool, true, false, Option, None, Some}
-use Rattle.piper_protocol.specs.declared.table.Side.{Side}
-use Rattle.piper_protocol.specs.declared.table.Side.TheVariants.{Reader, Writer}
-use Rattle.piper_machine.specs.declared.calls.Call.{Call}
-use Rattle.piper_machine.specs.declared.calls.Call.TheVariants as call
-use Rattle.piper_machine.specs.declared.calls.Step.{Step}
-use Rattle.piper_machine.specs.declared.calls.Step.TheVariants.{Begin, Go, Put}
-use Rattle.piper_machine.specs.declared.events.Event.{Event}
+use Rattle.piper_machine.specs.Types.{Side, Call, Step, Event, Reader, Writer, Begin, Go, Put}
 use Rattle.piper_machine.specs.Call.{side_of}
 use Rattle.piper_machine.specs.Known.{knowledge_of}
 
 -- the most steps from the opening of a call to its answer, where its look leaves so many
 -- bytes known, or so much room: a copy moves no more than that, and at least a byte a round
 abbrev pub most_steps : ℕ → Call → ℕ
-most_steps found (call.Query side query) = 2
-most_steps found (call.IsClosed side) = 1
-most_steps found (call.Poll side waker luck) = 5
-most_steps found (call.TryDrain size) = 6 + 4 * found
-most_steps found (call.PollDrainBytes waker luck size) = 6 + 4 * found
-most_steps found (call.PollDrain waker luck acts) = 6 + 4 * found
-most_steps found (call.Consume n) = 3
-most_steps found (call.TryFill bytes) = 6 + 5 * found
-most_steps found (call.PollFillBytes waker luck bytes) = 6 + 5 * found
-most_steps found (call.PollFill waker luck acts) = 6 + 5 * found
-most_steps found (call.WriteBuf most) = 0
-most_steps found (call.Produced n) = 3
-most_steps found call.Close = 5
-most_steps found (call.Drop side) = 3
+most_steps found (Call.Query side query) = 2
+most_steps found (Call.IsClosed side) = 1
+most_steps found (Call.Poll side waker luck) = 5
+most_steps found (Call.TryDrain size) = 6 + 4 * found
+most_steps found (Call.PollDrainBytes waker luck size) = 6 + 4 * found
+most_steps found (Call.PollDrain waker luck acts) = 6 + 4 * found
+most_steps found (Call.Consume n) = 3
+most_steps found (Call.TryFill bytes) = 6 + 5 * found
+most_steps found (Call.PollFillBytes waker luck bytes) = 6 + 5 * found
+most_steps found (Call.PollFill waker luck acts) = 6 + 5 * found
+most_steps found (Call.WriteBuf most) = 0
+most_steps found (Call.Produced n) = 3
+most_steps found Call.Close = 5
+most_steps found (Call.Drop side) = 3
 
 -- before a side's first call nothing is open
 abbrev pub most_of : ℕ → Option Call → ℕ

@@ -1,9 +1,7 @@
 -- Disjoint places: what the reader holds and what the writer holds
 -- share no place, and the writer leaves what the reader holds.
 use Rattle.std.specs.Prelude.{◌≡◌, ℕ, take}
-use Rattle.piper_protocol.specs.declared.table.Side.TheVariants.{Writer}
-use Rattle.piper_machine.specs.declared.calls.Step.{Step}
-use Rattle.piper_machine.specs.declared.calls.Step.TheVariants.{Begin, Go, Put}
+use Rattle.piper_machine.specs.Types.{Step, Writer, Begin, Go, Put}
 use Rattle.piper_machine.specs.Call.{side_of}
 use Rattle.piper_machine.specs.Pipe.{Pipe}
 use Rattle.piper_machine.specs.Places.{HeldByReader, HeldByWriter}

@@ -1,10 +1,7 @@
 -- What a call saw of the close, and where a call of the reader finds the end: it checks closed and
 -- finds it, and after that it finds no byte.
 use Rattle.std.specs.Prelude.{List, [], ◌∷◌, Bool, false}
-use Rattle.piper_protocol.specs.declared.table.Side.{Side}
-use Rattle.piper_protocol.specs.declared.table.Side.TheVariants.{Reader, Writer}
-use Rattle.piper_machine.specs.declared.events.Event.{Event}
-use Rattle.piper_machine.specs.declared.events.Event.TheVariants.{Began, Looked}
+use Rattle.piper_machine.specs.Types.{Side, Event, Reader, Writer, Began, Looked}
 use Rattle.piper_machine.specs.declared.events.Seen.TheVariants.{Tail, Closed}
 
 -- whether a side's last call checked closed and found it

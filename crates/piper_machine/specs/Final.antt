@@ -1,12 +1,8 @@
 -- A reported end is final: after it no byte comes any more.
 use Rattle.std.specs.Prelude.{◌≡◌, ◌⊎◌, List, [], ◌∷◌, ◌++◌, All, true, false, Ok, ⊤}
-use Rattle.piper_protocol.specs.declared.table.Side.TheVariants.{Reader}
-use Rattle.piper_machine.specs.declared.events.Event.{Event}
-use Rattle.piper_machine.specs.declared.events.Event.TheVariants.{Looked, Published, Consumed, Answered}
+use Rattle.piper_machine.specs.Types.{Event, Answer, Reader, Looked, Published, Consumed, Answered, Count, Ready, Memory}
 use Rattle.piper_machine.specs.declared.events.Seen.TheVariants.{Head, Tail, Closed}
-use Rattle.piper_protocol.specs.declared.answer.Answer.{Answer}
-use Rattle.piper_protocol.specs.declared.answer.Answer.TheVariants.{Count, Poll, Copy}
-use Rattle.piper_protocol.specs.declared.answer.Polled.TheVariants.{Ready, Memory}
+use Rattle.piper_protocol.specs.declared.answer.Answer.TheVariants.{Poll, Copy}
 use Rattle.piper_machine.specs.Pipe.{Pipe}
 use Rattle.piper_machine.specs.End.{saw_closed, found_none}
 

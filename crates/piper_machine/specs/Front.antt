@@ -1,8 +1,7 @@
 -- Every front of a run: at each moment, between any two steps,
 -- the laws hold of the pipe and log that the steps so far led to.
 use Rattle.std.specs.Prelude.{ℕ, List, [], take, drop}
-use Rattle.piper_machine.specs.declared.calls.Step.{Step}
-use Rattle.piper_machine.specs.declared.events.Event.{Event}
+use Rattle.piper_machine.specs.Types.{Step, Event}
 use Rattle.piper_machine.specs.Pipe.{Pipe, fresh}
 use Rattle.piper_machine.specs.Run.{Runs}
 use Rattle.piper_machine.specs.Lawful.{IsLawful}

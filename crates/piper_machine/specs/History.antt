@@ -1,8 +1,6 @@
 -- What a log tells the reader: whether the pipe was closed, and what its call saw last.
 use Rattle.std.specs.Prelude.{ℕ, List, [], ◌∷◌, Bool, true, false, Option, None, Some}
-use Rattle.piper_protocol.specs.declared.table.Side.TheVariants.{Reader}
-use Rattle.piper_machine.specs.declared.events.Event.{Event}
-use Rattle.piper_machine.specs.declared.events.Event.TheVariants.{Began, Looked, Closed}
+use Rattle.piper_machine.specs.Types.{Event, Reader, Began, Looked, Closed}
 use Rattle.piper_machine.specs.declared.events.Seen.TheVariants.{Tail}
 
 -- a load of the tail by the reader

@@ -1,10 +1,7 @@
 -- The honest end: a poll returns false to the reader only of a closed pipe with nothing unread.
 use Rattle.std.specs.Prelude.{◌≡◌, List, [], ◌∷◌, true, false, Some, ⊤}
-use Rattle.piper_protocol.specs.declared.table.Side.TheVariants.{Reader}
-use Rattle.piper_machine.specs.declared.events.Event.{Event}
-use Rattle.piper_machine.specs.declared.events.Event.TheVariants.{Answered}
+use Rattle.piper_machine.specs.Types.{Event, Reader, Answered, Ready}
 use Rattle.piper_protocol.specs.declared.answer.Answer.TheVariants.{Poll}
-use Rattle.piper_protocol.specs.declared.answer.Polled.TheVariants.{Ready}
 use Rattle.piper_machine.specs.History.{History, unwritten, history_after}
 
 -- where an answer is false, the last look of the call found nothing,

@@ -1,12 +1,7 @@
 -- What a side knows of the other, as its own events show: the reader how many bytes are unread, the
 -- writer how much room there is.
 use Rattle.std.specs.Prelude.{◌≡◌, ℕ, ◌-◌, ◌≤◌, List, [], ◌∷◌, length, Bool, true, false}
-use Rattle.piper_protocol.specs.declared.table.Side.{Side}
-use Rattle.piper_protocol.specs.declared.table.Side.TheVariants.{Reader, Writer}
-use Rattle.piper_machine.specs.declared.calls.Kind.{Kind}
-use Rattle.piper_machine.specs.declared.calls.Kind.TheVariants as kind
-use Rattle.piper_machine.specs.declared.events.Event.{Event}
-use Rattle.piper_machine.specs.declared.events.Event.TheVariants.{Began, Looked, Published, Consumed}
+use Rattle.piper_machine.specs.Types.{Side, Kind, Event, Reader, Writer, Began, Looked, Published, Consumed}
 use Rattle.piper_machine.specs.declared.events.Seen.TheVariants.{Head, Tail}
 use Rattle.piper_machine.specs.Pipe.{Pipe}
 
@@ -19,7 +14,7 @@ pub record Knowledge : Type 0 where
   pub is_query : Bool
 
 abbrev pub is_query : Kind → Bool
-is_query (kind.Query query) = true
+is_query (Kind.Query query) = true
 is_query kind = false
 
 -- a call begins with what the side knows

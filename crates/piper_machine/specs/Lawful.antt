@@ -1,8 +1,7 @@
 -- The laws of a run: what holds of the pipe that a list of steps leads to from a fresh one, and of
 -- the log of what happened.
 use Rattle.std.specs.Prelude.{ℕ, List}
-use Rattle.piper_machine.specs.declared.calls.Step.{Step}
-use Rattle.piper_machine.specs.declared.events.Event.{Event}
+use Rattle.piper_machine.specs.Types.{Step, Event}
 use Rattle.piper_machine.specs.Pipe.{Pipe}
 use Rattle.piper_machine.specs.Sound.{IsSound}
 use Rattle.piper_machine.specs.Known.{IsKnown}

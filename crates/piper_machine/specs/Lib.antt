@@ -1,3 +1,4 @@
+pub mod Types
 pub mod Open
 pub mod Call
 pub mod Log
@@ -45,3 +46,4 @@ pub mod Lawful
 pub mod Front
 pub mod Machine
 pub mod Examples
+pub mod logs

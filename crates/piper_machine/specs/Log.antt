@@ -1,9 +1,6 @@
 -- The events of a log.
 use Rattle.std.specs.Prelude.{◌+◌, ◌≤◌, vec_len, vec_capacity, List, [], ◌∷◌, Option, None, Some}
-use Rattle.piper_protocol.specs.declared.table.Side.{Side}
-use Rattle.piper_protocol.specs.declared.answer.Answer.{Answer}
-use Rattle.piper_machine.specs.declared.events.Event.{Event}
-use Rattle.piper_machine.specs.declared.events.Event.TheVariants.{Answered}
+use Rattle.piper_machine.specs.Types.{Side, Answer, Event, Answered}
 use Rattle.piper_machine.specs.declared.events.Log.{Log}
 
 abbrev pub events : Log → List Event

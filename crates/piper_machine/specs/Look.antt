@@ -1,12 +1,7 @@
 -- The look that a polling or copying call begins with,
 -- run whole: is there something to read, or room to write?
 use Rattle.std.specs.Prelude.{ℕ, Bool, true, false, Option, None, Some, ◌==◌}
-use Rattle.piper_protocol.specs.declared.table.Side.{Side}
-use Rattle.piper_protocol.specs.declared.table.Side.TheVariants.{Reader, Writer}
-use Rattle.piper_machine.specs.declared.polling.Context.{Context}
-use Rattle.piper_machine.specs.declared.polling.Luck.{Luck}
-use Rattle.piper_protocol.specs.declared.answer.Polled.{Polled}
-use Rattle.piper_protocol.specs.declared.answer.Polled.TheVariants.{Pending, Ready, Memory}
+use Rattle.piper_machine.specs.Types.{Side, Context, Luck, Polled, Reader, Writer, Pending, Ready, Memory}
 use Rattle.piper_protocol.specs.Table.{end_or_pending}
 use Rattle.piper_machine.specs.Pipe.{Pipe}
 use Rattle.piper_machine.specs.LoadIfNone.{tail_loaded_if_empty, head_loaded_if_full}

@@ -1,10 +1,8 @@
 -- How the fields of a machine represent a pipe.
 use Rattle.std.specs.Prelude.{◌≡◌, ◌≤◌, [], length, take, drop, true}
-use Rattle.piper_protocol.specs.declared.table.ReadPoint.TheVariants as at
-use Rattle.piper_protocol.specs.declared.table.WritePoint.TheVariants as on
 use Rattle.piper_machine.specs.Open.{no_call}
 use Rattle.piper_protocol.specs.Index.{distance, offset_of}
-use Rattle.piper_machine.specs.declared.destination.Destination.TheVariants.{Slice}
+use Rattle.piper_machine.specs.Types.{ReadPoint, WritePoint, Slice}
 use Rattle.piper_machine.specs.Buffer.{between}
 use Rattle.piper_machine.specs.Pipe.{Pipe}
 use Rattle.piper_machine.specs.Side.{IsReading, IsWriting, known_of, room_of}
@@ -42,7 +40,7 @@ pub record IsMachine (m : Inside) : Type 0 where
   pub room : distance m.read.capacity m.read.head m.write.tail
       ≤ distance m.write.capacity m.write.head m.write.tail
   pub shut : m.write.is_shut ≡ true → m.is_closed ≡ true
-  pub reader_call : m.read.point ≡ at.Idle → m.reader_call ≡ no_call
-  pub writer_call : m.write.point ≡ on.Idle → m.writer_call ≡ no_call
-  pub destination : m.read.point ≡ at.Idle → m.destination ≡ Slice 0
-  pub source : m.write.point ≡ on.Idle → m.source ≡ []
+  pub reader_call : m.read.point ≡ ReadPoint.Idle → m.reader_call ≡ no_call
+  pub writer_call : m.write.point ≡ WritePoint.Idle → m.writer_call ≡ no_call
+  pub destination : m.read.point ≡ ReadPoint.Idle → m.destination ≡ Slice 0
+  pub source : m.write.point ≡ WritePoint.Idle → m.source ≡ []

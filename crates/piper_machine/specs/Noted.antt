@@ -1,14 +1,7 @@
 -- What the log reports of a side's open call: which call it is, what it checked, and the bytes that
 -- it moved.
 use Rattle.std.specs.Prelude.{ℕ, List, [], ◌∷◌, ◌++◌, Bool, true, false, Option, None, Some}
-use Rattle.piper_protocol.specs.declared.table.Side.{Side}
-use Rattle.piper_protocol.specs.declared.table.Side.TheVariants.{Reader, Writer}
-use Rattle.piper_machine.specs.declared.calls.Call.{Call}
-use Rattle.piper_machine.specs.declared.calls.Step.{Step}
-use Rattle.piper_machine.specs.declared.calls.Step.TheVariants.{Begin}
-use Rattle.piper_machine.specs.declared.events.Seen.{Seen}
-use Rattle.piper_machine.specs.declared.events.Event.{Event}
-use Rattle.piper_machine.specs.declared.events.Event.TheVariants.{Began, Looked, Published, Consumed, Answered}
+use Rattle.piper_machine.specs.Types.{Side, Call, Step, Seen, Event, Reader, Writer, Begin, Began, Looked, Published, Consumed, Answered}
 use Rattle.piper_machine.specs.Call.{side_of}
 use Rattle.piper_machine.specs.Counts.{is_same}
 

@@ -1,7 +1,6 @@
 -- What an open call holds besides its point.
 use Rattle.std.specs.Prelude.{Option, None, Some, Bool, false}
-use Rattle.piper_machine.specs.declared.polling.Context.{Context}
-use Rattle.piper_machine.specs.declared.calls.OpenCall.{OpenCall}
+use Rattle.piper_machine.specs.Types.{Context, OpenCall}
 
 abbrev pub no_call : OpenCall
 no_call = record { context = None; taken = None }

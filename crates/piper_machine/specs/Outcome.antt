@@ -1,21 +1,9 @@
 -- What a call of each kind may move, and what it may return: a query by what it checked, a copy by
 -- the bytes that it moved.
 use Rattle.std.specs.Prelude.{◌≡◌, ℕ, ◌+◌, ◌≤◌, List, [], ◌∷◌, ◌++◌, length, Bool, true, false, Option, None, Some, Result, Ok, Err, ⊤}
-use Rattle.piper_protocol.specs.declared.table.Side.{Side}
-use Rattle.piper_protocol.specs.declared.table.Side.TheVariants.{Reader, Writer}
-use Rattle.piper_protocol.specs.declared.table.Query.{Query}
-use Rattle.piper_machine.specs.declared.calls.Call.{Call}
-use Rattle.piper_machine.specs.declared.calls.Call.TheVariants as call
-use Rattle.piper_protocol.specs.declared.answer.Answer.{Answer}
-use Rattle.piper_protocol.specs.declared.answer.Answer.TheVariants.{Count, Flag, Poll, Copy, Lent, Done}
-use Rattle.piper_machine.specs.declared.events.Seen.{Seen}
+use Rattle.piper_machine.specs.Types.{Side, Query, Call, Answer, Seen, Polled, Failed, DestAct, SourceAct, Reader, Writer, Count, Lent, Done, Pending, Ready, Memory}
+use Rattle.piper_protocol.specs.declared.answer.Answer.TheVariants.{Flag, Poll, Copy}
 use Rattle.piper_machine.specs.declared.events.Seen.TheVariants.{Head, Tail, Closed}
-use Rattle.piper_protocol.specs.declared.answer.Polled.{Polled}
-use Rattle.piper_protocol.specs.declared.answer.Polled.TheVariants.{Pending, Ready, Memory}
-use Rattle.piper_protocol.specs.declared.answer.Failed.{Failed}
-use Rattle.piper_machine.specs.declared.scripted.DestAct.{DestAct}
-use Rattle.piper_machine.specs.declared.scripted.DestAct.TheVariants as dest
-use Rattle.piper_machine.specs.declared.scripted.SourceAct.{SourceAct}
 use Rattle.piper_protocol.specs.Table.{query_answer}
 use Rattle.piper_machine.specs.Scripted.{bytes_given, ends_in_failure}
 
@@ -26,24 +14,24 @@ IsBeginning first all = (rest : List ℕ) × (first ++ rest ≡ all)
 -- the places of a scripted destination before it fails, and whether it does
 abbrev pub places_of : List DestAct → ℕ
 places_of [] = 0
-places_of (dest.Fail ∷ acts) = 0
-places_of (dest.Take size ∷ acts) = size + places_of acts
+places_of (DestAct.Fail ∷ acts) = 0
+places_of (DestAct.Take size ∷ acts) = size + places_of acts
 
 abbrev pub may_fail : List DestAct → Bool
 may_fail [] = false
-may_fail (dest.Fail ∷ acts) = true
-may_fail (dest.Take size ∷ acts) = may_fail acts
+may_fail (DestAct.Fail ∷ acts) = true
+may_fail (DestAct.Take size ∷ acts) = may_fail acts
 
 -- the call may have moved these bytes: of a fill a beginning of what it was handed
 abbrev pub MayHaveMoved : Call → List ℕ → Type 0
-MayHaveMoved (call.TryDrain size) moved = length moved ≤ size
-MayHaveMoved (call.PollDrainBytes waker luck size) moved = length moved ≤ size
-MayHaveMoved (call.PollDrain waker luck acts) moved = length moved ≤ places_of acts
-MayHaveMoved (call.Consume n) moved = length moved ≡ n
-MayHaveMoved (call.TryFill bytes) moved = IsBeginning moved bytes
-MayHaveMoved (call.PollFillBytes waker luck bytes) moved = IsBeginning moved bytes
-MayHaveMoved (call.PollFill waker luck acts) moved = IsBeginning moved (bytes_given acts)
-MayHaveMoved (call.Produced n) moved = length moved ≡ n
+MayHaveMoved (Call.TryDrain size) moved = length moved ≤ size
+MayHaveMoved (Call.PollDrainBytes waker luck size) moved = length moved ≤ size
+MayHaveMoved (Call.PollDrain waker luck acts) moved = length moved ≤ places_of acts
+MayHaveMoved (Call.Consume n) moved = length moved ≡ n
+MayHaveMoved (Call.TryFill bytes) moved = IsBeginning moved bytes
+MayHaveMoved (Call.PollFillBytes waker luck bytes) moved = IsBeginning moved bytes
+MayHaveMoved (Call.PollFill waker luck acts) moved = IsBeginning moved (bytes_given acts)
+MayHaveMoved (Call.Produced n) moved = length moved ≡ n
 MayHaveMoved c moved = ⊥
 
 -- A query loads the head and then the tail. The reader returns what it found last, the writer what
@@ -101,23 +89,23 @@ IsCopied Counts Fails moved Memory = moved ≡ []
 
 -- the answer is right of a call that looked and moved so, on a pipe of this capacity
 abbrev pub IsAnswer : ℕ → Call → List Seen → List ℕ → Answer → Type 0
-IsAnswer capacity (call.Query side query) looks moved answer =
+IsAnswer capacity (Call.Query side query) looks moved answer =
     IsQueried capacity side query looks answer
-IsAnswer capacity (call.IsClosed side) looks moved (Flag is_closed) = looks ≡ Closed is_closed ∷ []
-IsAnswer capacity (call.Poll side waker luck) looks moved (Poll polled) = ⊤
-IsAnswer capacity (call.TryDrain size) looks moved (Count count) = IsDrained size moved count
-IsAnswer capacity (call.PollDrainBytes waker luck size) looks moved (Copy copied) =
+IsAnswer capacity (Call.IsClosed side) looks moved (Flag is_closed) = looks ≡ Closed is_closed ∷ []
+IsAnswer capacity (Call.Poll side waker luck) looks moved (Poll polled) = ⊤
+IsAnswer capacity (Call.TryDrain size) looks moved (Count count) = IsDrained size moved count
+IsAnswer capacity (Call.PollDrainBytes waker luck size) looks moved (Copy copied) =
     IsCopied (IsDrained size moved) ⊥ moved copied
-IsAnswer capacity (call.PollDrain waker luck acts) looks moved (Copy copied) =
+IsAnswer capacity (Call.PollDrain waker luck acts) looks moved (Copy copied) =
     IsCopied (IsDrained (places_of acts) moved) (may_fail acts ≡ true) moved copied
-IsAnswer capacity (call.Consume n) looks moved Done = length moved ≡ n
-IsAnswer capacity (call.TryFill bytes) looks moved (Count count) = IsFilled bytes looks moved count
-IsAnswer capacity (call.PollFillBytes waker luck bytes) looks moved (Copy copied) =
+IsAnswer capacity (Call.Consume n) looks moved Done = length moved ≡ n
+IsAnswer capacity (Call.TryFill bytes) looks moved (Count count) = IsFilled bytes looks moved count
+IsAnswer capacity (Call.PollFillBytes waker luck bytes) looks moved (Copy copied) =
     IsCopied (IsFilled bytes looks moved) ⊥ moved copied
-IsAnswer capacity (call.PollFill waker luck acts) looks moved (Copy copied) =
+IsAnswer capacity (Call.PollFill waker luck acts) looks moved (Copy copied) =
     IsCopied (IsFilled (bytes_given acts) looks moved) (HasFailed acts moved) moved copied
-IsAnswer capacity (call.WriteBuf most) looks moved (Lent count) = count ≤ most
-IsAnswer capacity (call.Produced n) looks moved Done = length moved ≡ n
-IsAnswer capacity call.Close looks moved Done = ⊤
-IsAnswer capacity (call.Drop side) looks moved Done = ⊤
+IsAnswer capacity (Call.WriteBuf most) looks moved (Lent count) = count ≤ most
+IsAnswer capacity (Call.Produced n) looks moved Done = length moved ≡ n
+IsAnswer capacity Call.Close looks moved Done = ⊤
+IsAnswer capacity (Call.Drop side) looks moved Done = ⊤
 IsAnswer capacity c looks moved answer = ⊥

@@ -1,14 +1,7 @@
 -- The state of a pipe, as every contract sees it: a list of bytes, two known counts, and no buffer.
 use Rattle.std.specs.Prelude.{ℕ, List, [], Bool, false, Option, None}
-use Rattle.piper_machine.specs.declared.calls.OpenCall.{OpenCall}
-use Rattle.piper_machine.specs.declared.scripted.SourceAct.{SourceAct}
-use Rattle.piper_machine.specs.declared.destination.Destination.{Destination}
-use Rattle.piper_machine.specs.declared.destination.Destination.TheVariants.{Slice}
+use Rattle.piper_machine.specs.Types.{OpenCall, SourceAct, Destination, ReadPoint, WritePoint, Slice}
 use Rattle.piper_machine.specs.Open.{no_call}
-use Rattle.piper_protocol.specs.declared.table.ReadPoint.{ReadPoint}
-use Rattle.piper_protocol.specs.declared.table.ReadPoint.TheVariants as at
-use Rattle.piper_protocol.specs.declared.table.WritePoint.{WritePoint}
-use Rattle.piper_protocol.specs.declared.table.WritePoint.TheVariants as on
 
 pub record Pipe : Type 0 where
   pub capacity : ℕ
@@ -53,9 +46,9 @@ fresh capacity = record {
   reader_waker = None;
   writer_waker = None;
   woken = [];
-  reader = at.Idle;
+  reader = ReadPoint.Idle;
   reader_call = no_call;
-  writer = on.Idle;
+  writer = WritePoint.Idle;
   writer_call = no_call;
   destination = Slice 0;
   source = [];

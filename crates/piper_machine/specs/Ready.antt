@@ -1,17 +1,13 @@
 -- A poll that returns true leaves its side something to do: a byte that the reader knows of, or
 -- room that the writer knows of.
 use Rattle.std.specs.Prelude.{ℕ, ◌≤◌, List, [], ◌∷◌, true, ⊤}
-use Rattle.piper_protocol.specs.declared.table.Side.{Side}
-use Rattle.piper_protocol.specs.declared.table.Side.TheVariants.{Reader, Writer}
-use Rattle.piper_machine.specs.declared.events.Event.{Event}
-use Rattle.piper_machine.specs.declared.events.Event.TheVariants.{Answered}
+use Rattle.piper_machine.specs.Types.{Polled, Side, Event, Reader, Writer, Answered}
 use Rattle.piper_protocol.specs.declared.answer.Answer.TheVariants.{Poll}
-use Rattle.piper_protocol.specs.declared.answer.Polled.TheVariants as polled
 use Rattle.piper_machine.specs.Known.{Knowledge, knowledge_after, knowledge_first}
 
 abbrev pub IsReadyAnswer : Side → Knowledge → Event → Type 0
-IsReadyAnswer Reader k (Answered Reader (Poll (polled.Ready true))) = 1 ≤ k.known
-IsReadyAnswer Writer k (Answered Writer (Poll (polled.Ready true))) = 1 ≤ k.known
+IsReadyAnswer Reader k (Answered Reader (Poll (Polled.Ready true))) = 1 ≤ k.known
+IsReadyAnswer Writer k (Answered Writer (Poll (Polled.Ready true))) = 1 ≤ k.known
 IsReadyAnswer side k event = ⊤
 
 abbrev pub IsReadyFrom : ℕ → Side → Knowledge → List Event → Type 0

@@ -1,9 +1,7 @@
 -- No forgotten waiter: a side that was left pending was called since, or has nothing to do and its
 -- waker in its slot, or is about to be called.
 use Rattle.std.specs.Prelude.{◌≡◌, ◌⊎◌, List, true, Some}
-use Rattle.piper_protocol.specs.declared.table.Side.{Side}
-use Rattle.piper_protocol.specs.declared.table.Side.TheVariants.{Reader, Writer}
-use Rattle.piper_machine.specs.declared.events.Event.{Event}
+use Rattle.piper_machine.specs.Types.{Side, Event, Reader, Writer}
 use Rattle.piper_machine.specs.Pipe.{Pipe}
 use Rattle.piper_machine.specs.Action.{call_of, waker_in}
 use Rattle.piper_machine.specs.Refusal.{IsIdle}

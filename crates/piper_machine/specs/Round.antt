@@ -1,39 +1,30 @@
 -- One call of a source or a destination in a round of a copy, and what is left of it for the next.
 use Rattle.std.specs.Prelude.{ℕ, ◌-◌, min, List, [], ◌∷◌, drop, length, Result, Ok, Err}
-use Rattle.piper_protocol.specs.declared.answer.Failed.{Failed}
-use Rattle.piper_machine.specs.declared.scripted.SourceAct.{SourceAct}
-use Rattle.piper_machine.specs.declared.scripted.SourceAct.TheVariants as source
-use Rattle.piper_machine.specs.declared.scripted.DestAct.{DestAct}
-use Rattle.piper_machine.specs.declared.scripted.DestAct.TheVariants as dest
-use Rattle.piper_machine.specs.declared.calls.Call.{Call}
-use Rattle.piper_machine.specs.declared.calls.Call.TheVariants as call
-use Rattle.piper_protocol.specs.declared.table.Found.{Found}
-use Rattle.piper_protocol.specs.declared.table.Found.TheVariants.{Moved as moved, Failed as failed}
-use Rattle.piper_machine.specs.declared.destination.Destination.{Destination}
-use Rattle.piper_machine.specs.declared.destination.Destination.TheVariants.{Slice, Acts}
+use Rattle.piper_machine.specs.Types.{Failed, SourceAct, DestAct, Call, Found, Destination, Moved as moved, Slice, Acts}
+use Rattle.piper_protocol.specs.declared.table.Found.TheVariants.{Failed as failed}
 
 -- how many bytes a source gives that is lent so many places
 abbrev pub given : ℕ → List SourceAct → Result ℕ Failed
 given most [] = Ok 0
-given most (source.Fail ∷ acts) = Err (record {})
-given most (source.Bytes bytes ∷ acts) = Ok (min most (length bytes))
+given most (SourceAct.Fail ∷ acts) = Err (record {})
+given most (SourceAct.Bytes bytes ∷ acts) = Ok (min most (length bytes))
 
 -- an act that has nothing left is spent
 abbrev pub unspent : List ℕ → List SourceAct → List SourceAct
 unspent [] acts = acts
-unspent (byte ∷ bytes) acts = source.Bytes (byte ∷ bytes) ∷ acts
+unspent (byte ∷ bytes) acts = SourceAct.Bytes (byte ∷ bytes) ∷ acts
 
 -- what is left of a source that has given so many bytes
 abbrev pub left_of_source : ℕ → List SourceAct → List SourceAct
 left_of_source n [] = []
-left_of_source n (source.Fail ∷ acts) = acts
-left_of_source n (source.Bytes bytes ∷ acts) = unspent (drop n bytes) acts
+left_of_source n (SourceAct.Fail ∷ acts) = acts
+left_of_source n (SourceAct.Bytes bytes ∷ acts) = unspent (drop n bytes) acts
 
 -- how many bytes a destination takes that is lent so many
 abbrev pub taken_by_acts : ℕ → List DestAct → Result ℕ Failed
 taken_by_acts most [] = Ok 0
-taken_by_acts most (dest.Fail ∷ acts) = Err (record {})
-taken_by_acts most (dest.Take size ∷ acts) = Ok (min size most)
+taken_by_acts most (DestAct.Fail ∷ acts) = Err (record {})
+taken_by_acts most (DestAct.Take size ∷ acts) = Ok (min size most)
 
 abbrev pub taken : ℕ → Destination → Result ℕ Failed
 taken most (Slice size) = Ok (min size most)
@@ -60,13 +51,13 @@ moved_by (Err fails) = 0
 
 -- the destination and the source of a call
 abbrev pub destination_of : Call → Destination
-destination_of (call.TryDrain size) = Slice size
-destination_of (call.PollDrainBytes waker luck size) = Slice size
-destination_of (call.PollDrain waker luck acts) = Acts acts
+destination_of (Call.TryDrain size) = Slice size
+destination_of (Call.PollDrainBytes waker luck size) = Slice size
+destination_of (Call.PollDrain waker luck acts) = Acts acts
 destination_of c = Slice 0
 
 abbrev pub source_of : Call → List SourceAct
-source_of (call.TryFill bytes) = source.Bytes bytes ∷ []
-source_of (call.PollFillBytes waker luck bytes) = source.Bytes bytes ∷ []
-source_of (call.PollFill waker luck acts) = acts
+source_of (Call.TryFill bytes) = SourceAct.Bytes bytes ∷ []
+source_of (Call.PollFillBytes waker luck bytes) = SourceAct.Bytes bytes ∷ []
+source_of (Call.PollFill waker luck acts) = acts
 source_of c = []

@@ -2,10 +2,7 @@
 use Rattle.std.specs.Prelude.{◌≡◌, ℕ, List, [], ◌∷◌, ◌++◌, take, slice_get, None, Some, ⊤, Bool, true, false}
 use Rattle.piper_protocol.specs.Reported.{HasFailed}
 use Rattle.piper_protocol.specs.declared.memory.OutOfMemory.{OutOfMemory}
-use Rattle.piper_machine.specs.declared.calls.Step.{Step}
-use Rattle.piper_machine.specs.declared.calls.Step.TheVariants.{Put}
-use Rattle.piper_machine.specs.declared.events.Event.{Event}
-use Rattle.piper_machine.specs.declared.refusals.StepRefusal.{StepRefusal}
+use Rattle.piper_machine.specs.Types.{Step, Event, StepRefusal, Put}
 use Rattle.piper_machine.specs.declared.refusals.StepRefusal.TheVariants.{Memory}
 use Rattle.piper_machine.specs.declared.refusals.RunRefusal.{RunRefusal}
 use Rattle.piper_machine.specs.declared.refusals.RunRefusal.TheVariants.{NoMachine, At}

@@ -1,15 +1,8 @@
 -- A call that copies bytes from a source or to a destination that follows a script, run whole.
 use Rattle.std.specs.Prelude.{ℕ, ◌+◌, min, List, [], ◌∷◌, ◌++◌, take, length, Bool, true, false, Option, if◌then◌else◌, ◌==◌, nat_lt, Result, Ok, Err}
-use Rattle.piper_protocol.specs.declared.answer.Polled.TheVariants.{Ready}
-use Rattle.piper_machine.specs.declared.scripted.SourceAct.{SourceAct}
-use Rattle.piper_machine.specs.declared.scripted.SourceAct.TheVariants as source
-use Rattle.piper_machine.specs.declared.scripted.DestAct.{DestAct}
-use Rattle.piper_machine.specs.declared.scripted.DestAct.TheVariants as dest
-use Rattle.piper_protocol.specs.declared.answer.Failed.{Failed}
-use Rattle.piper_protocol.specs.declared.table.TheConstants.{MOST_A_ROUND}
+use Rattle.piper_machine.specs.Types.{SourceAct, DestAct, Failed, Context, Ready, MOST_A_ROUND}
 use Rattle.piper_machine.specs.Pipe.{Pipe, begun}
 use Rattle.piper_machine.specs.Places.{peeked_count}
-use Rattle.piper_machine.specs.declared.polling.Context.{Context}
 use Rattle.piper_machine.specs.Look.{reader_look, writer_look}
 use Rattle.piper_machine.specs.Copy.{Copied, answered, copied_after, filled, drained, unlent}
 
@@ -17,16 +10,16 @@ use Rattle.piper_machine.specs.Copy.{Copied, answered, copied_after, filled, dra
 -- a failure, an act of no bytes, or the end of its script
 abbrev pub bytes_given : List SourceAct → List ℕ
 bytes_given [] = []
-bytes_given (source.Fail ∷ acts) = []
-bytes_given (source.Bytes [] ∷ acts) = []
-bytes_given (source.Bytes (byte ∷ bytes) ∷ acts) = byte ∷ bytes ++ bytes_given acts
+bytes_given (SourceAct.Fail ∷ acts) = []
+bytes_given (SourceAct.Bytes [] ∷ acts) = []
+bytes_given (SourceAct.Bytes (byte ∷ bytes) ∷ acts) = byte ∷ bytes ++ bytes_given acts
 
 -- whether that end is a failure
 abbrev pub ends_in_failure : List SourceAct → Bool
 ends_in_failure [] = false
-ends_in_failure (source.Fail ∷ acts) = true
-ends_in_failure (source.Bytes [] ∷ acts) = false
-ends_in_failure (source.Bytes (byte ∷ bytes) ∷ acts) = ends_in_failure acts
+ends_in_failure (SourceAct.Fail ∷ acts) = true
+ends_in_failure (SourceAct.Bytes [] ∷ acts) = false
+ends_in_failure (SourceAct.Bytes (byte ∷ bytes) ∷ acts) = ends_in_failure acts
 
 -- where more is given than there is room, the source's end is not reached
 abbrev pub source_answer : Bool → Bool → ℕ → Result ℕ Failed
@@ -52,8 +45,8 @@ taken_by most p = min most (min (peeked_count p) MOST_A_ROUND)
 -- act by act: a count of 0 and the end of the script end the call with the sum
 abbrev pub drain_moves_to : List DestAct → ℕ → Pipe → Copied (Result ℕ Failed)
 drain_moves_to [] sum p = answered (Ready (Ok sum)) p
-drain_moves_to (dest.Fail ∷ acts) sum p = answered (Ready (Err (record {}))) p
-drain_moves_to (dest.Take most ∷ acts) sum p =
+drain_moves_to (DestAct.Fail ∷ acts) sum p = answered (Ready (Err (record {}))) p
+drain_moves_to (DestAct.Take most ∷ acts) sum p =
     let n = taken_by most p in
     if n == 0 then answered (Ready (Ok sum)) p else drain_moves_to acts (sum + n) (drained n p)
 

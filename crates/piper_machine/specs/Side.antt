@@ -1,10 +1,7 @@
 -- What each side keeps: its own index,
 -- the other's as it last saw it, and its point inside the open call.
 use Rattle.std.specs.Prelude.{◌≡◌, ℕ, ◌+◌, ◌*◌, ◌<◌, ◌≤◌, max, Bool, true, false}
-use Rattle.piper_protocol.specs.declared.table.ReadPoint.{ReadPoint}
-use Rattle.piper_protocol.specs.declared.table.ReadPoint.TheVariants as at
-use Rattle.piper_protocol.specs.declared.table.WritePoint.{WritePoint}
-use Rattle.piper_protocol.specs.declared.table.WritePoint.TheVariants as on
+use Rattle.piper_machine.specs.Types.{ReadPoint, WritePoint}
 use Rattle.piper_protocol.specs.Index.{IsCapacity, distance, offset_of}
 use Rattle.piper_protocol.specs.ReaderIndices.{ReaderIndices, known_in, peekable_in}
 use Rattle.piper_protocol.specs.Table.{head_store, tail_store, read_sum, write_sum}
@@ -66,7 +63,7 @@ lent_out count w =
 
 -- the sides of an empty pipe
 abbrev pub fresh_reading : ℕ → Reading
-fresh_reading capacity = record { capacity = capacity; head = 0; tail = 0; point = at.Idle }
+fresh_reading capacity = record { capacity = capacity; head = 0; tail = 0; point = ReadPoint.Idle }
 
 abbrev pub fresh_writing : ℕ → Writing
 fresh_writing capacity = record {
@@ -76,7 +73,7 @@ fresh_writing capacity = record {
   zeroed = 0;
   lent = 0;
   is_shut = false;
-  point = on.Idle;
+  point = WritePoint.Idle;
 }
 
 pub record IsReading (r : Reading) : Type 0 where

@@ -1,14 +1,10 @@
 -- What a step leaves of a side, by what it found, and what the call returns with it.
 use Rattle.std.specs.Prelude.{ℕ, ◌-◌, ◌==◌, Option}
-use Rattle.piper_protocol.specs.declared.answer.Answer.{Answer}
-use Rattle.piper_protocol.specs.declared.table.ReadPoint.{ReadPoint}
-use Rattle.piper_protocol.specs.declared.table.WritePoint.{WritePoint}
+use Rattle.piper_machine.specs.Types.{Answer, ReadPoint, WritePoint, Found, IndexLoaded as index_loaded}
 use Rattle.piper_protocol.specs.Index.{distance}
 use Rattle.piper_protocol.specs.ReaderIndices.{ReaderIndices}
 use Rattle.piper_protocol.specs.WriterIndices.{WriterIndices}
 use Rattle.piper_machine.specs.Side.{Reading, Writing, room_of}
-use Rattle.piper_protocol.specs.declared.table.Found.{Found}
-use Rattle.piper_protocol.specs.declared.table.Found.TheVariants.{IndexLoaded as index_loaded}
 use Rattle.piper_protocol.specs.Table.{read_after, write_after}
 
 -- a side is its indices and its point

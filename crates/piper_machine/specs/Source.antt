@@ -1,13 +1,12 @@
 -- How a source keeps its place in its script.
 use Rattle.std.specs.Prelude.{ℕ, ◌≤◌, List, [], ◌∷◌, length, drop, Bool, true, false}
-use Rattle.piper_machine.specs.declared.scripted.SourceAct.{SourceAct}
-use Rattle.piper_machine.specs.declared.scripted.SourceAct.TheVariants as source
+use Rattle.piper_machine.specs.Types.{SourceAct}
 
 -- what an act gives that is the next one
 abbrev pub bytes_of : List SourceAct → List ℕ
 bytes_of [] = []
-bytes_of (source.Fail ∷ acts) = []
-bytes_of (source.Bytes bytes ∷ acts) = bytes
+bytes_of (SourceAct.Fail ∷ acts) = []
+bytes_of (SourceAct.Bytes bytes ∷ acts) = bytes
 
 pub record IsSource (given spent : ℕ) (acts : List SourceAct) : Type 0 where
   pub within : spent ≤ length acts
@@ -16,12 +15,12 @@ pub record IsSource (given spent : ℕ) (acts : List SourceAct) : Type 0 where
 -- without the first bytes of the first act
 abbrev pub without : ℕ → List SourceAct → List SourceAct
 without given [] = []
-without given (source.Fail ∷ acts) = source.Fail ∷ acts
-without given (source.Bytes bytes ∷ acts) = source.Bytes (drop given bytes) ∷ acts
+without given (SourceAct.Fail ∷ acts) = SourceAct.Fail ∷ acts
+without given (SourceAct.Bytes bytes ∷ acts) = SourceAct.Bytes (drop given bytes) ∷ acts
 
 abbrev pub source_left : ℕ → ℕ → List SourceAct → List SourceAct
 source_left given spent acts = without given (drop spent acts)
 
 abbrev pub is_failing : List SourceAct → Bool
-is_failing (source.Fail ∷ acts) = true
+is_failing (SourceAct.Fail ∷ acts) = true
 is_failing acts = false

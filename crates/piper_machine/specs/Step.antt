@@ -1,41 +1,14 @@
 -- One step of a run: a call is opened,
 -- a side makes its next step, or a byte is put into what is lent.
 use Rattle.std.specs.Prelude.{ℕ, List, [], ◌∷◌, ◌++◌, length, slice_set, Bool, true, Option, None, Some, ◌==◌, ⊤}
-use Rattle.piper_protocol.specs.declared.table.Side.{Side}
-use Rattle.piper_protocol.specs.declared.table.Side.TheVariants.{Reader, Writer}
-use Rattle.piper_machine.specs.declared.calls.OpenCall.{OpenCall}
-use Rattle.piper_machine.specs.declared.calls.Call.{Call}
-use Rattle.piper_machine.specs.declared.calls.Call.TheVariants as call
-use Rattle.piper_protocol.specs.declared.table.Query.{Query}
-use Rattle.piper_machine.specs.declared.polling.Context.{Context}
-use Rattle.piper_machine.specs.declared.calls.Step.{Step}
-use Rattle.piper_machine.specs.declared.calls.Step.TheVariants.{Begin, Go, Put}
-use Rattle.piper_protocol.specs.declared.answer.Answer.{Answer}
-use Rattle.piper_protocol.specs.declared.answer.Answer.TheVariants.{Lent}
-use Rattle.piper_machine.specs.declared.events.Event.{Event}
-use Rattle.piper_machine.specs.declared.events.Event.TheVariants.{Began}
-use Rattle.piper_protocol.specs.declared.table.Action.{Action}
-use Rattle.piper_protocol.specs.declared.table.Action.TheVariants as does
-use Rattle.piper_protocol.specs.declared.table.Form.{Form}
-use Rattle.piper_protocol.specs.declared.table.Form.TheVariants.{Try, Polling}
+use Rattle.piper_machine.specs.Types.{AfterRead, AfterWrite, ReadPoint, Side, OpenCall, Call, Query, Context, Step, Answer, Event, Action, Form, SourceAct, Destination, WritePoint, Found, Reader, Writer, Begin, Go, Put, Lent, Began, Try, Polling, MOST_A_ROUND, Slice, Acts}
 use Rattle.piper_protocol.specs.declared.table.Purpose.TheVariants.{Poll, Copy}
-use Rattle.piper_machine.specs.declared.scripted.SourceAct.{SourceAct}
-use Rattle.piper_machine.specs.declared.scripted.SourceAct.TheVariants as source
-use Rattle.piper_protocol.specs.declared.table.TheConstants.{MOST_A_ROUND}
-use Rattle.piper_machine.specs.declared.destination.Destination.{Destination}
-use Rattle.piper_machine.specs.declared.destination.Destination.TheVariants.{Slice, Acts}
-use Rattle.piper_protocol.specs.declared.table.AfterRead.TheVariants as after_read
-use Rattle.piper_protocol.specs.declared.table.AfterWrite.TheVariants as after_write
-use Rattle.piper_protocol.specs.declared.table.ReadPoint.TheVariants as at
-use Rattle.piper_protocol.specs.declared.table.WritePoint.{WritePoint}
-use Rattle.piper_protocol.specs.declared.table.WritePoint.TheVariants as on
 use Rattle.piper_machine.specs.Open.{no_call, called_with}
 use Rattle.piper_machine.specs.Log.{answer_event}
 use Rattle.piper_machine.specs.Pipe.{Pipe}
 use Rattle.piper_machine.specs.Call.{side_of, kind_of, waker_of}
 use Rattle.piper_machine.specs.Look.{context}
 use Rattle.piper_machine.specs.Lend.{Lendable, lending}
-use Rattle.piper_protocol.specs.declared.table.Found.{Found}
 use Rattle.piper_protocol.specs.Table.{read_action, read_after, reader_looks_for, write_action, write_after, ends_fill}
 use Rattle.piper_machine.specs.Action.{performed, found_by, logged_of}
 
@@ -69,10 +42,10 @@ lent_count_after true (Some answer) count = 0
 lent_count_after fills answer count = count
 
 abbrev pub lent_after : Action → WritePoint → Option Answer → List ℕ → List ℕ
-lent_after does.LoadClosed point answer lent = filled_out (ends_fill point) answer lent
-lent_after does.Register point answer lent = filled_out (ends_fill point) answer lent
-lent_after does.Yield point answer lent = filled_out (ends_fill point) answer lent
-lent_after does.CallSource point answer lent = filled_out (ends_fill point) answer lent
+lent_after Action.LoadClosed point answer lent = filled_out (ends_fill point) answer lent
+lent_after Action.Register point answer lent = filled_out (ends_fill point) answer lent
+lent_after Action.Yield point answer lent = filled_out (ends_fill point) answer lent
+lent_after Action.CallSource point answer lent = filled_out (ends_fill point) answer lent
 lent_after action point answer lent = lent
 
 -- the reader makes a step of this kind
@@ -148,22 +121,22 @@ went Writer p = writer_stepped (write_action p.writer) p
 -- the calls that both sides have, as they are opened
 
 abbrev pub query_opened : Side → Query → Pipe → Pipe
-query_opened Reader query p = record p { reader = at.QueryHead query }
-query_opened Writer query p = record p { writer = on.QueryHead query }
+query_opened Reader query p = record p { reader = ReadPoint.QueryHead query }
+query_opened Writer query p = record p { writer = WritePoint.QueryHead query }
 
 abbrev pub is_closed_opened : Side → Pipe → Pipe
-is_closed_opened Reader p = record p { reader = at.QueryClosed }
-is_closed_opened Writer p = record p { writer = on.QueryClosed }
+is_closed_opened Reader p = record p { reader = ReadPoint.QueryClosed }
+is_closed_opened Writer p = record p { writer = WritePoint.QueryClosed }
 
 abbrev pub poll_opened : Side → Context → Pipe → Pipe
 poll_opened Reader cx p =
     record p { reader = reader_looks_for (p.known == 0) Poll; reader_call = called_with (Some cx) }
 poll_opened Writer cx p =
-    record p { writer = on.LookClosed Poll; writer_call = called_with (Some cx) }
+    record p { writer = WritePoint.LookClosed Poll; writer_call = called_with (Some cx) }
 
 abbrev pub drop_opened : Side → Pipe → Pipe
-drop_opened Reader p = record p { reader = at.StoreClosed }
-drop_opened Writer p = record p { writer = on.StoreClosed after_write.Drop }
+drop_opened Reader p = record p { reader = ReadPoint.StoreClosed }
+drop_opened Writer p = record p { writer = WritePoint.StoreClosed AfterWrite.Drop }
 
 -- the form of a copying call; where its draw is 0 it yields
 abbrev pub form_of : Option Context → Form
@@ -179,34 +152,34 @@ drain_opened cx destination p = record p {
 
 abbrev pub fill_opened : Option Context → List SourceAct → Pipe → Pipe
 fill_opened cx acts p = record p {
-  writer = on.LookClosed (Copy (form_of cx));
+  writer = WritePoint.LookClosed (Copy (form_of cx));
   writer_call = called_with cx;
   source = acts;
 }
 
 -- the pipe as a call is opened, with these bytes in what a call of write_buf lends
 abbrev pub opened : List ℕ → Call → Pipe → Pipe
-opened lent (call.Query side query) p = query_opened side query p
-opened lent (call.IsClosed side) p = is_closed_opened side p
-opened lent (call.Poll side waker luck) p = poll_opened side (context waker luck) p
-opened lent (call.TryDrain size) p = drain_opened None (Slice size) p
-opened lent (call.PollDrainBytes waker luck size) p =
+opened lent (Call.Query side query) p = query_opened side query p
+opened lent (Call.IsClosed side) p = is_closed_opened side p
+opened lent (Call.Poll side waker luck) p = poll_opened side (context waker luck) p
+opened lent (Call.TryDrain size) p = drain_opened None (Slice size) p
+opened lent (Call.PollDrainBytes waker luck size) p =
     drain_opened (Some (context waker luck)) (Slice size) p
-opened lent (call.PollDrain waker luck acts) p =
+opened lent (Call.PollDrain waker luck acts) p =
     drain_opened (Some (context waker luck)) (Acts acts) p
-opened lent (call.Consume n) p = record p { reader = at.StoreHead n after_read.Answer }
-opened lent (call.TryFill bytes) p = fill_opened None (source.Bytes bytes ∷ []) p
-opened lent (call.PollFillBytes waker luck bytes) p =
-    fill_opened (Some (context waker luck)) (source.Bytes bytes ∷ []) p
-opened lent (call.PollFill waker luck acts) p = fill_opened (Some (context waker luck)) acts p
-opened lent (call.WriteBuf most) p = lending lent p
-opened lent (call.Produced n) p = record p { writer = on.StoreTail n after_write.Answer }
-opened lent call.Close p = record p { writer = on.StoreClosed after_write.WakeWriter }
-opened lent (call.Drop side) p = drop_opened side p
+opened lent (Call.Consume n) p = record p { reader = ReadPoint.StoreHead n AfterRead.Answer }
+opened lent (Call.TryFill bytes) p = fill_opened None (SourceAct.Bytes bytes ∷ []) p
+opened lent (Call.PollFillBytes waker luck bytes) p =
+    fill_opened (Some (context waker luck)) (SourceAct.Bytes bytes ∷ []) p
+opened lent (Call.PollFill waker luck acts) p = fill_opened (Some (context waker luck)) acts p
+opened lent (Call.WriteBuf most) p = lending lent p
+opened lent (Call.Produced n) p = record p { writer = WritePoint.StoreTail n AfterWrite.Answer }
+opened lent Call.Close p = record p { writer = WritePoint.StoreClosed AfterWrite.WakeWriter }
+opened lent (Call.Drop side) p = drop_opened side p
 
 -- a call without a step returns as it is opened
 abbrev pub answer_at_once : List ℕ → Call → Option Answer
-answer_at_once lent (call.WriteBuf most) = Some (Lent (length lent))
+answer_at_once lent (Call.WriteBuf most) = Some (Lent (length lent))
 answer_at_once lent c = None
 
 abbrev pub began : List ℕ → Call → Pipe → Stepped
@@ -221,7 +194,7 @@ began lent c p =
 
 -- a call of the source is lent places first
 abbrev pub lent_at : WritePoint → List ℕ → List ℕ → List ℕ
-lent_at (on.CallSource form sum) lent before = lent
+lent_at (WritePoint.CallSource form sum) lent before = lent
 lent_at point lent before = before
 
 abbrev pub offering : List ℕ → Pipe → Pipe
@@ -236,12 +209,12 @@ stepped lent (Put offset byte) p =
 
 -- these bytes may be lent to the source: where it gives none, the fill ends and leaves nothing lent
 abbrev pub MayOffer : WritePoint → List SourceAct → List ℕ → Pipe → Type 0
-MayOffer (on.CallSource form sum) (source.Bytes (byte ∷ bytes) ∷ acts) lent p =
+MayOffer (WritePoint.CallSource form sum) (SourceAct.Bytes (byte ∷ bytes) ∷ acts) lent p =
     Lendable MOST_A_ROUND p (length lent)
 MayOffer point acts lent p = ⊤
 
 -- these bytes may be lent by the step
 abbrev pub MayLend : List ℕ → Step → Pipe → Type 0
-MayLend lent (Begin (call.WriteBuf most)) p = Lendable most p (length lent)
+MayLend lent (Begin (Call.WriteBuf most)) p = Lendable most p (length lent)
 MayLend lent (Go Writer) p = MayOffer p.writer p.source lent p
 MayLend lent s p = ⊤

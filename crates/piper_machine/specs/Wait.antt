@@ -1,12 +1,8 @@
 -- What a log reports of a side's last polling call: which waker it was handed, whether that was
 -- called since, and whether the side was left pending.
 use Rattle.std.specs.Prelude.{ℕ, List, [], ◌∷◌, Bool, true, false, Option, None, Some, if◌then◌else◌, ◌==◌}
-use Rattle.piper_protocol.specs.declared.table.Side.{Side}
-use Rattle.piper_protocol.specs.declared.answer.Answer.{Answer}
+use Rattle.piper_machine.specs.Types.{Side, Answer, Event, Began, Registered, Woken, Answered, Pending}
 use Rattle.piper_protocol.specs.declared.answer.Answer.TheVariants.{Poll, Copy}
-use Rattle.piper_machine.specs.declared.events.Event.{Event}
-use Rattle.piper_machine.specs.declared.events.Event.TheVariants.{Began, Registered, Woken, Answered}
-use Rattle.piper_protocol.specs.declared.answer.Polled.TheVariants.{Pending}
 use Rattle.piper_machine.specs.Counts.{is_same}
 
 pub record Wait : Type 0 where

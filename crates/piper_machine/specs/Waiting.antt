@@ -1,11 +1,6 @@
 -- When a side has to wait, and when the other side is about to wake it.
 use Rattle.std.specs.Prelude.{◌≡◌, [], length, Bool, true, false}
-use Rattle.piper_protocol.specs.declared.table.Side.{Side}
-use Rattle.piper_protocol.specs.declared.table.Side.TheVariants.{Reader, Writer}
-use Rattle.piper_protocol.specs.declared.table.ReadPoint.{ReadPoint}
-use Rattle.piper_protocol.specs.declared.table.ReadPoint.TheVariants as at
-use Rattle.piper_protocol.specs.declared.table.WritePoint.{WritePoint}
-use Rattle.piper_protocol.specs.declared.table.WritePoint.TheVariants as on
+use Rattle.piper_machine.specs.Types.{Side, ReadPoint, WritePoint, Reader, Writer}
 use Rattle.piper_machine.specs.Pipe.{Pipe}
 
 -- an open pipe with nothing to do for this side
@@ -14,13 +9,13 @@ IsBlocked Reader p = (p.unread ≡ []) × (p.is_closed ≡ false)
 IsBlocked Writer p = (length p.unread ≡ p.capacity) × (p.is_closed ≡ false)
 
 abbrev pub is_waking_writer : ReadPoint → Bool
-is_waking_writer (at.TakeWriter next) = true
-is_waking_writer (at.WakeWriter next) = true
+is_waking_writer (ReadPoint.TakeWriter next) = true
+is_waking_writer (ReadPoint.WakeWriter next) = true
 is_waking_writer point = false
 
 abbrev pub is_waking_reader : WritePoint → Bool
-is_waking_reader (on.TakeReader next) = true
-is_waking_reader (on.WakeReader next) = true
+is_waking_reader (WritePoint.TakeReader next) = true
+is_waking_reader (WritePoint.WakeReader next) = true
 is_waking_reader point = false
 
 -- for this side, the other is between a store and the end of the wake that belongs to it

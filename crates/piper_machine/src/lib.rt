@@ -21,6 +21,9 @@ pub mod destination;
 pub mod machine;
 mod source;
 
+// Two logs as one run of it.
+pub mod one_run;
+
 // Callers of it.
 pub mod examples;
 

@@ -1,38 +1,28 @@
 -- A poll that returns false to the reader, what the log says of its last look, and where each side
 -- is on the way.
 use Rattle.std.specs.Prelude.{◌≡◌, List, [], ◌∷◌, ◌++◌, take, true, false, None, Some, refl}
-use Rattle.piper_protocol.specs.declared.table.Side.TheVariants.{Reader, Writer}
-use Rattle.piper_machine.specs.declared.calls.Call.TheVariants as call
-use Rattle.piper_machine.specs.declared.calls.Kind.TheVariants as kind
-use Rattle.piper_machine.specs.declared.calls.Step.{Step}
-use Rattle.piper_machine.specs.declared.calls.Step.TheVariants.{Begin, Go}
-use Rattle.piper_machine.specs.declared.events.Event.{Event}
-use Rattle.piper_machine.specs.declared.events.Event.TheVariants.{Began, Looked, Closed, Registered, Woken, Answered}
-use Rattle.piper_machine.specs.declared.events.Seen.TheVariants as seen
-use Rattle.piper_protocol.specs.declared.answer.Answer.TheVariants as answer
-use Rattle.piper_protocol.specs.declared.answer.Polled.TheVariants as polled
+use Rattle.piper_machine.specs.Types.{Answer, Call, Kind, Polled, Seen, Step, Event, Reader, Writer, Begin, Go, Began, Looked, Closed, Registered, Woken, Answered}
 use Rattle.piper_machine.specs.Pipe.{Pipe, fresh}
 use Rattle.piper_machine.specs.History.{unwritten, history_from}
 use Rattle.piper_machine.specs.Waiting.{IsBlocked, is_between}
-use Rattle.piper_machine.proofs.worked.Script.{by}
-use Rattle.piper_machine.proofs.worked.StepScript.{gone}
+use Rattle.piper_machine.proofs.worked.Gone.{by, gone}
 
 -- The reader registers, and only then the writer is dropped: it takes the reader's waker and calls
 -- it.
 abbrev dropped_while_it_looks : List Step
 dropped_while_it_looks =
-    Begin (call.Poll Reader 1 (by 1).luck) ∷ Go Reader ∷ Go Reader
-    ∷ Begin (call.Drop Writer) ∷ Go Writer ∷ Go Writer ∷ Go Writer
+    Begin (Call.Poll Reader 1 (by 1).luck) ∷ Go Reader ∷ Go Reader
+    ∷ Begin (Call.Drop Writer) ∷ Go Writer ∷ Go Writer ∷ Go Writer
     ∷ Go Reader ∷ Go Reader ∷ []
 
 abbrev told_the_end : Event
-told_the_end = Answered Reader (answer.Poll (polled.Ready false))
+told_the_end = Answered Reader (Answer.Poll (Polled.Ready false))
 
 abbrev logged_up_to_the_end : List Event
 logged_up_to_the_end =
-    Began Reader kind.Poll (Some 1) ∷ Looked Reader (seen.Tail 0) ∷ Registered Reader 1
-    ∷ Began Writer kind.Drop None ∷ Closed Writer ∷ Woken 1 ∷ Answered Writer answer.Done
-    ∷ Looked Reader (seen.Closed true) ∷ Looked Reader (seen.Tail 0) ∷ []
+    Began Reader Kind.Poll (Some 1) ∷ Looked Reader (Seen.Tail 0) ∷ Registered Reader 1
+    ∷ Began Writer Kind.Drop None ∷ Closed Writer ∷ Woken 1 ∷ Answered Writer Answer.Done
+    ∷ Looked Reader (Seen.Closed true) ∷ Looked Reader (Seen.Tail 0) ∷ []
 
 told_after_the_last_look :
     ((gone dropped_while_it_looks (fresh 4)).events ≡ logged_up_to_the_end ++ told_the_end ∷ [])
@@ -42,13 +32,13 @@ told_after_the_last_look = (refl, refl)
 -- After each of these the poll may not return false to the reader: the close came after the look, a
 -- byte was found, or the call has not looked yet.
 abbrev first_look : List Event
-first_look = Began Reader kind.Poll (Some 1) ∷ Looked Reader (seen.Tail 0) ∷ Closed Writer ∷ []
+first_look = Began Reader Kind.Poll (Some 1) ∷ Looked Reader (Seen.Tail 0) ∷ Closed Writer ∷ []
 
 abbrev a_byte_left : List Event
-a_byte_left = Closed Writer ∷ Began Reader kind.Poll (Some 1) ∷ Looked Reader (seen.Tail 1) ∷ []
+a_byte_left = Closed Writer ∷ Began Reader Kind.Poll (Some 1) ∷ Looked Reader (Seen.Tail 1) ∷ []
 
 abbrev no_look : List Event
-no_look = Began Reader kind.Poll (Some 1) ∷ Looked Reader (seen.Tail 0) ∷ Closed Writer ∷ Began Reader kind.Poll (Some 2) ∷ []
+no_look = Began Reader Kind.Poll (Some 1) ∷ Looked Reader (Seen.Tail 0) ∷ Closed Writer ∷ Began Reader Kind.Poll (Some 2) ∷ []
 
 other_last_looks :
     ((history_from unwritten first_look).last_look ≡ Some (record { count = 0; is_after_close = false }))

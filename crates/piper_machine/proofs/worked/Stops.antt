@@ -1,19 +1,15 @@
 -- A fill whose pipe is closed between its round and its look: what its source gave is counted, and
 -- not published.
 use Rattle.std.specs.Prelude.{◌≡◌, List, [], ◌∷◌, ◌++◌, true, false, None, refl}
-use Rattle.piper_protocol.specs.declared.table.Side.TheVariants.{Reader, Writer}
-use Rattle.piper_machine.specs.declared.calls.Kind.TheVariants as kind
-use Rattle.piper_machine.specs.declared.events.Event.{Event}
-use Rattle.piper_machine.specs.declared.events.Event.TheVariants.{Began, Looked, Published, Closed}
-use Rattle.piper_machine.specs.declared.events.Seen.TheVariants as seen
+use Rattle.piper_machine.specs.Types.{Kind, Seen, Event, Reader, Writer, Began, Looked, Published, Closed}
 use Rattle.piper_machine.specs.End.{saw_closed}
 use Rattle.piper_machine.specs.StopsAtClose.{StopsAtClose}
 
 -- what such a fill logs, up to its look after the round
 abbrev up_to_its_look : List Event
 up_to_its_look =
-    Began Writer kind.TryFill None ∷ Looked Writer (seen.Closed false)
-    ∷ Began Reader kind.Drop None ∷ Closed Reader ∷ Looked Writer (seen.Closed true) ∷ []
+    Began Writer Kind.TryFill None ∷ Looked Writer (Seen.Closed false)
+    ∷ Began Reader Kind.Drop None ∷ Closed Reader ∷ Looked Writer (Seen.Closed true) ∷ []
 
 its_last_look_found_it : saw_closed Writer up_to_its_look ≡ true
 its_last_look_found_it = refl
@@ -23,8 +19,8 @@ published_after_it stops = absurd (let never : true ≡ false = stops up_to_its_
 
 -- the close alone stops nobody who has not looked: what was lent before it can be published, and a
 -- new call looks afresh
-published_before_the_look : saw_closed Writer (Began Writer kind.TryFill None ∷ Looked Writer (seen.Closed false) ∷ Closed Reader ∷ []) ≡ false
+published_before_the_look : saw_closed Writer (Began Writer Kind.TryFill None ∷ Looked Writer (Seen.Closed false) ∷ Closed Reader ∷ []) ≡ false
 published_before_the_look = refl
 
-forgotten_by_the_next : saw_closed Writer (up_to_its_look ++ Began Writer kind.Produced None ∷ []) ≡ false
+forgotten_by_the_next : saw_closed Writer (up_to_its_look ++ Began Writer Kind.Produced None ∷ []) ≡ false
 forgotten_by_the_next = refl

@@ -1,32 +1,20 @@
 -- A side that was left pending, from point to point of the other side's wake, and what no run may
 -- come to.
-use Rattle.std.specs.Prelude.{◌≡◌, ◌⊎◌, ℕ, List, [], ◌∷◌, take, true, false, None, Some, Ok, refl}
-use Rattle.std.proofs.Common.{inl, inr}
-use Rattle.piper_protocol.specs.declared.table.Side.TheVariants.{Reader, Writer}
-use Rattle.piper_protocol.specs.declared.table.Query.TheVariants.{Len}
-use Rattle.piper_machine.specs.declared.calls.Call.TheVariants as call
-use Rattle.piper_machine.specs.declared.calls.Kind.TheVariants as kind
-use Rattle.piper_machine.specs.declared.calls.Step.{Step}
-use Rattle.piper_machine.specs.declared.calls.Step.TheVariants.{Begin, Go}
-use Rattle.piper_machine.specs.declared.events.Event.{Event}
-use Rattle.piper_machine.specs.declared.events.Event.TheVariants.{Began, Published, Registered, Woken, Answered}
-use Rattle.piper_protocol.specs.declared.answer.Answer.TheVariants as answer
-use Rattle.piper_protocol.specs.declared.answer.Polled.TheVariants as polled
-use Rattle.piper_protocol.specs.declared.table.WritePoint.TheVariants as on
+use Rattle.std.proofs.Common.{inl, inr, ◌≡◌, ◌⊎◌, ℕ, List, [], ◌∷◌, take, true, false, None, Some, Ok, refl}
+use Rattle.piper_machine.specs.Types.{Answer, Call, Kind, Polled, WritePoint, Step, Event, Reader, Writer, Len, Begin, Go, Began, Published, Registered, Woken, Answered}
 use Rattle.piper_machine.specs.Pipe.{Pipe, fresh}
 use Rattle.piper_machine.specs.Wait.{Wait, wait_of}
 use Rattle.piper_machine.specs.Awake.{IsAwake}
 use Rattle.piper_machine.specs.Remembered.{IsRemembered, WasCalled}
-use Rattle.piper_machine.proofs.worked.Script.{by}
-use Rattle.piper_machine.proofs.worked.StepScript.{gone}
+use Rattle.piper_machine.proofs.worked.Gone.{by, gone}
 
 -- The reader polls an empty pipe and is left pending; then the writer publishes no byte, which
 -- wakes all the same.
 abbrev waits_then_woken : List Step
 waits_then_woken =
-    Begin (call.Poll Reader 1 (by 1).luck) ∷ Go Reader ∷ Go Reader ∷ Go Reader ∷ Go Reader
-    ∷ Begin (call.Produced 0) ∷ Go Writer ∷ Go Writer ∷ Go Writer
-    ∷ Begin (call.Query Reader Len) ∷ Go Reader ∷ Go Reader ∷ []
+    Begin (Call.Poll Reader 1 (by 1).luck) ∷ Go Reader ∷ Go Reader ∷ Go Reader ∷ Go Reader
+    ∷ Begin (Call.Produced 0) ∷ Go Writer ∷ Go Writer ∷ Go Writer
+    ∷ Begin (Call.Query Reader Len) ∷ Go Reader ∷ Go Reader ∷ []
 
 abbrev pipe_after : ℕ → Pipe
 pipe_after n = (gone (take n waits_then_woken) (fresh 4)).pipe
@@ -54,25 +42,25 @@ always_remembered = (inr (inl (refl, (refl, refl))), inr (inr (refl, inl refl)),
 
 -- a waker that was called counts until the side registers it again
 abbrev pending : Event
-pending = Answered Reader (answer.Poll polled.Pending)
+pending = Answered Reader (Answer.Poll Polled.Pending)
 
-registered_again : wait_of Reader (Began Reader kind.Poll (Some 1) ∷ Registered Reader 1 ∷ Woken 1 ∷ pending ∷ Began Reader kind.Poll (Some 1) ∷ Registered Reader 1 ∷ pending ∷ []) ≡ record { handed = 1; is_woken = false; is_pending = true }
+registered_again : wait_of Reader (Began Reader Kind.Poll (Some 1) ∷ Registered Reader 1 ∷ Woken 1 ∷ pending ∷ Began Reader Kind.Poll (Some 1) ∷ Registered Reader 1 ∷ pending ∷ []) ≡ record { handed = 1; is_woken = false; is_pending = true }
 registered_again = refl
 
 -- another waker's call is none
-another_waker : wait_of Reader (Began Reader kind.Poll (Some 1) ∷ Registered Reader 1 ∷ pending ∷ Woken 2 ∷ []) ≡ record { handed = 1; is_woken = false; is_pending = true }
+another_waker : wait_of Reader (Began Reader Kind.Poll (Some 1) ∷ Registered Reader 1 ∷ pending ∷ Woken 2 ∷ []) ≡ record { handed = 1; is_woken = false; is_pending = true }
 another_waker = refl
 
 -- a copy that yields calls its own waker and registers none; one that waits is a wait of its own
-yielded : wait_of Reader (Began Reader kind.PollDrainBytes (Some 1) ∷ Woken 1 ∷ Answered Reader (answer.Copy polled.Pending) ∷ []) ≡ record { handed = 1; is_woken = true; is_pending = true }
+yielded : wait_of Reader (Began Reader Kind.PollDrainBytes (Some 1) ∷ Woken 1 ∷ Answered Reader (Answer.Copy Polled.Pending) ∷ []) ≡ record { handed = 1; is_woken = true; is_pending = true }
 yielded = refl
 
 copied_after_a_wait :
-    wait_of Reader (Began Reader kind.Poll (Some 1) ∷ Registered Reader 1 ∷ pending ∷ Began Reader kind.PollDrainBytes (Some 2) ∷ Answered Reader (answer.Copy (polled.Ready (Ok 3))) ∷ []) ≡ record { handed = 2; is_woken = false; is_pending = false }
+    wait_of Reader (Began Reader Kind.Poll (Some 1) ∷ Registered Reader 1 ∷ pending ∷ Began Reader Kind.PollDrainBytes (Some 2) ∷ Answered Reader (Answer.Copy (Polled.Ready (Ok 3))) ∷ []) ≡ record { handed = 2; is_woken = false; is_pending = false }
 copied_after_a_wait = refl
 
 -- a try has no waker: who was left pending before still waits
-tried_after_a_wait : wait_of Reader (Began Reader kind.Poll (Some 1) ∷ Registered Reader 1 ∷ pending ∷ Began Reader kind.TryDrain None ∷ Answered Reader (answer.Count 0) ∷ []) ≡ record { handed = 1; is_woken = false; is_pending = true }
+tried_after_a_wait : wait_of Reader (Began Reader Kind.Poll (Some 1) ∷ Registered Reader 1 ∷ pending ∷ Began Reader Kind.TryDrain None ∷ Answered Reader (Answer.Count 0) ∷ []) ≡ record { handed = 1; is_woken = false; is_pending = true }
 tried_after_a_wait = refl
 
 -- To these pipes, with nobody about to call, a wrong order of steps would come. The reader was left
@@ -91,7 +79,7 @@ byte_overlooked_forgets (inr (inr about)) = let between = about.0 in absurd (cc)
 
 -- a drop of the writer that empties its own slot in place of the reader's
 abbrev end_untold : Pipe
-end_untold = record (fresh 4) { is_closed = true; reader_waker = Some 1; writer = on.Dropped }
+end_untold = record (fresh 4) { is_closed = true; reader_waker = Some 1; writer = WritePoint.Dropped }
 
 end_untold_forgets : IsRemembered Reader end_untold told_to_wait → ⊥
 end_untold_forgets (inl called) = absurd (cc)
@@ -119,7 +107,7 @@ writer_untold_forgets (inr (inr about)) = let between = about.0 in absurd (cc)
 -- a wake before its store: the reader, called too early, was left pending once more, and then the
 -- byte came
 abbrev called_too_early : List Event
-called_too_early = Began Reader kind.Poll (Some 1) ∷ Registered Reader 1 ∷ pending ∷ Woken 1 ∷ Began Reader kind.Poll (Some 1) ∷ Registered Reader 1 ∷ pending ∷ Published (7 ∷ []) ∷ []
+called_too_early = Began Reader Kind.Poll (Some 1) ∷ Registered Reader 1 ∷ pending ∷ Woken 1 ∷ Began Reader Kind.Poll (Some 1) ∷ Registered Reader 1 ∷ pending ∷ Published (7 ∷ []) ∷ []
 
 called_too_early_forgets : IsRemembered Reader byte_overlooked (wait_of Reader called_too_early) → ⊥
 called_too_early_forgets = byte_overlooked_forgets
@@ -127,9 +115,9 @@ called_too_early_forgets = byte_overlooked_forgets
 -- two sides that were left pending, neither of which was called
 abbrev both_sleep : List Event
 both_sleep =
-    Began Reader kind.Poll (Some 1) ∷ Registered Reader 1 ∷ pending
-    ∷ Began Writer kind.Poll (Some 2) ∷ Registered Writer 2
-    ∷ Answered Writer (answer.Poll polled.Pending) ∷ []
+    Began Reader Kind.Poll (Some 1) ∷ Registered Reader 1 ∷ pending
+    ∷ Began Writer Kind.Poll (Some 2) ∷ Registered Writer 2
+    ∷ Answered Writer (Answer.Poll Polled.Pending) ∷ []
 
 sleeps_uncalled : WasCalled (wait_of Reader both_sleep) ⊎ WasCalled (wait_of Writer both_sleep) → ⊥
 sleeps_uncalled (inl called) = absurd (cc)

@@ -4,6 +4,7 @@ use piper::io::Copied;
 use piper::{PipeError, owned_pipe};
 use piper_futures::{spawn_drain, spawn_fill};
 use std::io;
+use std::process::Abort;
 use std::thread::Threads;
 
 #[test]

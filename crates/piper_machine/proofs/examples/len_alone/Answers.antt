@@ -1,7 +1,5 @@
 use Rattle.std.proofs.Common.{[], ◌∷◌, ◌++◌, ap, sym, ◌∙◌}
-use Rattle.piper_protocol.specs.declared.table.Side.TheVariants.{Reader}
-use Rattle.piper_protocol.specs.declared.answer.Answer.TheVariants.{Count}
-use Rattle.piper_machine.specs.declared.events.Event.TheVariants.{Answered}
+use Rattle.piper_machine.specs.Types.{Reader, Count, Answered}
 use Rattle.piper_machine.proofs.examples.len_alone.Goals as goal
 
 pub returns-clause-by_steps : goal.returns-clause-by_steps

@@ -1,6 +1,6 @@
 use Rattle.std.proofs.Common.{ℕ, ◌+◌, List, ◌∷◌, length, drop, sym, ap, ◌∙◌, arith}
 use Rattle.std.proofs.lemmas.List.{drop_more}
-use Rattle.piper_machine.specs.declared.scripted.SourceAct.{SourceAct}
+use Rattle.piper_machine.specs.Types.{SourceAct}
 use Rattle.piper_machine.specs.Source.{bytes_of}
 use Rattle.piper_machine.proofs.Sources.{pass_within}
 use Rattle.piper_machine.proofs.source.passed.Goals as goal

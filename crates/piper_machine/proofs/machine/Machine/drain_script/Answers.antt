@@ -1,6 +1,5 @@
 use Rattle.std.proofs.Common.{◌≡◌, ◌∙◌, List, ℕ, sym, ap, subst, arith}
-use Rattle.piper_machine.specs.declared.scripted.DestAct.{DestAct}
-use Rattle.piper_machine.specs.declared.destination.Destination.TheVariants.{Acts}
+use Rattle.piper_machine.specs.Types.{DestAct, Acts}
 use Rattle.piper_machine.specs.Round.{found_of, taken_by_acts}
 use Rattle.piper_machine.specs.Action.{round_count}
 use Rattle.piper_machine.specs.Step.{drain_opened}

@@ -1,4 +1,4 @@
-use Rattle.piper_machine.specs.declared.destination.Destination.TheVariants.{Acts}
+use Rattle.piper_machine.specs.Types.{Acts}
 use Rattle.piper_machine.specs.Step.{drain_opened}
 use Rattle.piper_machine.proofs.Draining.{Draining, placing, left_of}
 use Rattle.piper_machine.proofs.machine.Machine.drain_script.Given as goal

@@ -1,10 +1,7 @@
 use Rattle.std.proofs.Common.{◌≡◌, ◌∙◌, ◌+◌, ◌-◌, ◌++◌, List, ℕ, min, length, take, drop, Option, refl, sym, ap, subst, arith, is_some, length-drop}
 use Rattle.std.proofs.lemmas.List.{take_rest}
-use Rattle.piper_protocol.specs.declared.answer.Answer.{Answer}
-use Rattle.piper_protocol.specs.declared.table.Action.{Action}
-use Rattle.piper_protocol.specs.declared.table.Action.TheVariants as does
+use Rattle.piper_machine.specs.Types.{Answer, Action, Slice}
 use Rattle.piper_protocol.specs.Table.{read_action}
-use Rattle.piper_machine.specs.declared.destination.Destination.TheVariants.{Slice}
 use Rattle.piper_machine.specs.Action.{round_count}
 use Rattle.piper_machine.specs.Step.{drain_opened}
 use Rattle.piper_machine.proofs.Draining.{IsGone, IsReadOn, IsCopied, opened-slice, goes-along, goes, ends, takes-in, took, took-none, copies, wake-room, calls-store, drained-bytes}
@@ -41,7 +38,7 @@ copied c =
           let rest = take_rest xs d in
           let count = rw rest at w.read_round-done.ensures.count in
           let bytes = rw rest at w.read_round-done.ensures.bytes in
-          let calls : read_action q.reader ≡ does.CallDestination = sym c.reader_next-action.ensures.step ∙ w.in-CallDestination.is in
+          let calls : read_action q.reader ≡ Action.CallDestination = sym c.reader_next-action.ensures.step ∙ w.in-CallDestination.is in
           let unread : q.unread ≡ drop d before = sym (ap (λ (k : ℕ). drop k q.unread) (calls-store q.reader calls)) ∙ inv.read.unread in
           let taken : took (read_action q.reader) (length dest - d) q ≡ min (length dest - d) (round_count q) = ap (λ (action : Action). took action (length dest - d) q) calls in
           let left = ap (λ (zs : List ℕ). length zs) unread in

@@ -1,5 +1,5 @@
 use Rattle.std.proofs.Common.{◌≡◌, ◌≤◌, ◌++◌, length, take, drop}
-use Rattle.piper_machine.specs.declared.destination.Destination.TheVariants.{Slice}
+use Rattle.piper_machine.specs.Types.{Slice}
 use Rattle.piper_machine.specs.Step.{drain_opened}
 use Rattle.piper_machine.proofs.Draining.{Draining, IsRead, left_of}
 use Rattle.piper_machine.proofs.machine.Machine.drain_slice.Given as goal

@@ -1,5 +1,5 @@
 use Rattle.std.proofs.Common.{Option, sym, ap, ◌∙◌, arith}
-use Rattle.piper_protocol.specs.declared.answer.Answer.{Answer}
+use Rattle.piper_machine.specs.Types.{Answer}
 use Rattle.piper_machine.specs.Alone.{Ended}
 use Rattle.piper_machine.proofs.BySteps.{IsDriven, drives, rest_of}
 use Rattle.piper_machine.proofs.machine.Machine.drive.Goals as goal

@@ -1,5 +1,5 @@
 use Rattle.std.proofs.Common.{◌≡◌, ◌≤◌, ◌+◌, length, false}
-use Rattle.piper_machine.specs.declared.calls.SideState.TheVariants.{Busy}
+use Rattle.piper_machine.specs.Types.{Busy}
 use Rattle.piper_machine.specs.Refusal.{state_of}
 use Rattle.piper_machine.specs.Alone.{alone_of, is_copying, wakes_of}
 use Rattle.piper_machine.proofs.BySteps.{left_of}

@@ -1,6 +1,6 @@
 use Rattle.std.proofs.Common.{◌≡◌, ◌∙◌, ℕ, List, length, take, min, sym, ap}
 use Rattle.std.proofs.lemmas.List.{take_rest}
-use Rattle.piper_machine.specs.declared.scripted.SourceAct.{SourceAct}
+use Rattle.piper_machine.specs.Types.{SourceAct}
 use Rattle.piper_machine.specs.Round.{given, unspent}
 use Rattle.piper_machine.specs.Step.{fill_opened}
 use Rattle.piper_machine.proofs.Sources.{lent-anew}

@@ -1,6 +1,6 @@
 use Rattle.std.proofs.Common.{◌∙◌, ap}
+use Rattle.piper_machine.specs.Types.{Call}
 use Rattle.piper_protocol.specs.Answer.{copied_in}
-use Rattle.piper_machine.specs.declared.calls.Call.TheVariants as call
 use Rattle.piper_machine.specs.Look.{context}
 use Rattle.piper_machine.specs.Alone.{Ended}
 use Rattle.piper_machine.proofs.Resting.{drains-to}
@@ -19,4 +19,4 @@ returns-clause-after c =
     c.drain_script.ensures.after ∙ ap (λ (e : Ended). e.pipe) ended
 
 pub returns-clause-by_steps : goal.returns-clause-by_steps
-returns-clause-by_steps c = c.begin_whole.ensures.by_steps (call.PollDrain c.args.waker c.args.luck c.args.acts.now)
+returns-clause-by_steps c = c.begin_whole.ensures.by_steps (Call.PollDrain c.args.waker c.args.luck c.args.acts.now)

@@ -1,6 +1,6 @@
 use Rattle.std.proofs.Common.{◌≡◌, ◌∙◌, List, ℕ, length, Some, sym, ap, subst}
+use Rattle.piper_machine.specs.Types.{Call}
 use Rattle.piper_protocol.specs.Answer.{copied_in}
-use Rattle.piper_machine.specs.declared.calls.Call.TheVariants as call
 use Rattle.piper_machine.specs.Look.{context}
 use Rattle.piper_machine.specs.Copy.{drain, count_of}
 use Rattle.piper_machine.specs.Alone.{Ended}
@@ -40,4 +40,4 @@ returns-clause-after c =
     c.drain_slice.ensures.after ∙ ap (λ (e : Ended). e.pipe) ended
 
 pub returns-clause-by_steps : goal.returns-clause-by_steps
-returns-clause-by_steps c = c.begin_whole.ensures.by_steps (call.PollDrainBytes c.args.waker c.args.luck (length c.args.dest.now))
+returns-clause-by_steps c = c.begin_whole.ensures.by_steps (Call.PollDrainBytes c.args.waker c.args.luck (length c.args.dest.now))

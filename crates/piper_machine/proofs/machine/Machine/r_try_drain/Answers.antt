@@ -1,6 +1,6 @@
 use Rattle.std.proofs.Common.{◌≡◌, ◌∙◌, List, ℕ, length, None, sym, ap, subst}
+use Rattle.piper_machine.specs.Types.{Call}
 use Rattle.piper_protocol.specs.Answer.{count_in}
-use Rattle.piper_machine.specs.declared.calls.Call.TheVariants as call
 use Rattle.piper_machine.specs.Copy.{try_drain, count_of}
 use Rattle.piper_machine.specs.Alone.{Ended}
 use Rattle.piper_machine.proofs.Draining.{IsCounted, drain-counts, counted-bytes}
@@ -33,4 +33,4 @@ returns-clause-after c =
     c.drain_slice.ensures.after ∙ ap (λ (e : Ended). e.pipe) ended
 
 pub returns-clause-by_steps : goal.returns-clause-by_steps
-returns-clause-by_steps c = c.begin_whole.ensures.by_steps (call.TryDrain (length c.args.dest.now))
+returns-clause-by_steps c = c.begin_whole.ensures.by_steps (Call.TryDrain (length c.args.dest.now))

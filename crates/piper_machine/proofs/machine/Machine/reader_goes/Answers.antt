@@ -1,7 +1,5 @@
 use Rattle.std.proofs.Common.{◌∙◌, ap}
-use Rattle.piper_protocol.specs.declared.table.Action.{Action}
-use Rattle.piper_protocol.specs.declared.table.Found.{Found}
-use Rattle.piper_protocol.specs.declared.table.Side.TheVariants.{Reader}
+use Rattle.piper_machine.specs.Types.{Action, Found, Reader}
 use Rattle.piper_machine.specs.Action.{performed}
 use Rattle.piper_machine.specs.Pipe.{Pipe}
 use Rattle.piper_machine.specs.Step.{drain_answer, drain_left, reader_stepped}

@@ -1,5 +1,5 @@
 use Rattle.std.proofs.Common.{◌≡◌, [], ap, ◌∙◌}
-use Rattle.piper_protocol.specs.declared.table.Side.{Side}
+use Rattle.piper_machine.specs.Types.{Side}
 use Rattle.piper_machine.specs.Alone.{Ended, alone_of}
 use Rattle.piper_machine.specs.BySteps.{whole}
 use Rattle.piper_machine.proofs.WholeBySteps.{plain-opens}

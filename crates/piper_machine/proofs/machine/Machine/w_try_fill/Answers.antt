@@ -1,6 +1,6 @@
 use Rattle.std.proofs.Common.{◌∙◌, ap}
+use Rattle.piper_machine.specs.Types.{Call}
 use Rattle.piper_protocol.specs.Answer.{count_in}
-use Rattle.piper_machine.specs.declared.calls.Call.TheVariants as call
 use Rattle.piper_machine.specs.Alone.{Ended}
 use Rattle.piper_machine.proofs.Resting.{try_fills}
 use Rattle.piper_machine.proofs.machine.Machine.w_try_fill.Goals as goal
@@ -18,4 +18,4 @@ returns-clause-after c =
     c.fill_whole.ensures.after ∙ ap (λ (e : Ended). e.pipe) ended
 
 pub returns-clause-by_steps : goal.returns-clause-by_steps
-returns-clause-by_steps c = c.begin_whole.ensures.by_steps (call.TryFill c.args.bytes.now)
+returns-clause-by_steps c = c.begin_whole.ensures.by_steps (Call.TryFill c.args.bytes.now)

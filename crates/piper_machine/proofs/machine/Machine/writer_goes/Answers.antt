@@ -1,7 +1,5 @@
 use Rattle.std.proofs.Common.{◌∙◌, ap, true}
-use Rattle.piper_protocol.specs.declared.table.Side.TheVariants.{Writer}
-use Rattle.piper_protocol.specs.declared.table.Action.{Action}
-use Rattle.piper_protocol.specs.declared.table.Found.{Found}
+use Rattle.piper_machine.specs.Types.{Action, Found, Writer}
 use Rattle.piper_machine.specs.Action.{found_by, performed}
 use Rattle.piper_machine.specs.Pipe.{Pipe}
 use Rattle.piper_machine.specs.Step.{round_answer, round_left}

@@ -1,7 +1,6 @@
 use Rattle.std.proofs.Common.{ap, ◌∙◌, arith}
-use Rattle.piper_protocol.specs.declared.table.WritePoint.{WritePoint}
+use Rattle.piper_machine.specs.Types.{WritePoint, Nothing as nothing}
 use Rattle.piper_machine.specs.Move.{published}
-use Rattle.piper_protocol.specs.declared.table.Found.TheVariants.{Nothing as nothing}
 use Rattle.piper_protocol.specs.Table.{Next}
 use Rattle.piper_machine.specs.Step.{call_after, source_after}
 use Rattle.piper_machine.specs.Machine.{pipe_of}

@@ -1,7 +1,7 @@
 use Rattle.std.proofs.Common.{rules, ◌≡◌, [], ◌∷◌, ◌++◌, take, refl, sym, ap, subst, ◌∙◌}
 use Rattle.std.proofs.lemmas.List.{take_more, take_all}
 use Rattle.std.proofs.lemmas.Option.{slice_get_read}
-use Rattle.piper_machine.specs.declared.calls.Step.{Step}
+use Rattle.piper_machine.specs.Types.{Step}
 use Rattle.piper_machine.specs.Pipe.{fresh}
 use Rattle.piper_machine.specs.Log.{events}
 use Rattle.piper_machine.proofs.Fronts.{sound-fresh}

@@ -1,8 +1,0 @@
-use Rattle.one_run.proofs.Reaching.{one-run, wide-run}
-use Rattle.one_run.proofs.is_one_run.Goals as goal
-
-pub returns-clause-plain : goal.returns-clause-plain
-returns-clause-plain c = one-run
-
-pub returns-clause-wide : goal.returns-clause-wide
-returns-clause-wide c = wide-run

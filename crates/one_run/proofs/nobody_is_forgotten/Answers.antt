@@ -1,8 +1,0 @@
-use Rattle.one_run.proofs.Following.{nobody-forgotten, one-awake}
-use Rattle.one_run.proofs.nobody_is_forgotten.Goals as goal
-
-pub returns-clause-waits : goal.returns-clause-waits
-returns-clause-waits c = nobody-forgotten
-
-pub returns-clause-awake : goal.returns-clause-awake
-returns-clause-awake c = one-awake

@@ -1,0 +1,23 @@
+-- Two logs as one run.
+pub mod Joint
+pub mod Draws
+pub mod WriterDraws
+pub mod Fitting
+pub mod Learning
+pub mod Leading
+pub mod ReaderSteps
+pub mod ReaderBegins
+pub mod Contexts
+pub mod ReaderOpens
+pub mod ReaderFits
+pub mod WriterOpens
+pub mod WriterSteps
+pub mod WriterBegins
+pub mod WriterGives
+pub mod WriterFits
+pub mod Reaching
+pub mod Filling
+pub mod Counting
+pub mod Following
+pub mod Worked
+pub mod Listed

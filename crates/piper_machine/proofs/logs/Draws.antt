@@ -1,0 +1,46 @@
+-- The table goes on in the same way, whatever a copy that has still to draw will draw.
+use Rattle.std.proofs.Common.{◌≡◌, ℕ, ◌≤◌, [], Bool, Option, None, Some, refl, arith}
+use Rattle.piper_machine.specs.Types.{Action, Answer, Found, ReadPoint, Reader}
+use Rattle.piper_protocol.specs.Table.{Next, read_action, read_after, head_store, moved_in}
+use Rattle.piper_machine.specs.Log.{answer_event}
+use Rattle.piper_machine.specs.Refusal.{cannot_go, reader_state}
+use Rattle.piper_machine.specs.logs.Reading.{HasDrawn}
+use Rattle.piper_machine.proofs.logs.Joint.{reader_drawn, reader_point}
+
+abbrev pub reader_next : Option Bool → Bool → Next ReadPoint → Next ReadPoint
+reader_next draw b next = record { point = reader_point draw b next.point; answer = next.answer }
+
+pub action-same : (draw : Option Bool) (b : Bool) (point : ReadPoint) → read_action (reader_point draw b point) ≡ read_action point
+action-same (Some fact) b point = refl
+action-same None b (ReadPoint.LookTail l) = refl
+action-same None b (ReadPoint.LookRegister l) = refl
+action-same None b (ReadPoint.LookClosed l) = refl
+action-same None b (ReadPoint.LookTailAgain l was_closed) = refl
+action-same None b (ReadPoint.LookTake l) = refl
+action-same None b point = refl
+
+-- the step leads to the same, unless the copy has still to draw
+pub next-same : (capacity : ℕ) (draw : Option Bool) (b : Bool) (point : ReadPoint) (f : Found) → (read_action point ≡ Action.Take Reader → HasDrawn point draw)
+    → read_after capacity (reader_point draw b point) f ≡ reader_next draw b (read_after capacity point f)
+next-same capacity draw b point f drawn = grind arith
+
+pub stores-moved : (capacity : ℕ) (point : ReadPoint) (f : Found) → head_store (read_after capacity point f).point ≤ moved_in f
+stores-moved capacity point f = grind arith
+
+-- a call that returns leaves no point of a call
+pub ends-at : (capacity : ℕ) (point : ReadPoint) (f : Found) (answer : Answer) → (read_after capacity point f).answer ≡ Some answer → (read_action (read_after capacity point f).point ≡ Action.Rest)
+ends-at capacity point f answer e = grind arith
+
+pub may-go : (point : ReadPoint) → (read_action point ≡ Action.Rest → ⊥) → cannot_go (reader_state point) ≡ None
+may-go point goes = grind arith
+
+pub rests-drawn : (b : Bool) (point : ReadPoint) → read_action point ≡ Action.Rest → reader_drawn b point ≡ point
+rests-drawn b point e = grind arith
+
+pub own-same : (capacity : ℕ) (point : ReadPoint) (f g : Found) → read_action point ≡ Action.Take Reader → read_after capacity point f ≡ read_after capacity point g
+own-same capacity point f g e = grind arith
+
+-- no call returns before it registers
+pub stays : (capacity : ℕ) (point : ReadPoint) (b : Bool) → read_action point ≡ Action.Register → answer_event Reader (read_after capacity point (Found.Waker b)).answer ≡ []
+stays capacity (ReadPoint.LookRegister l) b e = refl
+stays capacity point b e = absurd (cc)

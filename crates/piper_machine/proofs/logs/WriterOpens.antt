@@ -1,0 +1,177 @@
+-- What a source gives, what is lent to it, and how a call of the writer begins.
+use Rattle.std.proofs.Common.{◌≡◌, ℕ, ◌+◌, ◌-◌, ◌≤◌, ◌<◌, min, List, [], ◌∷◌, length, take, drop, Bool, true, false, Option, ◌==◌, Ok, refl, sym, ap, ◌∙◌, arith, if◌then◌else◌}
+use Rattle.std.proofs.lemmas.Bool.Decides.{nat_tests}
+use Rattle.std.proofs.Math.Seq.{take-append_seam, drop-append_seam}
+use Rattle.std.proofs.lemmas.List.{append-nil, length-take}
+use Rattle.piper_machine.specs.Types.{Action, AfterWrite, Form, WritePoint, DestAct, SourceAct, MOST_A_ROUND}
+use Rattle.piper_protocol.specs.Index.{offset_of}
+use Rattle.piper_protocol.specs.Table.{write_action}
+use Rattle.piper_machine.specs.Lend.{Lendable}
+use Rattle.piper_machine.specs.Pipe.{Pipe}
+use Rattle.piper_machine.specs.Places.{places_left}
+use Rattle.piper_machine.specs.Round.{given, left_of_source, unspent}
+use Rattle.piper_machine.specs.Source.{bytes_of}
+use Rattle.piper_machine.specs.Step.{MayOffer, lent_at as lent_to}
+use Rattle.piper_machine.specs.logs.OneList.{Words}
+use Rattle.piper_machine.specs.logs.Reading.{ReaderAt}
+use Rattle.piper_machine.specs.logs.Writing.{Source, own, these, nothing, source_of, MayGive, WriterAt, contiguous, shut_at, source_after, lent_for, most_lent, lendable, unless}
+use Rattle.piper_machine.proofs.logs.Fitting.{length-unread}
+use Rattle.piper_machine.proofs.logs.Joint.{Gives, MayLend, Chance, Fits, number_of, pipe_at, source_at, writer_point}
+
+pub number-is : (b : Bool) → b ≡ (number_of b == 0)
+number-is true = refl
+number-is false = refl
+
+pub stores-at : (draw : Option Bool) (b : Bool) (n : ℕ) → writer_point draw b (WritePoint.StoreTail n AfterWrite.Answer) ≡ WritePoint.StoreTail n AfterWrite.Answer
+stores-at draw b n = grind arith
+
+pub shuts-at : (draw : Option Bool) (b : Bool) → writer_point draw b (WritePoint.StoreClosed AfterWrite.WakeWriter) ≡ WritePoint.StoreClosed AfterWrite.WakeWriter
+shuts-at draw b = grind arith
+
+pub closes-at : (draw : Option Bool) (b : Bool) → writer_point draw b (WritePoint.StoreClosed AfterWrite.Drop) ≡ WritePoint.StoreClosed AfterWrite.Drop
+closes-at draw b = grind arith
+
+pub shuts-not : (point : WritePoint) (w : WriterAt) → write_action point ≡ Action.StoreClosed false → shut_at point w ≡ w
+shuts-not point w e = grind arith
+
+pub shuts : (point : WritePoint) (w : WriterAt) → write_action point ≡ Action.StoreClosed true → shut_at point w ≡ record w { is_shut = true; given = []; spare = 0 }
+shuts point w e = grind arith
+
+-- a call of a source is lent places first
+pub offers : (point : WritePoint) (lent before : List ℕ) → write_action point ≡ Action.CallSource → lent_to point lent before ≡ lent
+offers point lent before e = grind arith
+
+pub may-offer : (point : WritePoint) (acts : List SourceAct) (lent : List ℕ) (p : Pipe) → ((b : ℕ) (bs : List ℕ) (rest : List SourceAct) → acts ≡ SourceAct.Bytes (b ∷ bs) ∷ rest → Lendable MOST_A_ROUND p (length lent)) → MayOffer point acts lent p
+may-offer (WritePoint.CallSource form sum) (SourceAct.Bytes (b ∷ bs) ∷ acts) lent p lendable = lendable b bs acts refl
+may-offer point acts lent p lendable = tt
+
+pub may-go : (point : WritePoint) (acts : List SourceAct) (lent : List ℕ) (p : Pipe) → (write_action point ≡ Action.CallSource → ⊥) → MayOffer point acts lent p
+may-go (WritePoint.CallSource form sum) acts lent p other = absurd (other refl)
+may-go point acts lent p other = tt
+
+source_at-point : (point : WritePoint) → write_action point ≡ Action.CallSource → (form : Form) × (sum : ℕ) × (point ≡ WritePoint.CallSource form sum)
+source_at-point (WritePoint.CallSource form sum) e = (form, sum, refl)
+source_at-point (WritePoint.StoreClosed AfterWrite.WakeWriter) e = absurd cc
+source_at-point (WritePoint.StoreClosed AfterWrite.Answer) e = absurd cc
+source_at-point (WritePoint.StoreClosed AfterWrite.Drop) e = absurd cc
+source_at-point (WritePoint.StoreClosed (AfterWrite.Round form sum)) e = absurd cc
+source_at-point point e = absurd cc
+
+pub is-source : (point : WritePoint) → write_action point ≡ Action.CallSource → (form : Form) × (sum : ℕ) × (point ≡ WritePoint.CallSource form sum)
+is-source = source_at-point
+
+-- what may be lent by the log, may be lent by the machine
+module _ (capacity : ℕ) (r : ReaderAt) (w : WriterAt) (s : Words) (k : Chance) (acts : List DestAct) (l : Chance) (sources : List SourceAct) (fits : Fits capacity r w s) where
+  pub end-below : w.end < capacity
+  end-below =
+      let below : offset_of capacity (r.start + (length s.sent - s.head)) < capacity = grind (arith, nat_tests, fits.counts.first, fits.counts.writes, fits.counts.writer_tail, fits.counts.writer_head) in
+      omega (arith, fits.counts.last)
+
+  pub may-lend : (most n : ℕ) → MayLend capacity most w n → Lendable most (pipe_at capacity r w s k acts l sources) n
+  may-lend most n may =
+      let long = length-unread capacity r w s in
+      let left : places_left (pipe_at capacity r w s k acts l sources) ≡ capacity - w.end = ap (λ m. capacity - m) (ap (λ m. offset_of capacity (r.start + m)) long ∙ sym fits.counts.last) in
+      let below = end-below in
+      record {
+        at_most = omega (arith, left, may.at_most);
+        at_least = λ is_open. let least = may.at_least is_open in omega arith;
+        some = λ is_open asked known. let least = may.at_least is_open in omega arith;
+        shut = may.shut;
+      }
+
+pub gives-within : (lent : ℕ) (from : Source) (bytes : List ℕ) → Gives lent from bytes → length bytes ≤ lent
+gives-within lent own bytes may = may
+gives-within lent nothing bytes may = let none : length bytes ≡ 0 = ap length may in omega arith
+gives-within lent (these all) bytes may = omega (arith, may.0)
+
+take-all : (xs : List ℕ) → take (length xs) xs ≡ xs
+take-all xs = ap (take (length xs)) (sym (append-nil xs)) ∙ take-append_seam xs []
+
+drop-all : (xs : List ℕ) → drop (length xs) xs ≡ []
+drop-all xs = ap (drop (length xs)) (sym (append-nil xs)) ∙ drop-append_seam xs []
+
+-- what is left of bytes that were handed over
+rest-is : (bytes : List ℕ) (acts : List SourceAct) → unspent bytes [] ≡ source_at (source_of bytes) acts
+rest-is [] acts = refl
+rest-is (byte ∷ bytes) acts = refl
+
+-- what a source that is lent as many places gives, and what is left of it
+module _ (lent : ℕ) (sources : List SourceAct) (bytes : List ℕ) where
+  pub given-is : (from : Source) → Gives lent from bytes → given lent (source_at from (SourceAct.Bytes bytes ∷ sources)) ≡ Ok (length bytes)
+  given-is own may = ap Ok (let all : min lent (length bytes) ≡ length bytes = omega arith in all)
+  given-is nothing may = ap Ok (sym (ap length may))
+  given-is (these all) may = ap Ok (sym may.0)
+
+  pub bytes-are : (from : Source) → Gives lent from bytes → take (length bytes) (bytes_of (source_at from (SourceAct.Bytes bytes ∷ sources))) ≡ bytes
+  bytes-are own may = take-all bytes
+  bytes-are nothing may = ap (λ (x : List ℕ). take (length x) []) may ∙ sym may
+  bytes-are (these all) may = sym may.1
+
+  pub left-is : (from : Source) → left_of_source (length bytes) (source_at from (SourceAct.Bytes bytes ∷ sources)) ≡ source_at (source_after (length bytes) from) sources
+  left-is own = ap (λ (x : List ℕ). unspent x sources) (drop-all bytes)
+  left-is nothing = refl
+  left-is (these all) = rest-is (drop (length bytes) all) sources
+
+pub gives-none : (lent : ℕ) (from : Source) → Gives lent from [] → given 0 (source_at from []) ≡ Ok 0
+gives-none lent own may = refl
+gives-none lent nothing may = refl
+gives-none lent (these all) may = ap Ok (let none : min 0 (length all) ≡ 0 = omega arith in none)
+
+-- if bytes are left that are not given, nothing was lent
+pub lends-none : (lent : ℕ) (from : Source) (b : ℕ) (bs : List ℕ) (rest : List SourceAct) → Gives lent from [] → source_at from [] ≡ SourceAct.Bytes (b ∷ bs) ∷ rest → lent ≡ 0
+lends-none lent own b bs rest may e = absurd cc
+lends-none lent nothing b bs rest may e = absurd cc
+lends-none lent (these all) b bs rest may e =
+    let same : length all ≡ length (b ∷ bs) = ap (λ (x : List SourceAct). length (bytes_of x)) e in
+    omega (arith, may.0)
+
+-- what a log says of a lend, in the machine's words
+
+taken-short : (n : ℕ) (xs ys : List ℕ) → ys ≡ take n xs → length ys ≤ length xs
+taken-short n xs ys e = let long : length ys ≡ min n (length xs) = ap length e ∙ length-take n xs in omega arith
+
+open-pipe : (shut : Bool) (n m : ℕ) → n ≤ unless shut m → (n ≤ m) × (shut ≡ true → n ≡ 0)
+open-pipe true n m within = (omega arith, λ x. omega arith)
+open-pipe false n m within = (within, λ x. absurd cc)
+
+open-least : (shut : Bool) (m : ℕ) → shut ≡ false → unless shut m ≡ m
+open-least true m e = absurd cc
+open-least false m e = refl
+
+pub lends-these : (capacity n : ℕ) (w : WriterAt) → n ≤ lendable capacity w → MayLend capacity n w n
+lends-these capacity n w within =
+    let parts = open-pipe w.is_shut n (contiguous capacity w) within in
+    record { at_most = omega (arith, parts.0); at_least = λ is_open. omega arith; shut = parts.1 }
+
+lends-most : (capacity n : ℕ) (w : WriterAt) → n ≤ most_lent capacity w → (w.is_shut ≡ false → min 4096 (most_lent capacity w) ≤ n) → MayLend capacity MOST_A_ROUND w n
+lends-most capacity n w within least =
+    let parts = open-pipe w.is_shut n (contiguous capacity w) (omega arith) in
+    record {
+      at_most = omega (arith, parts.0);
+      at_least = λ is_open. let same = open-least w.is_shut (contiguous capacity w) is_open in let bound = least is_open in omega arith;
+      shut = parts.1;
+    }
+
+module _ (capacity : ℕ) (w : WriterAt) (bytes : List ℕ) where
+  lends-for : (b : Bool) (all : List ℕ) → (length bytes == length all) ≡ b → MayGive (most_lent capacity w) (these all) bytes
+      → MayLend capacity MOST_A_ROUND w (if b then most_lent capacity w else length bytes)
+  lends-for true all e may = lends-most capacity (most_lent capacity w) w (omega arith) (λ x. omega arith)
+  lends-for false all e may =
+      let short : length bytes ≤ length all = taken-short (length bytes) all bytes may.0 in
+      let less : length bytes < length all = grind (arith, nat_tests) in
+      lends-most capacity (length bytes) w may.1 (λ x. may.2 less)
+
+  gives-for : (b : Bool) (all : List ℕ) → (length bytes == length all) ≡ b → MayGive (most_lent capacity w) (these all) bytes
+      → Gives (if b then most_lent capacity w else length bytes) (these all) bytes
+  gives-for true all e may = (let same : length bytes ≡ length all = grind (arith, nat_tests) in omega (arith, may.1), may.0)
+  gives-for false all e may = (let short = taken-short (length bytes) all bytes may.0 in omega arith, may.0)
+
+  pub lends-so : (from : Source) → MayGive (most_lent capacity w) from bytes → MayLend capacity MOST_A_ROUND w (lent_for (most_lent capacity w) from (length bytes))
+  lends-so own may = lends-most capacity (most_lent capacity w) w (omega arith) (λ x. omega arith)
+  lends-so nothing may = lends-most capacity (most_lent capacity w) w (omega arith) (λ x. omega arith)
+  lends-so (these all) may = lends-for (length bytes == length all) all refl may
+
+  pub gives-so : (from : Source) → MayGive (most_lent capacity w) from bytes → Gives (lent_for (most_lent capacity w) from (length bytes)) from bytes
+  gives-so own may = may
+  gives-so nothing may = may
+  gives-so (these all) may = gives-for (length bytes == length all) all refl may
