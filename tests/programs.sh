@@ -28,6 +28,7 @@ try 'a closed standard output' 10 4 'standard output' '$pump --tee copy < file >
 note 'a closed standard output, before a file is made' test ! -e copy
 try 'a closed standard input' 10 3 'standard input' '$pump -o none <&-'
 note 'a closed standard input, before a file is made' test ! -e none
+try 'a closed standard output by a name' 10 4 '^piper_pump: /dev/stdout: it is a folder, or' '$pump -i file -o /dev/stdout >&-'
 try 'a closed standard input by a name' 10 3 '^piper_pump: /dev/stdin: it is a folder, or' '$pump -i /dev/stdin -o none <&-'
 note 'a closed standard input by a name, before a file is made' test ! -e none
 try 'all closed, and files' 10 0 '' '$pump -i file -o moved <&- >&- 2>&-; status=$?; cmp moved file && exit $status'
@@ -48,6 +49,7 @@ note 'it keeps its bytes' cmp twice file
 timeout 10 bash -c '$pump -i short -o reports --sha256 2>reports'
 note 'an output that reports go into' test $? -eq 4
 mkfifo fifo
+try_silent 'files on their devices' 10 0 '$pump --fsync -i short -o synced && cmp short synced'
 try 'one FIFO that is written twice' 10 4 '^piper_pump: fifo: ' '$pump -i short -o none --tee fifo --tee fifo'
 try_silent 'a device as the input and the output' 10 0 '$pump -i /dev/null -o /dev/null --tee /dev/null'
 
@@ -125,6 +127,8 @@ if [ "$(id -u)" -eq 0 ]; then
     alone='setpriv --reuid=65533 --regid=65533 --clear-groups'
 fi
 export alone
+try 'progress on one thread' 20 0 'KiB' '(for i in 1 2 3 4 5; do lines 5000; sleep 0.4; done) | $alone prlimit --nproc=1 $pump --progress > /dev/null'
+note 'it is told more than once' test "$(wc -l < told)" -ge 4
 try_silent 'the level on one thread' 20 0 '(lines 400; sleep 1; lines 200; sleep 1) | $alone prlimit --nproc=1 $pump --capacity 1000 --start-at 50 | (sleep 0.5; timeout 0.3 head -c 1 > early; sleep 0.7; timeout 0.5 head -c 600 > late); test ! -s early && cmp late <(lines 400; lines 200)'
 cat > late.sh <<'LATE'
 # Stops a pump as it begins, and goes on later: it is to have its threads for the run and for the input.
@@ -164,7 +168,6 @@ try 'the sum of a file with an odd name' 20 0 '' '$pump --sha256 -o $'"'a\\\\b\\
 note 'it is told in one line, as sha256sum does' test "$(cat told)" = "\\$(sha256sum < short | cut -c1-64)  "'a\\b\nc\rd'
 try_silent 'the help' 10 0 '$pump --help'
 note 'the help tells what a signal costs' grep -q 'A signal that ends it loses what it holds' out
-note 'the help tells each status' test "$(grep -cE '^  (0|2|3|4|6|7|141) +' out)" -eq 7
 
 # A small stack, and a rate of single bytes.
 try 'a small stack' 20 0 "$(sha256sum < short | cut -c1-64)" 'ulimit -s 16; $pump --sha256 < short > /dev/null'
