@@ -23,10 +23,7 @@ def of_sides(*calls):
     return [f"piper_ring/proofs/ends/slots/side/Side/{call}" for call in calls]
 
 
-FINISHES = [
-    "piper_ring/proofs/ends/slots/reader/Side+ReadEnd+T/finish",
-    "piper_ring/proofs/ends/slots/writer/Side+WriteEnd+T/finish",
-]
+FINISHES = [f"piper_ring/proofs/ends/slots/{side}+T/finish" for side in ("reader/Side+ReadEnd", "writer/Side+WriteEnd")]
 
 # each lemma, the specs that have it, and the proofs that may use it
 SEALS = {

@@ -87,8 +87,8 @@ impl<T> Side<ReadEnd, T> {
         self.end.observe_stored(&self.slots.parts.heard);
         self.end.load_tail(&mut self.log);
         let none = self.end.knows_none();
-        self.log
-            .tell(Action::LoadIndex, Found::IndexLoaded { none });
+        let told = Found::IndexLoaded { none };
+        self.log.tell(Action::LoadIndex, told);
         none
     }
 
@@ -159,10 +159,8 @@ impl<T> Side<ReadEnd, T> {
             WRITER_SLOT,
         );
         let taken = parts.own.take_out(cells.get(&leaving.lease), found);
-        log.tell(
-            Action::Take(table::Side::Writer),
-            Found::Waker(taken.is_some()),
-        );
+        let told = Found::Waker(taken.is_some());
+        log.tell(Action::Take(table::Side::Writer), told);
         let left = leaving.leave(Some(&cells));
         let mark = LastReadMark { consumed, closed };
         let side = FinishedReader { mark, slots, log };

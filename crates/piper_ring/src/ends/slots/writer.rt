@@ -95,8 +95,8 @@ impl<T> Side<WriteEnd, T> {
         self.end
             .load_head_knowing(&self.slots.parts.heard.count, &mut self.log);
         let none = self.end.knows_none();
-        self.log
-            .tell(Action::LoadIndex, Found::IndexLoaded { none });
+        let told = Found::IndexLoaded { none };
+        self.log.tell(Action::LoadIndex, told);
         none
     }
 
@@ -219,10 +219,8 @@ impl<T> Side<WriteEnd, T> {
             READER_SLOT,
         );
         let taken = parts.own.take_out(cells.get(&leaving.lease), found);
-        log.tell(
-            Action::Take(table::Side::Reader),
-            Found::Waker(taken.is_some()),
-        );
+        let told = Found::Waker(taken.is_some());
+        log.tell(Action::Take(table::Side::Reader), told);
         let left = leaving.leave(Some(&cells));
         let side = FinishedWriter { mark, slots, log };
         Finished { side, taken, left }

@@ -146,8 +146,8 @@ impl<E: SlotEnd, T> Side<E, T> {
             self.old.slots.waits self.old.slots.tickets result } */
     {
         let waker = self.take_back();
-        self.log
-            .tell(Action::Take(side_of(E::READS)), Found::Nothing);
+        let action = Action::Take(side_of(E::READS));
+        self.log.tell(action, Found::Nothing);
         waker
     }
 
@@ -170,10 +170,8 @@ impl<E: SlotEnd, T> Side<E, T> {
             return None;
         }
         let waker = self.take_back();
-        self.log.tell(
-            Action::Take(side_of(E::READS)),
-            Found::Waker(waker.is_some()),
-        );
+        let told = Found::Waker(waker.is_some());
+        self.log.tell(Action::Take(side_of(E::READS)), told);
         waker
     }
 
@@ -301,10 +299,8 @@ impl<E: SlotEnd, T> Side<E, T> {
             slot,
         );
         let waker = parts.own.take_out(self.cells.get(self.end.lease()), found);
-        self.log.tell(
-            Action::Take(side_of(!E::READS)),
-            Found::Waker(waker.is_some()),
-        );
+        let told = Found::Waker(waker.is_some());
+        self.log.tell(Action::Take(side_of(!E::READS)), told);
         waker
     }
 
