@@ -181,7 +181,7 @@ fn first_seed() -> u64 {
     RandomState::new().hash_one(0)
 }
 
-/// There is no source of random numbers without `std`.
+/// Without `std` the package has no source of random numbers.
 #[cfg(not(feature = "std"))]
 fn first_seed() -> u64 {
     0x9e37_79b9_7f4a_7c15
