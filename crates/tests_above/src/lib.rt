@@ -12,15 +12,11 @@ mod duplex;
 #[cfg(test)]
 mod flushed;
 #[cfg(test)]
-mod frames;
-#[cfg(test)]
 mod futures_and_streams;
 #[cfg(test)]
 mod going_on;
 #[cfg(test)]
 mod halting;
-#[cfg(test)]
-mod lines;
 #[cfg(test)]
 mod over_tokio;
 #[cfg(test)]

@@ -3,5 +3,3 @@ mod codecs;
 mod copies;
 mod ends;
 mod http_over_duplex;
-mod pattern;
-mod pieces;

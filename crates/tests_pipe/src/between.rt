@@ -1,11 +1,8 @@
 //! What an end of a copy does, or sees, between two of the copy's steps.
-ghost use Rattle.std.specs.Prelude.{◌<◌, ◌*◌, ◌^◌};
-
 use crate::compare::same_of as same;
 use crate::ends::byte_at;
-use crate::pair::{Moved, copied, granted, pipe_at_last, task_at_last};
+use crate::polls::{Moved, copied, granted, owned_at_last, task_at_last};
 use futures::test::MockTask;
-use piper::{OwnedReader, OwnedWriter};
 use std::alloc::AllocGlobal;
 use std::io;
 use std::io::{Read, Write};
@@ -103,14 +100,6 @@ impl Between for Asks<'_> {
             self.woken_at = Some(call);
         }
     }
-}
-
-/// Both sides of a pipe, owned.
-fn owned_at_last(rt: &(impl Abort + AllocGlobal), capacity: usize) -> (OwnedReader, OwnedWriter)
-    requires { (0 < capacity) × (2 * capacity < 2 ^ 64) }
-{
-    let (reader, writer) = pipe_at_last(rt, capacity);
-    (OwnedReader::new(reader), OwnedWriter::new(writer))
 }
 
 /// A round of a fill checks for the end after its source was called: so the source isn't called

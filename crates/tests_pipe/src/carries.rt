@@ -2,7 +2,7 @@
 ghost use Rattle.std.specs.Prelude.{◌≡◌, ◌≤◌, length, take, drop, min, true, false};
 
 use crate::compare::same_of as same;
-use crate::pair::{Moved, copied, task_at_last};
+use crate::polls::{Moved, copied, task_at_last};
 use futures::task::{Context, Poll};
 use piper::PipeError;
 use piper::io::{AsyncBufRead, AsyncWrite, Copied, poll_copy};

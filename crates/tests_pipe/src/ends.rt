@@ -1,9 +1,7 @@
 //! Readers and writers that move little, fail or stop at a chosen call, and record how they were
 //! called.
-ghost use Rattle.std.specs.Prelude.{◌≡◌, ◌-◌, ◌^◌, ◌≤◌, length, IfOk, ⊤};
-ghost use Rattle.piper.specs.Like.{Counts};
+ghost use Rattle.std.specs.Prelude.{◌≤◌, length, IfOk};
 
-use piper::like::{ReadLike, WriteLike};
 use std::io;
 use std::io::{ErrorKind, Read, Write};
 
@@ -23,7 +21,6 @@ pub(crate) struct End {
     lens: [usize; 8],
     moved: usize,
     is_in_order: bool,
-    failures: u64,
 }
 
 impl End {
@@ -37,7 +34,6 @@ impl End {
             lens: [0; 8],
             moved: 0,
             is_in_order: true,
-            failures: 0,
         }
     }
 
@@ -62,8 +58,7 @@ impl End {
 
     /// Notes a call on a slice of this length, and reports how many bytes of it are to be moved.
     fn called(&mut self, len: usize) -> Result<usize, ErrorKind>
-        ensures count { IfOk result (λ n. n ≤ len) }
-        ensures failures { Counts result self.old.failures self.new.failures }
+        ensures { IfOk result (λ n. n ≤ len) }
     {
         if self.calls < 8 {
             self.lens[self.calls] = len;
@@ -72,17 +67,15 @@ impl End {
         if self.calls != self.last {
             return Ok(self.most.min(len));
         }
-        let Some(kind) = self.error else {
-            return Ok(0);
-        };
-        self.failures = self.failures.wrapping_add(1);
-        Err(kind)
+        match self.error {
+            Some(kind) => Err(kind),
+            None => Ok(0),
+        }
     }
 
     /// Gives the next bytes.
     fn give(&mut self, dest: &mut [u8]) -> Result<usize, ErrorKind>
-        ensures count { IfOk result (λ n. n ≤ length dest.new) }
-        ensures failures { Counts result self.old.failures self.new.failures }
+        ensures { IfOk result (λ n. n ≤ length dest.new) }
     {
         let n = self.called(dest.len())?;
         for (i, place) in dest[..n].iter_mut().enumerate() {
@@ -94,8 +87,7 @@ impl End {
 
     /// Takes bytes, and holds each against the one that is due.
     fn take(&mut self, source: &[u8]) -> Result<usize, ErrorKind>
-        ensures count { IfOk result (λ n. n ≤ length source.now) }
-        ensures failures { Counts result self.old.failures self.new.failures }
+        ensures { IfOk result (λ n. n ≤ length source.now) }
     {
         let n = self.called(source.len())?;
         let mut is_in_order = self.is_in_order;
@@ -121,58 +113,5 @@ impl Write for End {
 
     fn flush(&mut self) -> io::Result<()> {
         Ok(())
-    }
-}
-
-// Nothing is said of the bytes: the tests look at what it noted of them.
-impl ReadLike for End {
-    type Error = ErrorKind;
-
-    ghost gives = { λ _ _ _. ⊤ };
-
-    ghost is_dry = { λ _. ⊤ };
-
-    ghost fails = { λ _ _ _. ⊤ };
-
-    ghost failures = { λ end. end.failures };
-
-    ghost wants = { λ _. 2 ^ 64 - 1 };
-
-    ghost gives_nothing = { λ _. tt };
-
-    ghost gives_in_order = { λ _ _ _ _ _ _ _. tt };
-
-    fn read(&mut self, dest: &mut [u8]) -> Result<usize, ErrorKind> {
-        self.give(dest)
-    }
-
-    fn asks(&self) -> usize {
-        usize::MAX
-    }
-}
-
-impl WriteLike for End {
-    type Error = ErrorKind;
-
-    ghost takes = { λ _ _ _. ⊤ };
-
-    ghost is_full = { λ _. ⊤ };
-
-    ghost fails = { λ _ _ _. ⊤ };
-
-    ghost failures = { λ end. end.failures };
-
-    ghost wants = { λ _. 2 ^ 64 - 1 };
-
-    ghost takes_nothing = { λ _. tt };
-
-    ghost takes_in_order = { λ _ _ _ _ _ _ _. tt };
-
-    fn write(&mut self, source: &[u8]) -> Result<usize, ErrorKind> {
-        self.take(source)
-    }
-
-    fn asks(&self) -> usize {
-        usize::MAX
     }
 }

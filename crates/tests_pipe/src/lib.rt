@@ -1,5 +1,5 @@
-//! Tests of the pipe and of the ring below it, and the examples. Tests are crates of their own, so that
-//! what they test is proved once.
+//! Tests of the pipe, of the ring below it and of the machine, and the examples. Tests are crates of
+//! their own, so that what they test is proved once.
 #![tactic(auto)]
 
 #[cfg(test)]
@@ -15,18 +15,14 @@ mod ends;
 #[cfg(test)]
 mod examples;
 #[cfg(test)]
+mod machine;
+#[cfg(test)]
 mod marks;
 #[cfg(test)]
-mod meeting;
+mod polls;
 #[cfg(test)]
-mod owners;
-#[cfg(test)]
-mod pair;
+mod printed;
 #[cfg(test)]
 mod racing;
 #[cfg(test)]
 mod ring;
-#[cfg(test)]
-mod upstream;
-#[cfg(test)]
-mod waking;

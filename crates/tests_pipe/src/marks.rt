@@ -2,30 +2,10 @@
 ghost use Rattle.piper.specs.Handles.{ArePair};
 
 use crate::compare::same_of as same;
-use crate::pair::{pipe_at_last, task_at_last};
+use crate::polls::{pipe_at_last, task_at_last};
 use futures::task::Context;
 use piper::{OwnedReader, OwnedWriter};
 use std::process::Abort;
-
-#[test]
-fn a_writer_that_observes_the_last_mark_of_a_reader_sees_the_end(rt: HostRuntime) {
-    let (reader, mut writer) = pipe_at_last(&rt, 8);
-    let last = reader.drop();
-    writer.observe_last(&last.mark);
-    same(&rt, &"closed", writer.is_closed(), true);
-    same(&rt, &"taken", writer.try_fill(b"ab"), 0);
-    writer.drop();
-}
-
-#[test]
-fn a_reader_that_observes_the_last_mark_of_a_writer_knows_how_many_come(rt: HostRuntime) {
-    let (mut reader, mut writer) = pipe_at_last(&rt, 8);
-    same(&rt, &"taken", writer.try_fill(b"abc"), 3);
-    let last = writer.drop();
-    reader.observe(&last.mark);
-    same(&rt, &"to come", reader.len(), 3);
-    reader.drop();
-}
 
 /// A reader that waits, and then meets what is left of its writer.
 fn reader_is_taken(rt: &impl Abort, cx: &mut Context<'_>, reader: OwnedReader, writer: OwnedWriter)

@@ -3,7 +3,7 @@
 //! toolchain both wake its task: one that was left pending and not woken tells of a waker that leaked,
 //! or that nobody found.
 use crate::compare::same_of as same;
-use crate::pair::{pipe_at_last, task_at_last};
+use crate::polls::{pipe_at_last, task_at_last};
 use futures::task::{Context, Poll};
 use futures::test::MockTask;
 use piper::io::{AsyncBufRead, AsyncRead, AsyncWrite};

@@ -8,11 +8,10 @@ use futures::StreamExt;
 use futures::executor::block_on;
 use futures::task::Poll;
 use futures::test::MockTask;
-use piper::io::Copied;
 use piper::{OwnedReader, OwnedWriter, PipeError, owned_pipe};
 use piper_futures::{
-    FrameSink, FrameStream, LineSink, LineStream, WriteSink, close, copy, drain_into, fill_from,
-    read_to_end, read_until, write_all,
+    FrameSink, FrameStream, LineSink, LineStream, WriteSink, close, drain_into, read_to_end,
+    write_all,
 };
 use piper_lines::{ByteOrder, FrameAnswer, FrameHeader, Frames, into_line_text};
 use std::alloc::AllocGlobal;
@@ -42,34 +41,6 @@ fn a_close_is_the_end_of_what_was_written(rt: HostRuntime) {
     let seen = (count, writer.is_closed(), reader.len());
     same(&rt, seen, (11, true, 0));
     same_bytes(&rt, &bytes, b"hello world");
-}
-
-/// Copies what is left in the one pipe to the other: how it ends, and how much is left.
-fn copies<H>(rt: &H, from: OwnedReader, to: OwnedWriter, want: (Copied, usize))
-where
-    H: Abort + Wait + RandomSource + AllocGlobal,
-{
-    let (from, _to, why) = ends(rt, copy(from, to));
-    same(rt, (why, from.len()), want);
-}
-
-#[test]
-fn a_copy_ends_with_the_reader(rt: HostRuntime) {
-    let (from, writer) = holding(&rt, 8, b"abc");
-    let (mut last, to) = holding(&rt, 8, b"");
-    drop(writer);
-    copies(&rt, from, to, (Copied::ToTheEnd, 0));
-    let mut place = [0; 8];
-    let came = last.try_drain(&mut place);
-    same_bytes(&rt, &place[..came], b"abc");
-}
-
-#[test]
-fn a_copy_ends_with_the_other_pipe(rt: HostRuntime) {
-    let (from, _writer) = holding(&rt, 8, b"d");
-    let (last, to) = holding(&rt, 8, b"");
-    drop(last);
-    copies(&rt, from, to, (Copied::UntilClosed, 1));
 }
 
 #[test]
@@ -173,27 +144,6 @@ fn a_failure_leaves_what_was_not_moved(rt: HostRuntime) {
     let (_reader, rest) = ends(&rt, read_to_end(reader, Vec::new(rt.alloc())));
     same_bytes(&rt, &place, b"abc");
     same_bytes(&rt, &rest, b"de");
-}
-
-/// Fills a pipe from this source: how it ends, and what is left of the source.
-fn fills<H>(rt: &H, writer: OwnedWriter, want: (Copied, usize)) -> OwnedWriter
-where
-    H: Abort + Wait + RandomSource + AllocGlobal,
-{
-    let source = b"one, two, three".as_slice();
-    let (writer, rest, why) = ends(rt, fill_from(writer, source));
-    same(rt, (why, rest.len()), want);
-    writer
-}
-
-#[test]
-fn a_fill_ends_with_its_source_or_with_the_pipe(rt: HostRuntime) {
-    let (reader, writer) = holding(&rt, 64, b"");
-    let writer = fills(&rt, writer, (Copied::ToTheEnd, 0));
-    let (reader, bytes) = ends(&rt, read_until(reader, b',', Vec::new(rt.alloc())));
-    same_bytes(&rt, &bytes, b"one,");
-    drop(reader);
-    fills(&rt, writer, (Copied::UntilClosed, 15));
 }
 
 #[test]

@@ -2,7 +2,6 @@
 ghost use Rattle.std.specs.Prelude.{◌<◌, ◌*◌, ◌^◌};
 
 use crate::compare::{confirm, same_bytes};
-use crate::over_tokio::pattern::{Compared, Made};
 use futures::executor::block_on;
 use piper::{Reader, pipe};
 use piper_tokio::{CompatReader, CompatWriter};
@@ -58,13 +57,6 @@ fn copies_on_both_sides_move_all_bytes_in_order(rt: HostRuntime) {
     let (count, output) = copied(&rt, 7, TEXT, Vec::new(rt.alloc()));
     same_bytes(&rt, &output, TEXT);
     confirm(&rt, count == TEXT.len() as u64);
-}
-
-#[test]
-fn copies_on_both_sides_move_ten_million_bytes_in_order(rt: HostRuntime) {
-    let (count, output) = copied(&rt, 65_536, Made::up_to(10_000_000), Compared::new());
-    confirm(&rt, count == 10_000_000);
-    confirm(&rt, output.counts() == (10_000_000, 0));
 }
 
 /// Reads a line, and gives the reader back.

@@ -1,7 +1,7 @@
 //! An end of a duplex stream for `tokio`, dropped while two tasks wait at the other end.
 use crate::compare::confirm;
+use crate::polls::{new_task, next_woken};
 use futures::task::{Doorbell, Queue};
-use futures::test::MockTask;
 use piper_duplex::duplex;
 use piper_tokio::CompatEnd;
 use std::alloc::AllocGlobal;
@@ -10,13 +10,22 @@ use std::random::RandomSource;
 use std::sync::Wait;
 use tokio::io::{AsyncRead, AsyncWrite};
 
+/// Fills the pipe that this end writes into.
+fn fill<H>(rt: &H, end: &mut CompatEnd)
+where
+    H: Abort + RandomSource + AllocGlobal,
+{
+    let task = new_task(rt);
+    let written = task.enter(|cx| end.poll_write(cx, b"full"));
+    confirm(rt, written.is_ready());
+}
+
 /// A queue of two tasks: task 0 waits to read from this end, and task 1 to write to it.
 fn two_waiting<H>(rt: &H, end: &mut CompatEnd) -> Queue
 where
     H: Abort + Wait + RandomSource + AllocGlobal,
 {
-    let task = MockTask::new(rt).expect(rt, "memory");
-    confirm(rt, task.enter(|cx| end.poll_write(cx, b"full")).is_ready());
+    fill(rt, end);
     let queue = Queue::new(rt, Doorbell::parking()).expect(rt, "memory");
     queue.add().expect(rt, "memory").schedule();
     queue.add().expect(rt, "memory").schedule();
@@ -29,14 +38,6 @@ where
     cx.end(&written);
     confirm(rt, read.is_pending() && written.is_pending());
     queue
-}
-
-/// The task that is woken next.
-fn next_woken(rt: &(impl Abort + Wait), queue: &Queue) -> usize {
-    let cx = queue.next(rt).expect(rt, "a task");
-    let task = cx.task();
-    cx.cancel();
-    task
 }
 
 #[test]

@@ -34,13 +34,6 @@ pub(crate) fn send(writer: &mut Logged<WriteEnd>, bytes: &[u8]) -> usize
     n
 }
 
-/// Publishes what lies in all places that are lent in one piece. Returns how many.
-pub(crate) fn publish_lent(writer: &mut Logged<WriteEnd>, most: usize) -> usize {
-    let n = writer.end.write_buf(most).len();
-    writer.end.store_tail(n, &mut writer.log);
-    n
-}
-
 /// Looks for bytes where none is known.
 pub(crate) fn look(reader: &mut Logged<ReadEnd>) {
     reader.end.load_tail_if_empty(&mut reader.log);

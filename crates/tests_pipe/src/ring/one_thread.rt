@@ -1,8 +1,8 @@
-//! With both ends on one thread: that bytes come through, and that the second end frees the memory.
+//! With both ends on one thread.
 ghost use Rattle.std.specs.Prelude.{◌<◌, ◌≤◌};
 
 use crate::compare::same_of as same;
-use crate::ring::acts::{look, publish_lent, receive_due, ring_of, send, send_due};
+use crate::ring::acts::{receive_due, ring_of, send_due};
 use std::alloc::AllocGlobal;
 use std::process::Abort;
 
@@ -30,38 +30,5 @@ fn bytes_go_round_the_ring(rt: HostRuntime) {
         for len in 0..=capacity + 1 {
             goes_round(&rt, capacity, len);
         }
-    }
-}
-
-#[test]
-fn lends_grow_with_the_places_that_are_set(rt: HostRuntime) {
-    let (_reader, mut writer) = ring_of(&rt, 200_000);
-    for lent in [4_096, 12_288, 36_864, 110_592, 36_160, 0] {
-        same(&rt, &"lent", publish_lent(&mut writer, 200_000), lent);
-    }
-}
-
-/// The ends leave one after the other, with so many bytes unread. The one that is left sees the
-/// ring closed.
-fn leave_in_turn(rt: &(impl Abort + AllocGlobal), left: usize, is_reader_first: bool) {
-    let (mut reader, mut writer) = ring_of(rt, 3);
-    for _ in 0..2 {
-        send(&mut writer, &[7; 3][..left.min(3)]);
-        look(&mut reader);
-    }
-    if is_reader_first {
-        drop(reader);
-        same(rt, &"closed by the reader", writer.end.is_closed(), true);
-    } else {
-        drop(writer);
-        same(rt, &"closed by the writer", reader.end.is_closed(), true);
-    }
-}
-
-#[test]
-fn the_second_end_frees_the_memory(rt: HostRuntime) {
-    for left in 0..4 {
-        leave_in_turn(&rt, left, true);
-        leave_in_turn(&rt, left, false);
     }
 }
