@@ -7,9 +7,10 @@
  *     piper_reader_drop(&reader);
  *     piper_waiter_free(w);
  *
- * A waiter belongs to one side. Its memory is counted: a pipe that has its waker keeps it. A time
- * limit is a point of CLOCK_MONOTONIC, or NULL for none. macOS and Windows have no condition variable
- * with this clock: there a program brings a waker of its own.
+ * `piper_writer_write_wait` does the same for a writer. A waiter belongs to one side. Its memory is
+ * counted: a pipe that has its waker keeps it. A time limit is a point of CLOCK_MONOTONIC, or NULL for
+ * none. macOS and Windows have no condition variable with this clock: there a program brings a waker of
+ * its own.
  */
 #ifndef PIPER_WAIT_H
 #define PIPER_WAIT_H

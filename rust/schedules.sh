@@ -47,7 +47,7 @@ fault() { # as `finds`
 
 holds "${1:-10000} drawn schedules" loses_nothing "$@"
 grep -o '[0-9]* schedules of at most two switches' "$room/whole.said"
-fault 'a side that registered does not look again' proved/piper/looks.rs 'Ok(self.side.look_again(purpose))' 'Ok(Look::NotReady)'
+fault 'a side that registered does not look again' proved/piper/looks.rs 'Ok(side.look_again(purpose))' 'Ok(Look::NotReady)'
 fault 'nobody is woken after a publish' proved/piper/calls.rs 'self.side.store_tail(n);
         wake_other(&mut self.side);' 'self.side.store_tail(n);'
 fault 'a swap is two accesses' shim.rs 'unsafe { word(at) }.swap(value as _, order) as u64' \

@@ -1,6 +1,7 @@
 #!/usr/bin/env python3
-"""Tries what README.md, docs/USING.md, docs/PROVING.md, CONTRIBUTING.md and the examples of docs/api
-have their readers type or read, and the links of every page; and that the sources have each name which a page says.
+"""Tries what README.md, CONTRIBUTING.md, the pages of docs and the examples of docs/api have their readers
+type or read, and the links of every page; that the sources have each name which a page says; and that the
+lines of use in docs/api are of a tested crate, and use what they stand below.
 
     tests/pages.py [WORD]
 
@@ -11,8 +12,8 @@ Each block of code on these pages is fenced, and its first word says what become
   repository.
 - `rust`, `c`, `toml`, `antt`: a file, whose path is the comment in the first line. Below `~` it is a whole
   file, and is written before the commands after it run, with the path in place of
-  `THIS REPOSITORY`; else it is a part of that file of the repository, word for word.
-- `text`: not run, since it takes an hour, or root.
+  `THIS REPOSITORY`; else it is a part of that file of the repository, word for word, which is always compared.
+- `text`: not run, since it takes an hour, or root. `mermaid`: a picture.
 
 Of docs/api only the sections that begin with "Example" are tried: `tools/write_api.py --check` compares
 the rest with the sources.
@@ -35,21 +36,30 @@ from functools import cache
 from pathlib import Path
 
 TOP = Path(__file__).resolve().parent.parent
+sys.dont_write_bytecode = True
+sys.path.insert(0, str(TOP / "tools"))
+from api import examples  # noqa: E402
+
 GUIDE = "docs/USING.md"
 EXAMPLES = [f"docs/api/piper_{name}.md" for name in ("futures", "duplex")]
-PAGES = ["README.md", GUIDE, "docs/PROVING.md", "CONTRIBUTING.md", *EXAMPLES]
+TYPED = ["README.md", GUIDE, "docs/PROVING.md", "CONTRIBUTING.md", *EXAMPLES]
+# Other pages may have pictures that are indented, but no code.
+CODE = r"[{};=≡→]|\b(fn|pub|ensures|requires)\b"
+DOCS = sorted(f"docs/{path.name}" for path in (TOP / "docs").glob("*.md"))
+PAGES = ["README.md", *DOCS, "CONTRIBUTING.md", *EXAMPLES]
 SETUP = "A repository of your own"
 FILES = ("rust", "c", "toml", "antt")
-WORDS = FILES + ("console", "text")
+WORDS = FILES + ("console", "text", "mermaid")
 SECONDS = 900
 # Names that pages say of others: of 0.2.5, of rustc, of Rust's libraries and of the toolchain.
 THEIRS = set("AtomicWaker drain_inner fill_inner maybe_yield poll_inner zeroed_until".split()) | set(
-    "LibcRuntime LocalPool Net OwnedFd __reserved rust_eh_personality".split()
+    "FROM_RUST LibcRuntime LocalPool NOT_COVERED Net OwnedFd __reserved rust_eh_personality type_inv".split()
 )
 # Folders of what was built.
 BUILT = {"out", "build", "target", "__pycache__"}
 # It has names that are gone.
 PAST = "CHANGELOG.md"
+OTHERS = ["README.md", "CONTRIBUTING.md", "SECURITY.md", "rust/README.md", "examples/README.md", PAST]
 SOURCES = Path(os.environ.get("CARGO_SOURCES", "/usr/share/cargo/registry"))
 CARGO = f"""[source.crates-io]
 replace-with = "here"
@@ -97,24 +107,36 @@ def read_page(page):
         elif line.startswith("## "):
             sections.append(Section(page, line[3:]))
             is_tried = page not in EXAMPLES or line.startswith("## Example")
-        elif line.startswith("    ") and not above:
+        elif line.startswith("    ") and (not above if page in TYPED else re.search(CODE, line)):
             wrong.append(f"{page}:{number}: an indented block, which is not tried")
         above = line
     return sections, wrong
 
 
+def file_of(block):
+    """The path that the first line of a block says, and the text below it."""
+    name = re.sub(r"^(//|#|--|/\*) | \*/$", "", block.lines[0] if block.lines else "")
+    return name, "\n".join(block.lines[1:]).strip("\n") + "\n"
+
+
 def place_file(block, home):
-    """Writes a file below `~`, or compares a part of a file of the repository."""
-    name = re.sub(r"^(//|#|--|/\*) | \*/$", "", block.lines[0])
-    text = "\n".join(block.lines[1:]).strip("\n").replace("THIS REPOSITORY", str(TOP)) + "\n"
+    """Writes a file below `~`."""
+    name, text = file_of(block)
     if name.startswith("~/"):
         path = home / name[2:]
         path.parent.mkdir(parents=True, exist_ok=True)
-        path.write_text(text)
-    elif not (TOP / name).is_file():
-        raise Failed(f"{block.where}: there is no file {name}")
+        path.write_text(text.replace("THIS REPOSITORY", str(TOP)))
+
+
+def wrong_quotes(block):
+    """What is wrong with a part of a file of the repository."""
+    name, text = file_of(block)
+    if name.startswith("~/"):
+        return
+    if not (TOP / name).is_file():
+        yield f"{block.where}: there is no file {name}"
     elif "\n" + text not in "\n" + (TOP / name).read_text():
-        raise Failed(f"{block.where}: {name} does not have these lines")
+        yield f"{block.where}: {name} does not have these lines"
 
 
 def turns(block):
@@ -299,12 +321,49 @@ def names_of_sources():
 
 
 def wrong_names(page):
-    """The names in backticks, with a capital or an underscore, that the sources don't have. Capitals alone stand for something, and
-    what begins or ends with an underscore is a part of a name."""
-    text = re.sub(r"^```.*?^```", "", page.read_text(), flags=re.M | re.S)
-    for name in sorted(set(re.findall(r"`([A-Za-z]\w*[A-Za-z0-9]|_\w+_\w+)`", text)) - THEIRS):
-        if re.search(r"[A-Z_]", name) and not re.fullmatch("[A-Z]+", name) and name not in names_of_sources():
+    """The names in backticks or in a block of text, with a capital or an underscore, that neither the sources nor a
+    program of the page has. Capitals alone stand for something. What begins or ends with an underscore, or stands
+    beside `..`, is a part of a name."""
+    text = page.read_text()
+    programs = re.findall(r"^```(?:rust|c|toml)\n.*?^```", text, re.M | re.S)
+    said = re.findall(r"^```text\n(.*?)^```", text, re.M | re.S)
+    spans = re.findall(r"``(.+?)``|`([^`\n]+)`", re.sub(r"^```.*?^```", "", text, flags=re.M | re.S))
+    words = " ".join([*said, *map("".join, spans)])
+    names = set(re.findall(r"(?<![\w'])(?<!\.\.)(?:[A-Za-z]\w*[A-Za-z0-9]|_\w+_\w+)(?!\w|\.\.)", words))
+    known = THEIRS | names_of_sources() | set(re.findall(r"\w+", "".join(programs)))
+    for name in sorted(names - known):
+        if re.search(r"[A-Z_]", name) and not re.fullmatch("[A-Z0-9]+", name):
             yield f"{page.relative_to(TOP)}: {name}: the sources don't have this name"
+
+
+def is_used(page, title, head, trait, path, first, last):
+    """Whether these lines of a file use the call or the type of a heading; with a trait, a call of anything that has it."""
+    owner, name = re.fullmatch(r"(?:(\w+)(?:: \w+)?::)?(\w+)", title).groups()
+    trait = owner if re.search(rf"^pub trait {owner}\b", page, re.M) else trait
+    is_static = owner and not re.search(r"[(\s&]self\b", head)
+    ways = [(owner, name, trait, is_static)]
+    ways += [(owner, name, r"\w+Ext")] if not owner and name.islower() else []
+    for _called, start, lines in examples.functions(path):
+        if start <= first < start + len(lines):
+            found = [start + line for way in ways for line in examples.uses(path, lines, *way)]
+            return any(first <= line < last for line in found)
+    return False
+
+
+def wrong_uses(page):
+    """The lines of use of the reference that their file lacks, or that don't use what they stand below."""
+    text = page.read_text()
+    shown = r"^Use(?:, as of any `(\w+)`)?, from \[a tested crate\]\(\.\./\.\./(\S+)#L(\d+)\):\n\n```rust\n(.*?)^```"
+    for use in re.finditer(shown, text, re.M | re.S):
+        path, first, lines = use[2], int(use[3]) - 1, use[4].splitlines()
+        title = re.findall(r"^###+ `(.*)`$", text[:use.start()], re.M)[-1]
+        head = text[text.rindex(f"# `{title}`", 0, use.start()) : use.start()]
+        there = (TOP / path).read_text().splitlines()[first : first + len(lines)]
+        where = f"{page.relative_to(TOP)}: {title}: the lines of {path}#L{first + 1}"
+        if lines not in (there, [line[4:] for line in there]):
+            yield f"{where} are others"
+        elif not is_used(text, title, head, use[1], path, first, first + len(lines)):
+            yield f"{where} don't use it"
 
 
 def main():
@@ -315,11 +374,13 @@ def main():
         wrong += layout
         blocks += [block for section in found for block in section.blocks]
         named = [s for s in found if word in s.heading.lower() or s.heading == SETUP]
-        sections += [s for s in named if any(block.word != "text" for block in s.blocks)]
-    others = [TOP / name for name in ("README.md", "CONTRIBUTING.md", "SECURITY.md", "rust/README.md", "examples/README.md", PAST)]
+        sections += [s for s in named if s.commands()]
+    wrong += [said for block in blocks if block.word in FILES for said in wrong_quotes(block)]
+    others = [TOP / name for name in OTHERS]
     pages = others + sorted((TOP / "docs").glob("*.md")) + sorted((TOP / "docs/api").glob("*.md"))
     wrong += [link for page in pages for link in wrong_links(page)]
     wrong += [name for page in pages if page.name != PAST for name in wrong_names(page)]
+    wrong += [use for page in pages for use in wrong_uses(page)]
     with tempfile.TemporaryDirectory() as scratch:
         went = try_sections(sections, Path(scratch))
     for said in wrong:

@@ -4,7 +4,7 @@ of docs.rs, and an index of all names. What a call does, and its labels (as `Ret
 comment above it; lines of use are from crates that are tested; tools/api has the words of a page, what
 holds of all its calls, and which page has what (layout.py). It also sets the line of each clause, and
 the page of each call, that README.md and docs link. `tools/write_api.py --check` writes nothing, and
-fails if a page differs.
+fails if a page differs. `--without-use` lists what no test of those that are looked at uses.
 """
 import difflib
 import re
@@ -88,7 +88,7 @@ def impl_call(page, name, trait, method, is_foreign):
         there = "" if there == page.name else there
         where = f"{there}#{anchor(f'{trait}::{method.name}')}"
         doc.paragraphs = [f"As [`{trait}::{method.name}`]({where}): {Doc(above.doc).summary()}"]
-    page.call(method, f"{name}: {trait}::{method.name}", doc=doc)
+    page.call(method, f"{name}: {trait}::{method.name}", doc=doc, trait=None if is_foreign else trait)
 
 
 def a_type(page, crate, name, path):
@@ -126,7 +126,7 @@ def a_trait(page, crate, name, path):
     page.lines += ["", f"{listed(others)} has it as well."] if others else []
     page.folded(ghosts(item), item.uses, (), "In clauses: what a type with this trait says of itself")
     for method in inner(item):
-        page.call(method, f"{name}::{method.name}")
+        page.call(method, f"{name}::{method.name}", trait=name)
 
 
 def own_calls(crate, name):
@@ -255,7 +255,9 @@ def crate_page(crate):
 
 def start_page(pages):
     """The first page."""
-    lines = ["# API reference", "", HEADER, "", "## The pages", "",
+    lines = ["# API reference", "", HEADER, "",
+             "These are the crates for Rattle. Programs in Rust have the calls of [0.2.5](../USING.md#from-rust), "
+             "and those in C the calls of [piper.h](../../c/piper.h).", "", "## The pages", "",
              "- [Index by name](names.md): every entry of all pages."]
     for crate, page in zip(CRATES, pages):
         first = Doc(about(crate)).summary()
@@ -286,9 +288,12 @@ def aimed(text, file, pages):
     return re.sub(r"\]\(((?:docs/)?(?:api/)?)([\w-]+\.md)?#([\w-]+)\)", one, text)
 
 
-def written():
+def crate_pages():
+    return [piper_page() if crate == "piper" else crate_page(crate) for crate in CRATES]
+
+
+def written(pages):
     """Each page by its name."""
-    pages = [piper_page() if crate == "piper" else crate_page(crate) for crate in CRATES]
     found = {name: text for page in [*pages, scripts_page()] for name, text in page.texts().items()}
     found |= {"README.md": start_page(pages), "names.md": index(pages, HEADER)}
     reference = {f"docs/api/{name}": aimed(text, name, pages) for name, text in found.items()}
@@ -307,14 +312,19 @@ def differing(name, text):
 
 
 def main():
-    if sys.argv[1:] not in ([], ["--check"]):
-        print("usage: tools/write_api.py [--check]", file=sys.stderr)
+    if sys.argv[1:] not in ([], ["--check"], ["--without-use"]):
+        print("usage: tools/write_api.py [--check | --without-use]", file=sys.stderr)
         return 2
     try:
-        found = written()
+        pages = crate_pages()
+        found = written(pages)
     except (Wrong, clause_links.NoClause) as wrong:
         print(wrong)
         return 1
+    if sys.argv[1:] == ["--without-use"]:
+        for page in pages:
+            print(f"{page.crate}: {len(page.without_use)}: {', '.join(page.without_use)}")
+        return 0
     strange = {f"docs/api/{path.name}" for path in PAGES.glob("*")} - set(found)
     if not sys.argv[1:]:
         PAGES.mkdir(exist_ok=True)

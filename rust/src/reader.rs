@@ -112,7 +112,9 @@ impl Reader {
     /// reader.consume(2);
     /// assert_eq!(reader.peek_buf(), b"c");
     /// ```
-    #[inline]
+    // Who takes bytes where they lie polls before each piece, and mostly finds some at once: no call
+    // is left of that.
+    #[inline(always)]
     pub fn poll(&mut self, cx: &mut Context<'_>) -> Poll<bool> {
         let polled = self.side.poll(&mut Task::new(cx));
         settled(&mut self.side.side, polled)

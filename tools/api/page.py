@@ -65,7 +65,7 @@ class Page:
         self.crate, self.name, self.title = crate, name, title
         self.at, self.bodies, self.titles = name, {name: []}, {name: title}
         self.parts = PARTS.get(crate, {})
-        self.homes, self.named, self.section_of = {}, [], {}
+        self.homes, self.named, self.section_of, self.without_use = {}, [], {}, []
         self.lines, self.groups, self.table_at = self.bodies[name], [], None
 
     def turn_to(self, name):
@@ -131,24 +131,27 @@ class Page:
         told = [f"- **{label}**: {doc.labels[label]}" for label in LABELS if label in doc.labels]
         self.lines += ["", *told] if told else []
 
-    def example(self, owner, name):
+    def example(self, owner, name, trait=None, is_static=False):
         """Lines of use, from a crate that is tested."""
-        found = excerpt(self.crate, owner, name)
+        found = excerpt(self.crate, owner, name, trait, is_static)
         if found:
-            lines, where = found
-            self.lines += ["", f"Use, from [a tested crate](../../{where}):"]
+            lines, where, of_any = found
+            whose = f", as of any `{trait}`" if of_any else ""
+            self.lines += ["", f"Use{whose}, from [a tested crate](../../{where}):"]
             self.code(lines)
-        return bool(found)
+        else:
+            self.without_use.append(f"{owner}::{name}" if owner else name)
 
-    def call(self, item, title, path=None, doc=None, depth=4):
-        """A call: the path of a function, the signature, what it says, an example, the clauses."""
+    def call(self, item, title, path=None, doc=None, depth=4, trait=None):
+        """A call: the path of a function, the signature, what it says, an example, the clauses. With a trait, any type
+        that has it may show the use."""
         doc = doc or Doc(item.doc)
         self.check_labels(item, title, doc)
         self.heading(depth, title)
         self.code(([f"use {path};", ""] if path else []) + item.shown())
         self.says(doc)
         owner, _, name = re.sub(r": \w+", "", title).rpartition("::")
-        self.example(owner or ".", name) if owner else self.example("", name)
+        self.example(owner, name, trait, owner and not re.search(r"[(\s&]self\b", item.head()))
         self.folded(item.clauses(), item.uses, doc.of_clauses)
         self.row(title, self.short(title), doc.summary(), item.answer())
 

@@ -272,7 +272,7 @@ def about(crate):
 def function_text(path, name):
     """A function with its comment, as it stands in a file, if there is one."""
     lines = (TOP / path).read_text().splitlines()
-    first = next((i for i, line in enumerate(lines) if re.match(rf"(pub )?fn {name}\b", line)), None)
+    first = next((i for i, line in enumerate(lines) if re.match(rf"(pub(\(crate\))? )?fn {name}\b", line)), None)
     if first is None:
         return []
     end = next(i for i in range(first, len(lines)) if lines[i] == "}")

@@ -1,3 +1,4 @@
 pub mod LastMark
 pub mod Rounds
 pub mod Sleepers
+pub mod OneRun

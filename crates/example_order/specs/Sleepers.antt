@@ -6,7 +6,7 @@ use Rattle.piper_protocol.specs.declared.table.Form.TheVariants.{Try}
 use Rattle.piper_protocol.specs.declared.table.Point.TheVariants as point
 use Rattle.piper_protocol.specs.declared.table.Purpose.TheVariants as purpose
 use Rattle.piper_protocol.specs.declared.table.WritePoint.TheVariants.{LookClosed}
-use Rattle.piper.specs.Log.{AreRuns}
+use Rattle.piper_ring.specs.Log.{AreRuns, Log, has_met}
 use Rattle.piper.specs.OfReader.{slots}
 use Rattle.piper.specs.OfWriter as of_writer
 use Rattle.piper.specs.declared.handles.Reader.{Reader}
@@ -18,10 +18,13 @@ IsAwake r w =
     ((of_writer.slots w).taken ≡ (slots r).tickets) ⊎ ((slots r).taken ≡ (of_writer.slots w).tickets)
 
 -- all that the writer did since a was to try a fill, which took n bytes, and to make a poll, which is
--- pending: the accesses of both are runs of the call table
-abbrev pub FilledAndPolled : Writer → Writer → Type 0
-FilledAndPolled a b =
-    (n : ℕ) × AreRuns
-    ((point.Writer (LookClosed (purpose.Copy Try)), Count n)
-    ∷ (point.Writer (LookClosed purpose.Poll), Poll Pending) ∷ [])
-    (of_writer.log a) (of_writer.log b)
+-- pending: the accesses of both are runs of the call table. Then it met the reader
+pub record FilledAndPolled (a b : Writer) : Type 0 where
+  pub count : ℕ
+  pub there : Log
+  pub ran : AreRuns
+      ((point.Writer (LookClosed (purpose.Copy Try)), Count count)
+      ∷ (point.Writer (LookClosed purpose.Poll), Poll Pending) ∷ [])
+      (of_writer.log a) there
+  pub taken : ℕ
+  pub met : of_writer.log b ≡ has_met taken there

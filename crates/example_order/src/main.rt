@@ -1,9 +1,11 @@
 //! Clients that prove of themselves that bytes arrive in order. Where one function holds both sides
 //! of the pipe, all that was sent came: `carry` fills the pipe once, and rounds.rt sends more than
 //! the pipe holds. On two threads, in threads.rt, what came is a beginning of what was sent; and in
-//! sleeping.rt two threads poll by hand, of which nothing of the kind is proved.
+//! sleeping.rt two threads poll by hand, of which nothing of the kind is proved. What both sides did
+//! until they met is one run of the model, in one_run.rt.
 #![tactic(auto)]
 
+mod one_run;
 mod pending;
 mod rounds;
 mod sleeping;
@@ -12,6 +14,7 @@ mod words;
 
 ghost use Rattle.std.specs.Prelude.{◌≡◌, ◌<◌, ◌*◌, ◌^◌, ◌≤◌, take, length, IfOk};
 
+use crate::one_run::fill_and_meet;
 use crate::pending::leave_pending;
 use crate::rounds::carry_in_rounds;
 use crate::sleeping::send_and_count;
@@ -52,5 +55,8 @@ fn main(rt: HostRuntime) -> io::Result<ExitCode> {
     }
     let came = send_and_count(&rt)?;
     println!(&rt; "{came} bytes came")?;
+    let (mut reader, _writer) = fill_and_meet(rt.alloc(), b"hello, model")?;
+    let came = reader.try_drain(&mut place);
+    println!(&rt; "{} in one run of the model", place[..came].escape_ascii())?;
     Ok(ExitCode::SUCCESS)
 }

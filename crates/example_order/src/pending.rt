@@ -14,6 +14,7 @@ use std::sync::Wait;
 
 /// Polls the reader of an empty pipe, fills the pipe, and polls the writer. Returns whether both
 /// polls are pending.
+#[tactic(auto, unfolding(piper::specs::ReaderCalls::LogsMeet))]
 fn fill_while_pending(
     reader: &mut OwnedReader,
     writer: &mut OwnedWriter,

@@ -1,10 +1,16 @@
 -- What clients draw from the clauses of the calls that don't wait.
-use Rattle.std.proofs.Common.{◌≡◌, ◌∙◌, ◌+◌, ◌-◌, ◌<◌, ◌≤◌, ℕ, Bool, true, false, true≢false, List, [], ◌++◌, take, drop, length, refl, sym, ap, append-nil, length-append, length-take-le, arith}
+use Rattle.std.proofs.Common.{◌≡◌, ◌∙◌, ◌+◌, ◌-◌, ◌<◌, ◌≤◌, ℕ, Bool, true, false, true≢false, List, [], ◌∷◌, ◌++◌, take, drop, length, refl, sym, ap, append-nil, length-append, length-take-le, arith}
 use Rattle.std.proofs.Math.Seq.{take-add}
 use Rattle.std.proofs.lemmas.Grind.{common_steps}
 use Rattle.std.proofs.lemmas.List.{append_cancel_left, nil_from_length, take_all, take_rest, take-take}
 use borrow.Rule.Slice.PartMut.{put_mid}
 use native.Mathlib.Decide.{dec_lt}
+use Rattle.piper_protocol.specs.Lines.{Line, access, before_of, first_of, met as meets, note}
+use Rattle.piper_protocol.specs.Told.{have_met, is_idle}
+use Rattle.piper_protocol.specs.declared.answer.Answer.{Answer}
+use Rattle.piper_protocol.specs.declared.log.Note.TheVariants.{Began, ClosedLoaded, Drew, Made, Passed, Told}
+use Rattle.piper_protocol.specs.declared.table.Point.{Point}
+use Rattle.piper_ring.specs.Log.{AreRuns, Log, Ran}
 use Rattle.piper_ring.specs.ReadView.{ReadView}
 use Rattle.piper_ring.specs.WriteView.{WriteView}
 use Rattle.piper.specs.ReaderCalls.{Drained, Meets}
@@ -74,3 +80,35 @@ pub next_piece : (i m n k : ℕ) (xs ys text : List ℕ) → i ≤ length xs →
 next_piece i m n k xs ys text within fits short front piece =
     let next : take m ys ≡ take m (drop i text) = piece ∙ take-take m n (drop i text) short in
     grind (arith, common_steps, take-add)
+
+-- a call is none in which the handles met
+apart : (lines before : List Line) → is_idle (first_of lines) ≡ false → before_of lines ≡ before → have_met lines ≡ have_met before
+unfolding have_met
+apart [] before some same = absurd (true≢false some)
+apart (note (Began first) ∷ rest) before some same = ap have_met same
+apart (meets count ∷ rest) before some same = absurd (true≢false some)
+apart (note (Made found) ∷ rest) before some same = apart rest before some same
+apart (note (Told found) ∷ rest) before some same = apart rest before some same
+apart (note Passed ∷ rest) before some same = apart rest before some same
+apart (note (ClosedLoaded none is_closed) ∷ rest) before some same = apart rest before some same
+apart (note (Drew is_drawn) ∷ rest) before some same = apart rest before some same
+apart (access a ∷ rest) before some same = apart rest before some same
+
+pub ran_apart : (start : Point) (answer : Answer) (a b : Log) → is_idle start ≡ false → Ran start answer a b → have_met b.lines ≡ have_met a.lines
+unfolding Ran
+ran_apart start answer a b some ran = apart b.lines a.lines (ap is_idle ran.first ∙ some) ran.before
+
+-- calls that were made after others are one list with them
+
+after_same : (calls : List (Point × Answer)) (a b c : Log) → b.lines ≡ a.lines → AreRuns calls b c → AreRuns calls a c
+unfolding Ran
+after_same [] a b c same runs = runs ∙ same
+after_same (call ∷ calls) a b c same runs = (runs.0, record { first = runs.1.first; before = runs.1.before ∙ same; now = runs.1.now }, runs.2)
+
+pub runs_joined : (calls more : List (Point × Answer)) (a b c : Log) → AreRuns calls a b → AreRuns more b c → AreRuns (calls ++ more) a c
+runs_joined [] more a b c runs then = after_same more a b c runs then
+runs_joined (call ∷ calls) more a b c runs then = (runs.0, runs.1, runs_joined calls more runs.0 b c runs.2 then)
+
+pub runs_and_one : (calls : List (Point × Answer)) (start : Point) (answer : Answer) (a b c : Log) → AreRuns calls a b → Ran start answer b c
+    → AreRuns (calls ++ (start, answer) ∷ []) a c
+runs_and_one calls start answer a b c runs ran = runs_joined calls ((start, answer) ∷ []) a b c runs (c, ran, refl)

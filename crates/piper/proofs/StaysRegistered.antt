@@ -17,7 +17,7 @@ draws (Ready (Err Memory)) a b d end rest h = rw rest.rng h
 draws (Ready (Err (Like e))) a b d end rest h = rw rest.rng h
 draws Pending a b d end rest h = rw (rest.rng, end) h
 
-still : (a b d : Writer) (old left : Context) → d.side.end ≡ record b.side.end { lent = [] } → d.side.slots ≡ b.side.slots → WriterWaits a b old left → WriterWaits a d old left
+still : (a b d : Writer) (old left : Context) → d.side.end ≡ record b.side.end { lent = [] } → d.side.slots ≡ b.side.slots → WriterWaits a.side.slots b.side.end b.side.slots old left → WriterWaits a.side.slots d.side.end d.side.slots old left
 still a b d old left end registrations w = record {
   ticket = rw registrations w.ticket;
   pending = record {

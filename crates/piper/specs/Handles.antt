@@ -1,5 +1,5 @@
 -- The two handles of a pipe.
-use Rattle.std.specs.Prelude.{◌≡◌, ℕ, false, List, bit_xor}
+use Rattle.std.specs.Prelude.{◌≡◌, ℕ, false, List, [], bit_xor}
 use Rattle.std.specs.Borrow.{Fml, MutBor, Array, Lends}
 use denote.Builtin.{u8}
 use Rattle.piper_ring.specs.LendsBuffer.{with_lent}
@@ -32,12 +32,17 @@ NotifiesWriter reader = IsReaderAtRest reader.side.end reader.side.slots
 abbrev pub NotifiesReader : Writer → Type 0
 NotifiesReader writer = IsWriterAtRest writer.side.end writer.side.slots
 
--- the handles of a pipe that was just opened: nothing was stored, and nobody waits
+-- neither made an access. No search of a client looks into it
+unfoldable pub LogsAreNew : Reader → Writer → Type 0
+LogsAreNew r w = (r.side.log.lines ≡ []) × (w.side.log.lines ≡ [])
+
+-- the handles of a pipe that was just opened: nothing was done or stored, and nobody waits
 pub record AreFresh (cap : ℕ) (r : Reader) (w : Writer) : Type 0 where
   pub reader : FreshReadEnd cap r.side.end
   pub writer : FreshWriteEnd cap w.side.end
   pub woken : NotifiesWriter r × NotifiesReader w
   pub nobody : (r.side.slots.waits ≡ false) × (w.side.slots.waits ≡ false)
+  pub logs : LogsAreNew r w
 
 -- the generators of the handles, before their first draw
 pub record DrawFrom (seed : ℕ) (r : Reader) (w : Writer) : Type 0 where

@@ -2,8 +2,8 @@
 use Rattle.std.specs.Prelude.{ℕ, List, Bool}
 use Rattle.piper_ring.specs.ReadView.{ReadView, in_one_piece}
 use Rattle.piper_ring.specs.Shared.{Ring}
-use Rattle.piper_protocol.specs.OneList.{Access}
-use Rattle.piper_ring.specs.Log.{Log, accesses_of}
+use Rattle.piper_protocol.specs.Lines.{Line}
+use Rattle.piper_ring.specs.Log.{Log}
 use Rattle.piper_ring.specs.SlotsView.{SlotsView}
 use Rattle.piper.specs.declared.handles.Reader.{Reader}
 
@@ -55,6 +55,6 @@ slots reader = reader.side.slots
 abbrev pub log : Reader → Log
 log reader = reader.side.log
 
--- all its accesses to what both sides share, the last first
-abbrev pub accesses : Reader → List Access
-accesses reader = accesses_of reader.side.log
+-- the lines of that, the last first
+abbrev pub lines : Reader → List Line
+lines reader = reader.side.log.lines

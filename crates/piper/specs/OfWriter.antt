@@ -2,8 +2,8 @@
 use Rattle.std.specs.Prelude.{ℕ, List, Bool}
 use Rattle.piper_ring.specs.Shared.{Ring}
 use Rattle.piper_ring.specs.WriteView.{WriteView}
-use Rattle.piper_protocol.specs.OneList.{Access}
-use Rattle.piper_ring.specs.Log.{Log, accesses_of}
+use Rattle.piper_protocol.specs.Lines.{Line}
+use Rattle.piper_ring.specs.Log.{Log}
 use Rattle.piper_ring.specs.SlotsView.{SlotsView}
 use Rattle.piper.specs.declared.handles.Writer.{Writer}
 
@@ -51,6 +51,6 @@ slots writer = writer.side.slots
 abbrev pub log : Writer → Log
 log writer = writer.side.log
 
--- all its accesses to what both sides share, the last first
-abbrev pub accesses : Writer → List Access
-accesses writer = accesses_of writer.side.log
+-- the lines of that, the last first
+abbrev pub lines : Writer → List Line
+lines writer = writer.side.log.lines

@@ -6,9 +6,12 @@ use Rattle.futures.specs.declared.task.context.Context.{Context}
 use Rattle.futures.specs.declared.task.Poll.{Poll}
 use Rattle.futures.specs.declared.task.Poll.TheVariants.{Ready}
 use denote.Ref.{Bor}
+use Rattle.piper_protocol.specs.Lines.{Line}
+use Rattle.piper_protocol.specs.Told.{AreTrueLogs}
 use Rattle.piper_protocol.specs.declared.table.Form.TheVariants.{Polling}
 use Rattle.piper_protocol.specs.declared.table.Purpose.TheVariants as purpose
 use Rattle.piper_ring.specs.Loads.{FoundClosed}
+use Rattle.piper_ring.specs.Log.{has_met}
 use Rattle.piper_ring.specs.ReadView.{Agree, KeepsAll, KnowsEnd, ReadEndMayHave}
 use Rattle.piper_ring.specs.SlotsView.{IsReaderPending, IsWriterPending, OnlyWaits, WaitsAsBefore}
 use Rattle.piper.specs.Called.{CallsTaken, EmptiesOwn}
@@ -136,7 +139,7 @@ pub record DrainPends (a b : Reader) (old left : Context) : Type 0 where
       → (b.side.end.saw ≡ false) × (b.side.end.observed_shut ≡ false)
   pub yields : 0 < found_len a.side.end b.side.end → AsksAgain left
   pub covered : Covers left (λ s. s ≡ read_source a)
-  pub waits : found_len a.side.end b.side.end ≡ 0 → ReaderWaits a b old left
+  pub waits : found_len a.side.end b.side.end ≡ 0 → ReaderWaits a.side.slots b.side.end b.side.slots old left
 
 -- a drain draws from the reader's generator exactly if it found a byte, and yields by that draw
 abbrev pub DrainDraws : {E : Type 0} → Poll (Result ℕ E) → Reader → Reader → Type 0
@@ -229,6 +232,18 @@ ReaderWasWoken reader left =
     IsReaderPending reader.side.end reader.side.slots
     → left.slots.taken ≡ reader.side.slots.tickets
 
+-- the log of the reader and these lines of the writer, which published these bytes, are both true, and
+-- their accesses are one list. No search of a client looks into it, nor into the next
+unfoldable pub HaveTrueLogs : Reader → List Line → List ℕ → Type 0
+HaveTrueLogs r written sent =
+    AreTrueLogs r.side.end.capacity r.side.log.lines written r.side.end.taken sent
+
+-- so it is of both handles before they met; after that each log has one line more, of the meet
+unfoldable pub LogsMeet : Reader → Reader → Writer → Writer → Type 0
+LogsMeet a b c d = HaveTrueLogs a c.side.log.lines c.side.end.sent
+    × (b.side.log ≡ has_met (length d.side.end.sent) a.side.log)
+    × (d.side.log ≡ has_met (length b.side.end.taken) c.side.log)
+
 -- two handles met: the reader knows of all that was published, and the writer of all the free room.
 -- If one of them saw the pipe closed, the writer closed it, and all bytes are what it published. Both
 -- are else as they were
@@ -245,7 +260,6 @@ pub record Meets (a b : Reader) (c d : Writer) : Type 0 where
       ≡ record a.side.end { known = b.side.end.known; all = b.side.end.all }
   pub writer : d.side.end ≡ record c.side.end { room = d.side.end.room }
   pub handles : SameReader (λ s t. t ≡ s) a b × SameWriter (λ s t. t ≡ s) c d
-  pub logs : (b.side.log ≡ a.side.log) × (d.side.log ≡ c.side.log)
 
 -- and the reader is not forgotten: if it was pending, and the writer checked its slot after
 -- its last store, the writer took and woke its waker since, or the reader has nothing to do

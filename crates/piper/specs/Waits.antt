@@ -1,12 +1,14 @@
 -- What a handle is that waits in its slot, and that it is not forgotten there.
-use Rattle.std.specs.Prelude.{◌≡◌, ◌+◌, ◌⊎◌, true, false, [], length}
+use Rattle.std.specs.Prelude.{◌≡◌, ℕ, ◌+◌, ◌⊎◌, true, false, [], length}
 use Rattle.futures.specs.Task.{Covers}
 use Rattle.futures.specs.declared.task.context.Context.{Context}
 use Rattle.piper_protocol.specs.declared.table.AfterWrite.TheVariants.{Drop}
 use Rattle.piper_protocol.specs.declared.table.Point.TheVariants as of
 use Rattle.piper_protocol.specs.declared.table.ReadPoint.TheVariants as reads
 use Rattle.piper_protocol.specs.declared.table.WritePoint.TheVariants as writes
-use Rattle.piper_ring.specs.SlotsView.{IsReaderPending, IsWriterPending}
+use Rattle.piper_ring.specs.ReadView.{ReadView}
+use Rattle.piper_ring.specs.SlotsView.{IsReaderPending, IsWriterPending, SlotsView}
+use Rattle.piper_ring.specs.WriteView.{WriteView}
 use Rattle.piper.specs.Called.{CallsTaken, HasDropped, RegistersTask}
 use Rattle.piper.specs.Contexts.{AsksAgain, LacksWaker}
 use Rattle.piper.specs.Handles.{read_source, write_source}
@@ -18,16 +20,18 @@ use Rattle.piper_ring.specs.declared.ends.finished.FinishedWriter.{FinishedWrite
 
 -- the reader waits: since a it has registered in its slot, under a new ticket, and its look after
 -- that found nothing to do; the call asked for a waker of its task, and not for another poll
-pub record ReaderWaits (a b : Reader) (old left : Context) : Type 0 where
-  pub ticket : b.side.slots.tickets ≡ a.side.slots.tickets + 1
-  pub pending : IsReaderPending b.side.end b.side.slots
-  pub task : RegistersTask a.side.slots b.side.slots old left
+pub record ReaderWaits (a : SlotsView) (r : ReadView) (b : SlotsView) (old left : Context)
+    : Type 0 where
+  pub ticket : b.tickets ≡ a.tickets + 1
+  pub pending : IsReaderPending r b
+  pub task : RegistersTask a b old left
 
 -- the writer waits
-pub record WriterWaits (a b : Writer) (old left : Context) : Type 0 where
-  pub ticket : b.side.slots.tickets ≡ a.side.slots.tickets + 1
-  pub pending : IsWriterPending b.side.end b.side.slots
-  pub task : RegistersTask a.side.slots b.side.slots old left
+pub record WriterWaits (a : SlotsView) (w : WriteView) (b : SlotsView) (old left : Context)
+    : Type 0 where
+  pub ticket : b.tickets ≡ a.tickets + 1
+  pub pending : IsWriterPending w b
+  pub task : RegistersTask a b old left
 
 -- no waker of the side's is left in its slot: none was registered, or it was taken back, or found to
 -- be gone
@@ -46,14 +50,22 @@ WriterIsRefused writer old left = LacksWaker old left × WriterLeavesNone writer
 
 -- a reader whose poll is pending: there is nothing to do yet, and its task is armed at the reader's
 -- source, and is registered there
-pub record ReaderPends (a b : Reader) (old left : Context) : Type 0 where
-  pub nothing : NothingYet b.side.end
-  pub covered : Covers left (λ s. s ≡ read_source a)
-  pub waits : ReaderWaits a b old left
+pub record ReaderPendsAt (source : ℕ) (a : SlotsView) (r : ReadView) (b : SlotsView)
+    (old left : Context) : Type 0 where
+  pub nothing : NothingYet r
+  pub covered : Covers left (λ s. s ≡ source)
+  pub waits : ReaderWaits a r b old left
 
-pub record WriterPends (a b : Writer) (old left : Context) : Type 0 where
-  pub covered : Covers left (λ s. s ≡ write_source a)
-  pub waits : WriterWaits a b old left
+pub record WriterPendsAt (source : ℕ) (a : SlotsView) (w : WriteView) (b : SlotsView)
+    (old left : Context) : Type 0 where
+  pub covered : Covers left (λ s. s ≡ source)
+  pub waits : WriterWaits a w b old left
+
+abbrev pub ReaderPends : Reader → Reader → Context → Context → Type 0
+ReaderPends a b = ReaderPendsAt (read_source a) a.side.slots b.side.end b.side.slots
+
+abbrev pub WriterPends : Writer → Writer → Context → Context → Type 0
+WriterPends a b = WriterPendsAt (write_source a) a.side.slots b.side.end b.side.slots
 
 -- why a call of a trait is pending: the reader is registered and has nothing to do, or its task asked
 -- for another poll itself

@@ -129,7 +129,7 @@ pub record FillsEnd {E : Type 0} (r : Poll (Result ℕ E)) (a b : Writer) : Type
 pub record FillPends (a b : Writer) (old left : Context) : Type 0 where
   pub yields : 0 < b.side.end.room → AsksAgain left
   pub covered : Covers left (λ s. s ≡ write_source a)
-  pub waits : b.side.end.room ≡ 0 → WriterWaits a b old left
+  pub waits : b.side.end.room ≡ 0 → WriterWaits a.side.slots b.side.end b.side.slots old left
 
 -- a fill draws from the writer's generator exactly if it found room, and yields by that draw
 abbrev pub FillDraws : {E : Type 0} → Poll (Result ℕ (CopyError E)) → Writer → Writer → Type 0

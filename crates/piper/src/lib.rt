@@ -1,5 +1,5 @@
 //! A bounded pipe of bytes between one reader and one writer, for threads and for polled tasks.
-#![tactic(auto, unfolding(piper_ring::specs::Log::Ran))]
+#![tactic(auto, unfolding(piper_ring::specs::Log::Ran, piper_ring::specs::Log::is_at_rest))]
 
 mod calls;
 mod copies;

@@ -56,7 +56,7 @@ pub fn owned_duplex(
 }
 
 impl OwnedEnd {
-    /// Takes the end, so that it is dropped automatically.
+    /// Takes the end, which the owner drops automatically.
     pub fn new(end: End) -> OwnedEnd
         ensures reader { reading result ≡ reading_of end }
         ensures writer { writing result ≡ writing_of end }

@@ -26,7 +26,7 @@ pub struct Copying<R, W> {
 /// copied at least 64 bytes, and asked for another.
 /// Errors: that of the reader or of the writer. `left` has both.
 /// Cancel safety: as long as the writer has not seen its pipe closed, all that was taken is
-/// published, so a dropped future loses none.
+/// published: a dropped future loses none.
 pub fn copy<R: AsyncBufRead + Drop, W: AsyncWrite + Drop>(reader: R, writer: W) -> Copying<R, W>
     ensures { StartsCopy result reader writer }
 {

@@ -35,7 +35,7 @@ pub struct Draining<R, D> {
 /// moved at least 64 bytes, and asked for another.
 /// Errors: the reader's own; that of `dest`; or one of the kind `WriteZero`, if `dest` takes none
 /// of some bytes. `left` has the reader and `dest`.
-/// Cancel safety: a byte is taken only once it was written, so a dropped future loses none.
+/// Cancel safety: a byte is taken only once it was written: a dropped future loses none.
 pub fn drain_into<R: AsyncBufRead + Drop, D: Write + Drop>(reader: R, dest: D) -> Draining<R, D>
     ensures { StartsDraining result reader dest }
 {

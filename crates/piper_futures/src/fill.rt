@@ -141,7 +141,7 @@ pub struct Filling<W, S> {
 /// Moves all that a reader of std gives into the writer's pipe, up to the reader's end or the close
 /// of the pipe.
 ///
-/// Each read blocks the thread, so it belongs on a thread of its own.
+/// Each read blocks the thread: give it a thread of its own.
 ///
 /// Returns: a future of the writer, `source`, and why it ended.
 /// Pending: the writer's call is pending; or bytes were published, or the pipe was seen closed, and
@@ -149,7 +149,7 @@ pub struct Filling<W, S> {
 /// Errors: the writer's own, which is `Memory` for a pipe; or the error of `source` (proved is that
 /// a call of std failed so). `left` has the writer and `source`.
 /// Cancel safety: as long as the writer has not seen its pipe closed, all that was read is
-/// published, so a dropped future loses none.
+/// published: a dropped future loses none.
 pub fn fill_from<W: AsyncFill + Drop, S: Read + Drop>(writer: W, source: S) -> Filling<W, S>
     ensures { StartsFilling result writer source }
 {

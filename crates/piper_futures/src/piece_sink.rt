@@ -189,7 +189,7 @@ impl<W: AsyncWrite + Drop, F: Framing + Drop> Sink<Vec<u8>> for PieceSink<W, F> 
 
     ghost needs = { λ sink. W.needs (writer_of sink) };
 
-    /// Writes what is left of the last item, so that the next one can be sent.
+    /// Writes what is left of the last item. Once it is ready the next one can be sent.
     ///
     /// Pending: the writer's call is pending.
     /// Errors: the writer's own; or one of the kind `BrokenPipe`, if the pipe was seen closed and

@@ -12,7 +12,7 @@ use futures::task::{Context, Poll};
 use piper::PipeError;
 use piper::io::AsyncBufRead;
 
-/// How many pieces a poll takes at most, so that other tasks get their turn. A piece is what a
+/// How many pieces a poll takes at most, before other tasks get their turn. A piece is what a
 /// reader lends at once, or a line, or a frame.
 pub const MOST_PIECES: u32 = 64;
 

@@ -37,7 +37,7 @@ pub enum LineAnswer {
 impl LineAnswer {
     ghost use Rattle.piper_lines.specs.LineAnswers.{at_end};
 
-    /// Whether the reader has ended, so that no line comes after this answer.
+    /// Whether the reader has ended: no line comes after this answer.
     pub fn is_end(self) -> bool
         ensures { result ≡ at_end self }
     {

@@ -21,3 +21,13 @@ pub mod Counting
 pub mod Following
 pub mod Worked
 pub mod Listed
+pub mod HandleCalls
+pub mod HandleLines
+pub mod HandleLogs
+pub mod HandleReader
+pub mod HandleReaderTold
+pub mod HandleReads
+pub mod HandleWriter
+pub mod HandleWriterTold
+pub mod HandleWrites
+pub mod HandleRuns

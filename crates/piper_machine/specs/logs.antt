@@ -11,3 +11,4 @@ pub mod Wide
 pub mod Follows
 pub mod Worked
 pub mod Listed
+pub mod OfHandles

@@ -4,8 +4,11 @@ ghost use Rattle.piper_machine.specs.logs.Follows.{AreInTurn, IsHonestEnd, IsNob
 ghost use Rattle.piper_machine.specs.logs.Line.{Line};
 ghost use Rattle.piper_machine.specs.logs.Wide.{IsOneWideRun, goes_beyond};
 ghost use Rattle.piper_machine.specs.logs.Listed.{lines_of};
+ghost use Rattle.piper_machine.specs.logs.OfHandles.{lines_in};
+ghost use Rattle.piper_protocol.specs.Lines as handle;
 ghost use Rattle.piper_machine.specs.logs.OneList.{AreListed, FindsCount, accesses, did};
 ghost use Rattle.piper_protocol.specs.OneList.{Access, AreOneList};
+ghost use Rattle.piper_protocol.specs.Told.{AreTrueLogs, have_met};
 ghost use Rattle.piper_machine.specs.logs.OneRun.{AreCountedLogs, AreLogs, IsOneRun};
 ghost use Rattle.piper_machine.specs.logs.Worked.{fill_and_drain, wait_again, wait_and_wake};
 ghost use Rattle.piper_protocol.specs.declared.table.Side.TheVariants.{Reader, Writer};
@@ -38,6 +41,16 @@ pub fn are_listed()
     ensures { (reader writer : List Line) (a b : List Access) → AreOneList a b →
         accesses reader ≡ lines_of a → accesses writer ≡ lines_of b →
         AreListed FindsCount reader writer }
+{}
+
+/// At a meet the logs of both handles of a pipe are such: each says the truth, and their accesses are
+/// one list. The clause `logs` of `Reader::meet` says so. Until the handles first met, their logs are
+/// one run of the model.
+pub fn handles_are_one_run()
+    ensures { (capacity : ℕ) (reader writer : List handle.Line) (taken sent : List ℕ) →
+        AreTrueLogs capacity reader writer taken sent →
+        have_met reader ≡ false → have_met writer ≡ false →
+        IsOneWideRun capacity (lines_in Reader reader) (lines_in Writer writer) }
 {}
 
 /// Bytes come out in the order in which they went in.

@@ -6,3 +6,5 @@ pub mod Reported
 pub mod Answer
 pub mod Table
 pub mod OneList
+pub mod Lines
+pub mod Told

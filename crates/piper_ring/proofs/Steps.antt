@@ -1,6 +1,6 @@
 -- The invariant is taken apart by what one end knows and put together again; and the steps on the
 -- tail, on the head and on closed. Assumes `Logic`.
-use Rattle.piper_ring.specs.Line.{accesses_in}
+use Rattle.piper_protocol.specs.Lines.{accesses_in}
 use Rattle.piper_ring.proofs.Kit.{◌≡◌, ℕ, zero, suc, ◌+◌, ◌-◌, ◌≤◌, Bool, true, false, List, [], ◌∷◌, ◌++◌, length, sym, refl, ap, ◌∙◌, length-append, arith, Ura, full_share, Order, numbers, latest, prefix_refl, SProp, ent, sep, upd, guard, ex, upd_i, Share, Fml, GName, ftrue, fsep, Logic, sem, latest_grows, latest_bounds, latest_shows, ‵, raw, ◌⊛◌, some, given, ◌$◌, ◌∵◌, !, qed, by, move, split, split3, fsplit, fsplit3, fjoin, fjoin3, fpick, fpack, pick, learn, check, show, frame, assume, settle, suffices, rewrite, use1, use2, use3, done, drop as forget, Ptr, block_ptr, block_of, count_of, nothing, asks, always, position_of, run, Lies, length-drop, run_join, byte, Stream, Reaches, streams, open_reaches, Names, State, Holds, half, other, flag, gone, until_both, where_gone, blanks, deeds, memory, announced, began, took, writer_knows, reader_knows, ends, state_holds, Inner, common, keep, reaches_same, raised, u8, part_at, slot_of as offset_of, idle, drop_list}
 use Rattle.std.proofs.Common.{append-nil}
 use types.Growing.{latest_agrees}

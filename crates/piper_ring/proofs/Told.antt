@@ -1,41 +1,70 @@
 -- A note that is true keeps the log true.
-use Rattle.std.proofs.Common.{◌≡◌, ◌≢◌, ◌⊎◌, ◌↔◌, IsTrue, ℕ, ◌+◌, ◌≤◌, ◌==◌, eqb, Bool, true, false, not, List, [], ◌∷◌, take, length, is_some, true≢false, sym, refl, inl, inr, length-take-le, arith}
+use Rattle.std.proofs.Common.{◌≡◌, ◌↔◌, IsTrue, ℕ, ◌+◌, ◌-◌, ◌≤◌, ◌==◌, ◌%◌, true≢false, sym, min, nat_le, if◌then◌else◌, ap, Bool, true, false, not, List, [], ◌∷◌, take, length, is_some, Option, None, refl, length-take-le, arith}
 use Rattle.std.proofs.lemmas.Bool.{eq-eqb}
-use Rattle.std.proofs.lemmas.Bool.Decides.{eqb_tells}
-use Rattle.piper_protocol.specs.OneList.{is_same}
+use Rattle.std.proofs.lemmas.Bool.Decides.{nat_tests}
+use Rattle.piper_protocol.specs.Lines.{Line, access, action, comes_to, met, note}
+use Rattle.piper_protocol.specs.OneList.{Access, is_same, loaded_head, loaded_slot, loaded_tail, swapped}
+use Rattle.piper_protocol.specs.Told.{alike, are_told, begins, both, fits, is_made, is_settled, known_in, lendable_in, may_draw, moved_in, rests, seen_in, shut_in, waits_in}
 use Rattle.piper_protocol.specs.declared.table.Action.{Action}
-use Rattle.piper_protocol.specs.declared.table.Action.TheVariants.{LoadClosed}
+use Rattle.piper_protocol.specs.declared.table.Action.TheVariants.{LoadIndex}
 use Rattle.piper_protocol.specs.declared.table.Found.{Found}
-use Rattle.piper_protocol.specs.declared.table.Found.TheVariants.{Flag as flag}
+use Rattle.piper_protocol.specs.declared.table.Found.TheVariants.{IndexLoaded}
+use Rattle.piper_protocol.specs.declared.table.Point.{Point}
 use Rattle.piper_protocol.specs.declared.table.Side.{Side}
 use Rattle.piper_protocol.specs.declared.table.Side.TheVariants.{Reader, Writer}
-use Rattle.piper_ring.specs.Line.{Line, access, note}
+use Rattle.rtrb.specs.Fifo.{slot_of as offset_of}
+use Rattle.piper_ring.specs.ReadView.{ReadView, in_one_piece}
+use Rattle.piper_ring.specs.WriteView.{IsBounded, WriteView, lendable}
 use Rattle.piper_ring.specs.Slot.{ticket_if}
-use Rattle.piper_ring.specs.Told.{IsToldIn, MayPassIn, alike, are_told, both}
-use Rattle.piper_ring.specs.declared.log.Note.TheVariants.{ClosedLoaded, Passed, Told}
+use Rattle.piper_ring.specs.Trace.{side_of}
+use Rattle.piper_ring.specs.Log.{IsLoadedIn, IsOutside, IsToldIn, MayPassIn, as_is}
+use Rattle.piper_protocol.specs.declared.log.Note.{Note}
+use Rattle.piper_protocol.specs.declared.log.Note.TheVariants.{Began, ClosedLoaded, Drew, Made, Passed, Told}
 
-pub told_true : (capacity : ℕ) (it : Action) (said : Found) (lines : List Line)
-    → IsToldIn capacity it said lines
-    → are_told capacity (note (Told said) ∷ lines) ≡ are_told capacity lines
-unfolding are_told
-told_true capacity it said [] is = absurd is
-told_true capacity it said (access a ∷ before) is = rw (is.0, is.1) refl
-told_true capacity it said (note other ∷ before) is = absurd is
+module _ (capacity : ℕ) (own : Side) where
+  pub begun_true : (first : Point) (lines : List Line) → begins capacity own first lines ≡ true
+      → are_told capacity own (note (Began first) ∷ lines) ≡ are_told capacity own lines
+  unfolding are_told
+  begun_true first lines may = rw may refl
 
-pub passed_true : (capacity : ℕ) (it : Action) (lines : List Line) → MayPassIn it lines
-    → are_told capacity (note Passed ∷ lines) ≡ are_told capacity lines
-unfolding are_told
-passed_true capacity it [] is = absurd is
-passed_true capacity it (access a ∷ before) is = rw (is.0, is.1) refl
-passed_true capacity it (note other ∷ before) is = absurd is
+  pub drew_true : (is_drawn : Bool) (lines : List Line)
+      → may_draw (comes_to lines).point lines ≡ true
+      → are_told capacity own (note (Drew is_drawn) ∷ lines) ≡ are_told capacity own lines
+  unfolding are_told
+  drew_true is_drawn lines may = rw may refl
 
-pub closed_loaded_true : (capacity : ℕ) (none is_closed : Bool) (lines : List Line)
-    → IsToldIn capacity LoadClosed (flag is_closed) lines
-    → are_told capacity (note (ClosedLoaded none is_closed) ∷ lines) ≡ are_told capacity lines
-unfolding are_told
-closed_loaded_true capacity none is_closed [] is = absurd is
-closed_loaded_true capacity none is_closed (access a ∷ before) is = rw (is.0, is.1) refl
-closed_loaded_true capacity none is_closed (note other ∷ before) is = absurd is
+  pub made_true : (it : Action) (said : Found) (lines : List Line)
+      → (action (comes_to lines).point ≡ it) × (is_made capacity own lines it said ≡ true)
+      → are_told capacity own (note (Made said) ∷ lines) ≡ are_told capacity own lines
+  unfolding are_told
+  made_true it said lines is = rw (is.0, is.1) refl
+
+  pub told_true : (it : Action) (said : Found) (lines : List Line)
+      → IsToldIn capacity own it said lines
+      → are_told capacity own (note (Told said) ∷ lines) ≡ are_told capacity own lines
+  unfolding are_told
+  told_true it said [] is = absurd is
+  told_true it said (access a ∷ before) is = rw (is.0, is.1) refl
+  told_true it said (note other ∷ before) is = absurd is
+  told_true it said (met count ∷ before) is = absurd is
+
+  pub passed_true : (it : Action) (lines : List Line) → MayPassIn own it lines
+      → are_told capacity own (note Passed ∷ lines) ≡ are_told capacity own lines
+  unfolding are_told
+  passed_true it [] is = absurd is
+  passed_true it (access a ∷ before) is = rw (is.0, is.1) refl
+  passed_true it (note other ∷ before) is = absurd is
+  passed_true it (met count ∷ before) is = absurd is
+
+  pub closed_loaded_true : (none is_closed : Bool) (lines : List Line)
+      → IsLoadedIn capacity own none is_closed lines
+      → are_told capacity own (note (ClosedLoaded none is_closed) ∷ lines)
+      ≡ are_told capacity own lines
+  unfolding are_told
+  closed_loaded_true none is_closed [] is = absurd is
+  closed_loaded_true none is_closed (access a ∷ before) is = rw (is.0, is.1.0, is.1.1) refl
+  closed_loaded_true none is_closed (note other ∷ before) is = absurd is
+  closed_loaded_true none is_closed (met count ∷ before) is = absurd is
 
 -- what the notes of accesses say
 
@@ -47,28 +76,107 @@ pub same_side : (s : Side) → is_same s s ≡ true
 same_side Reader = refl
 same_side Writer = refl
 
-pub none_there : (s : Side) → both (is_same s s) true ≡ true
-none_there Reader = refl
-none_there Writer = refl
+own_there : (b reads : Bool) → both (not (is_same (side_of reads) (side_of reads))) b ≡ false
+own_there b true = refl
+own_there b false = refl
 
-pub took_there : (s : Side) (is_found : Bool) (ticket : ℕ)
-    → both (is_same s s) (alike (is_some (ticket_if is_found ticket)) is_found) ≡ true
-took_there Reader true ticket = refl
-took_there Reader false ticket = refl
-took_there Writer true ticket = refl
-took_there Writer false ticket = refl
+other_there : (b reads : Bool)
+    → both (not (is_same (side_of (not reads)) (side_of reads))) b ≡ b
+other_there b true = refl
+other_there b false = refl
+
+-- whether a side's waker may be in its slot, once its own slot was loaded or emptied, or the other's
+
+module _ (reads slot : Bool) (lines : List Line) where
+  pub own_loaded : (is_filled : Bool) → slot ≡ reads → waits_in (side_of reads) lines ≡ true
+      → waits_in (side_of reads) (access (loaded_slot (side_of slot) is_filled) ∷ lines) ≡ is_filled
+  unfolding waits_in
+  own_loaded true is waits = waits
+  own_loaded false is waits = rw is (own_there _ reads)
+
+  pub own_taken : (old : Option ℕ) → slot ≡ reads
+      → waits_in (side_of reads) (access (swapped (side_of slot) old None) ∷ lines) ≡ false
+  unfolding waits_in
+  own_taken old is = rw is (own_there _ reads)
+
+  pub other_loaded : (is_filled : Bool) → slot ≡ not reads
+      → waits_in (side_of reads) (access (loaded_slot (side_of slot) is_filled) ∷ lines)
+      ≡ waits_in (side_of reads) lines
+  unfolding waits_in
+  other_loaded true is = refl
+  other_loaded false is = rw is (other_there _ reads)
+
+  pub other_taken : (old : Option ℕ) → slot ≡ not reads
+      → waits_in (side_of reads) (access (swapped (side_of slot) old None) ∷ lines)
+      ≡ waits_in (side_of reads) lines
+  unfolding waits_in
+  other_taken old is = rw is (other_there _ reads)
+
+pub note_waits : (own : Side) (said : Note) (lines : List Line)
+    → waits_in own (note said ∷ lines) ≡ waits_in own lines
+unfolding waits_in
+note_waits own said lines = refl
+
+pub access_told : (capacity : ℕ) (own : Side) (a : Access) (lines : List Line)
+    → are_told capacity own (access a ∷ lines) ≡ are_told capacity own lines
+unfolding are_told
+access_told capacity own a lines = refl
+
+-- whether nothing is known is whether the count is 0 that the log has of it
+pub tells_none : (none : Bool) (known count : ℕ) → (IsTrue none ↔ (known ≡ 0)) → count ≡ known
+    → alike none (count == 0) ≡ true
+tells_none none known count same is = grind (arith, nat_tests)
+
+-- a load of the other side's index
+module _ (capacity : ℕ) (before : List Line) (count : ℕ) (none : Bool) where
+  pub fits_tail : (reads : Bool) → reads ≡ true
+      → alike none (count - length (moved_in before) == 0) ≡ true
+      → fits capacity (side_of reads) before LoadIndex (loaded_tail count) (IndexLoaded none) ≡ true
+  fits_tail true is fit = fit
+  fits_tail false is fit = absurd (true≢false (sym is))
+
+  pub fits_head : (reads : Bool) → reads ≡ false
+      → alike none (capacity - (length (moved_in before) - count) == 0) ≡ true
+      → fits capacity (side_of reads) before LoadIndex (loaded_head count) (IndexLoaded none) ≡ true
+  fits_head true is fit = absurd (true≢false is)
+  fits_head false is fit = fit
 
 pub stored_all : (n : ℕ) (bytes : List ℕ) → n ≤ length bytes → (length (take n bytes) == n) ≡ true
 stored_all n bytes within = eq-eqb _ _ (length-take-le n bytes within)
 
-differs : (a b : ℕ) → ((eqb a b ≡ true) × (a ≡ b)) ⊎ ((eqb a b ≡ false) × (a ≢ b)) → a ≢ b
-    → not (eqb a b) ≡ true
-differs a b (inl e) ne = absurd (ne e.1)
-differs a b (inr e) ne = rw e.0 refl
+pub outside_made : (capacity : ℕ) (own : Side) (it : Action) (said : Found) (lines : List Line)
+    → IsOutside it said → is_made capacity own lines it said ≡ true
+outside_made capacity own it said lines is = grind arith
 
--- it knows of nothing only if the other's index is where it is itself
-pub none_known : (none : Bool) (count moved known : ℕ) → (IsTrue none ↔ (known ≡ 0))
-    → count ≡ moved + known → alike none (count == moved) ≡ true
-none_known true count moved known same is = eq-eqb _ _ (omega (arith, is, same.0 refl))
-none_known false count moved known same is =
-    differs _ _ (eqb_tells count moved) (λ e. true≢false (sym (same.1 (omega (arith, is, e)))))
+-- how much may be shown or lent, as the log has it and as the end's view has it
+
+module _ (capacity : ℕ) (lines : List Line) where
+  pub shown_is : (r : ReadView) → r.capacity ≡ capacity
+      → seen_in lines ≡ as_is (length r.taken + length r.known) → moved_in lines ≡ r.taken
+      → shut_in lines ≡ as_is false → lendable_in capacity Reader lines ≡ in_one_piece r
+  unfolding as_is offset_of
+  shown_is r same seen moved open_still =
+      rw (seen, moved, open_still, same) (ap (λ (n : ℕ). min n (capacity - length r.taken % capacity)) (omega arith))
+
+  pub lent_is : (w : WriteView) → IsBounded w → w.capacity ≡ capacity
+      → seen_in lines ≡ as_is (length w.sent + w.room - w.capacity) → moved_in lines ≡ w.sent
+      → shut_in lines ≡ as_is w.shut → lendable_in capacity Writer lines ≡ lendable w
+  unfolding as_is offset_of
+  lent_is w bounds same seen moved shut =
+      rw (seen, moved, shut, same) (ap (λ (n : ℕ). if w.shut then 0 else min n (capacity - length w.sent % capacity)) (omega (arith, bounds.1, bounds.2, same)))
+
+  pub room_is : (w : WriteView) → IsBounded w → w.capacity ≡ capacity
+      → seen_in lines ≡ as_is (length w.sent + w.room - w.capacity) → moved_in lines ≡ w.sent
+      → known_in capacity Writer lines ≡ w.room
+  unfolding as_is
+  room_is w bounds same seen moved =
+      rw (seen, moved) (omega (arith, bounds.1, bounds.2, same))
+
+pub is_within : (n most : ℕ) → n ≤ most → nat_le n most ≡ true
+is_within n most le = grind (arith, nat_tests)
+
+pub rests_settled : (lines : List Line) → rests (comes_to lines) ≡ true → is_settled lines ≡ true
+rests_settled [] rest = refl
+rests_settled (access a ∷ before) rest = absurd (true≢false (sym rest))
+rests_settled (note said ∷ before) rest = refl
+rests_settled (met count ∷ before) rest = refl

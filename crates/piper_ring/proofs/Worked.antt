@@ -16,10 +16,10 @@ use Rattle.piper_protocol.specs.declared.table.ReadPoint.TheVariants as reads
 use Rattle.piper_protocol.specs.declared.table.WritePoint.TheVariants as on
 use Rattle.piper_protocol.specs.declared.table.Side.TheVariants as sides
 use Rattle.piper_protocol.specs.OneList.{loaded_closed, loaded_slot, loaded_tail, stored_tail}
-use Rattle.piper_ring.specs.Line.{Line, access, note}
-use Rattle.piper_ring.specs.Log.{Log, Ran, comes_to, drawn, idle, looks, step}
-use Rattle.piper_ring.specs.Told.{are_told, moved_in}
-use Rattle.piper_ring.specs.declared.log.Note.TheVariants.{Began, ClosedLoaded, Made, Told}
+use Rattle.piper_protocol.specs.Lines.{Line, access, comes_to, drawn, idle, looks, note, step}
+use Rattle.piper_protocol.specs.Told.{are_told, moved_in, seen_in}
+use Rattle.piper_protocol.specs.declared.log.Note.TheVariants.{Began, ClosedLoaded, Made, Told}
+use Rattle.piper_ring.specs.Log.{Log, Ran}
 
 -- where no call is open no line leads on but the beginning of one
 found_idle : (side : Point) (found : Found) → step (idle side) found ≡ goes_on (idle side)
@@ -79,12 +79,12 @@ loads_twice a b same ran = no_run _ _ a b _ same refl ran
 
 -- a look that says of a tail past its head that nothing is there does not tell the truth, and one that
 -- says it of the tail at its head does
-lies : are_told 4 (note (Told (index_loaded true)) ∷ access (loaded_tail 3)
+lies : are_told 4 sides.Reader (note (Told (index_loaded true)) ∷ access (loaded_tail 3)
     ∷ note (Began (Reader (reads.LookTail Poll))) ∷ []) ≡ false
-unfolding are_told moved_in
+unfolding are_told moved_in seen_in
 lies = refl
 
-is_true : are_told 4 (note (Told (index_loaded true)) ∷ access (loaded_tail 0)
+is_true : are_told 4 sides.Reader (note (Told (index_loaded true)) ∷ access (loaded_tail 0)
     ∷ note (Began (Reader (reads.LookTail Poll))) ∷ []) ≡ true
-unfolding are_told moved_in
+unfolding are_told moved_in seen_in
 is_true = refl

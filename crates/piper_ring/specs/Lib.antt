@@ -6,9 +6,7 @@ pub mod Block
 pub mod Slot
 pub mod Shared
 pub mod Loads
-pub mod Line
 pub mod Log
-pub mod Told
 pub mod Lends
 pub mod ReadView
 pub mod RoomOrder

@@ -1,96 +1,32 @@
--- What a log says: where its side's last call is, by the call table.
-use Rattle.std.specs.Prelude.{◌≡◌, ◌⊎◌, ℕ, Bool, List, [], ◌∷◌, Option, None, is_some, Result, Ok, Err, true, false, not, ⊤}
+-- What a log says: what its side did, where the side's last call is by the call table, and whether it
+-- tells the truth.
+use Rattle.std.specs.Prelude.{◌≡◌, ◌⊎◌, ℕ, ◌==◌, Bool, List, [], ◌∷◌, Option, None, is_some, Result, Ok, Err, true, false, not, ⊤}
+use Rattle.piper_protocol.specs.Lines.{Line, access, met, note}
 use Rattle.piper_protocol.specs.OneList.{Access, AreOneList, loaded_slot, stored_closed, swapped}
-use Rattle.piper_protocol.specs.Table.{Next, ends, goes_on, look_begun, read_action, read_row, write_action, write_row}
+use Rattle.piper_protocol.specs.Table.{Next, ends}
+use Rattle.piper_protocol.specs.Told.{alike, are_told, begins, fits, has_drawn, is_made, is_settled, known_in, may_draw, may_empty, passes, rests}
 use Rattle.piper_protocol.specs.declared.answer.Answer.{Answer}
-use Rattle.piper_protocol.specs.declared.answer.Answer.TheVariants.{Done}
+use Rattle.piper_protocol.specs.declared.log.Note.{Note}
+use Rattle.piper_protocol.specs.declared.log.Note.TheVariants.{Began, ClosedLoaded, Drew, Made, Passed, Told}
 use Rattle.piper_protocol.specs.declared.table.Action.{Action}
 use Rattle.piper_protocol.specs.declared.table.Action.TheVariants as does
-use Rattle.piper_protocol.specs.declared.table.Found.{Found}
-use Rattle.piper_protocol.specs.declared.table.Found.TheVariants.{Failed, Granted as granted, Moved, Nothing, Waker as waker}
 use Rattle.piper_protocol.specs.declared.table.AfterWrite.TheVariants.{Drop}
-use Rattle.piper_protocol.specs.declared.table.Form.TheVariants.{Polling}
+use Rattle.piper_protocol.specs.declared.table.Found.{Found}
+use Rattle.piper_protocol.specs.declared.table.Found.TheVariants.{Failed, Flag as flag, Granted as granted, Moved, Nothing, Waker as waker}
 use Rattle.piper_protocol.specs.declared.table.Point.{Point}
 use Rattle.piper_protocol.specs.declared.table.Point.TheVariants.{Reader, Writer}
-use Rattle.piper_protocol.specs.declared.table.Purpose.TheVariants.{Copy}
 use Rattle.piper_protocol.specs.declared.table.ReadPoint.TheVariants as at
 use Rattle.piper_protocol.specs.declared.table.Side.{Side}
 use Rattle.piper_protocol.specs.declared.table.WritePoint.TheVariants as on
-use Rattle.piper_ring.specs.Line.{Line, access, accesses_in, note}
 use Rattle.piper_ring.specs.Shared.{Names}
 use Rattle.piper_ring.specs.Trace.{side_of}
-use Rattle.piper_ring.specs.declared.log.Note.{Note}
-use Rattle.piper_ring.specs.declared.log.Note.TheVariants.{Began, ClosedLoaded, Drew, Made, Passed, Told}
 use Rattle.piper_ring.specs.declared.log.Log.{Log as log}
-
--- the call table of both sides
-
-abbrev of_side : {P : Type 0} → (P → Point) → Next P → Next Point
-of_side side next = record { point = side next.point; answer = next.answer }
-
--- a line that the table doesn't have next leads to where no call is open, with no answer: from there
--- only the beginning of another call leads on
-abbrev pub step : Point → Found → Next Point
-step (Reader point) found = of_side Reader (read_row (goes_on at.Idle) point found)
-step (Writer point) found = of_side Writer (write_row (goes_on on.Idle) point found)
-
-abbrev pub action : Point → Action
-action (Reader point) = read_action point
-action (Writer point) = write_action point
-
--- the load of closed that a look of the writer begins with
-abbrev pub looks : Bool → Bool → Point → Next Point
-looks none is_closed (Reader point) = goes_on (Reader at.Idle)
-looks none is_closed (Writer point) =
-    of_side Writer (look_begun (goes_on on.Idle) none point is_closed)
+pub use Rattle.piper_protocol.specs.Lines.{accesses_in, action, before_of, comes_to, first_of, idle, step}
 
 -- where a side leaves: it closes, and its handle is dropped
 abbrev pub leaves_at : Bool → Point
 leaves_at true = Reader at.StoreClosed
 leaves_at false = Writer (on.StoreClosed Drop)
-
--- where a side is between its calls
-abbrev pub idle : Point → Point
-idle (Reader point) = Reader at.Idle
-idle (Writer point) = Writer on.Idle
-
--- a copy's draw settles its form
-abbrev pub drawn : Bool → Point → Point
-drawn is_drawn (Reader (at.LookTake (Copy (Polling false)))) =
-    Reader (at.LookTake (Copy (Polling is_drawn)))
-drawn is_drawn (Writer (on.LookTake (Copy (Polling false)))) =
-    Writer (on.LookTake (Copy (Polling is_drawn)))
-drawn is_drawn point = idle point
-
--- what a log says
-
--- where no call is open: only the beginning of another call leads on from there
-abbrev nowhere : Next Point
-nowhere = goes_on (Reader at.Idle)
-
--- where the last call is after these lines, and what it answered. After an access only the note leads
--- on that says what it was
-abbrev pub comes_to : List Line → Next Point
-comes_to [] = ends (Reader at.Idle) Done
-comes_to (note (Began first) ∷ before) = goes_on first
-comes_to (note (Made found) ∷ before) = step (comes_to before).point found
-comes_to (note (Drew is_drawn) ∷ before) = goes_on (drawn is_drawn (comes_to before).point)
-comes_to (note (Told found) ∷ access a ∷ before) = step (comes_to before).point found
-comes_to (note Passed ∷ access a ∷ before) = comes_to before
-comes_to (note (ClosedLoaded none is_closed) ∷ access a ∷ before) =
-    looks none is_closed (comes_to before).point
-comes_to lines = nowhere
-
--- where the last call began, and what was before it
-abbrev pub first_of : List Line → Point
-first_of [] = Reader at.Idle
-first_of (note (Began first) ∷ before) = first
-first_of (line ∷ before) = first_of before
-
-abbrev pub before_of : List Line → List Line
-before_of [] = []
-before_of (note (Began first) ∷ before) = before
-before_of (line ∷ before) = before_of before
 
 -- a log, and with one line more
 abbrev pub Log : Type 0
@@ -126,6 +62,14 @@ did a = with_line (access a)
 
 abbrev pub with_note : Note → Log → Log
 with_note said = with_line (note said)
+
+-- the other side had moved so many bytes when both handles met: consumed, if this side writes
+abbrev pub taught : Bool → ℕ → ℕ → ℕ
+taught true consumed published = published
+taught false consumed published = consumed
+
+abbrev pub has_met : ℕ → Log → Log
+has_met count = with_line (met count)
 
 abbrev pub began : Point → Log → Log
 began first = with_note (Began first)
@@ -237,13 +181,79 @@ pub as_stepped : (action : Action) → WasMade action
 unfolding WasMade
 as_stepped action = tt
 
--- the step is no access of a ring, and found this: a call of the source or the destination of a copy,
--- of a waker, or for one that is to be registered, which is refused. A waker was called before that
--- is noted, and another poll asked for
+-- the step is no access of a ring, and found this: a call of the source or the destination of a copy
+-- that moves nothing, of a waker, or for one that is to be registered, which is refused. A waker was
+-- called before that is noted, and another poll asked for
 abbrev pub IsOutside : Action → Found → Type 0
-IsOutside does.CallDestination found = ⊤
-IsOutside does.CallSource found = ⊤
+IsOutside does.CallDestination found = (found ≡ Moved 0)
+IsOutside does.CallSource found = (found ≡ Moved 0)
 IsOutside does.Register (granted false) = ⊤
 IsOutside does.Wake Nothing = WasMade does.Wake
 IsOutside does.Yield (granted true) = WasMade does.Yield
 IsOutside action found = ⊥
+
+-- whether a log tells the truth
+
+abbrev pub tells_true : Log → Bool
+tells_true log = are_told log.names.capacity (side_of log.reads) log.lines
+
+-- the same. By it what the log says of a side is no path for a search of whoever has the side
+unfoldable pub as_is : {A : Type 0} → A → A
+as_is x = x
+
+-- no call is open
+unfoldable pub is_at_rest : Log → Bool
+is_at_rest log = rests (now log)
+
+-- the last access has its note
+unfoldable pub is_noted : Log → Bool
+is_noted log = is_settled log.lines
+
+abbrev pub Rests : Log → Type 0
+Rests log = is_at_rest log ≡ true
+
+-- what the log allows next: that a call begins here, that the last line, an access, is told or passed, a
+-- step that is no access, a draw
+abbrev pub MayBegin : Point → Log → Type 0
+MayBegin first log = begins log.names.capacity (side_of log.reads) first log.lines ≡ true
+
+abbrev pub IsToldIn : ℕ → Side → Action → Found → List Line → Type 0
+IsToldIn capacity own it said (access a ∷ before) =
+    (action (comes_to before).point ≡ it) × (fits capacity own before it a said ≡ true)
+IsToldIn capacity own it said lines = ⊥
+
+abbrev pub IsTold : Action → Found → Log → Type 0
+IsTold it said log = IsToldIn log.names.capacity (side_of log.reads) it said log.lines
+
+abbrev pub IsLoadedIn : ℕ → Side → Bool → Bool → List Line → Type 0
+IsLoadedIn capacity own none is_closed (access a ∷ before) =
+    (alike none (known_in capacity own before == 0) ≡ true)
+    × IsToldIn capacity own does.LoadClosed (flag is_closed) (access a ∷ before)
+IsLoadedIn capacity own none is_closed lines = ⊥
+
+abbrev pub IsLoaded : Bool → Bool → Log → Type 0
+IsLoaded none is_closed log =
+    IsLoadedIn log.names.capacity (side_of log.reads) none is_closed log.lines
+
+abbrev pub MayPassIn : Side → Action → List Line → Type 0
+MayPassIn own it (access a ∷ before) =
+    (action (comes_to before).point ≡ it) × (passes own before it a ≡ true)
+MayPassIn own it lines = ⊥
+
+abbrev pub MayPass : Action → Log → Type 0
+MayPass it log = MayPassIn (side_of log.reads) it log.lines
+
+abbrev pub MayMake : Action → Found → Log → Type 0
+MayMake it said log =
+    (next log ≡ it) × (is_made log.names.capacity (side_of log.reads) log.lines it said ≡ true)
+
+abbrev pub MayDraw : Log → Type 0
+MayDraw log = may_draw (now log).point log.lines ≡ true
+
+-- the copy that is open, if one is, has not drawn
+abbrev pub IsUndrawn : Log → Type 0
+IsUndrawn log = has_drawn log.lines ≡ false
+
+-- a copy that is to empty its own slot has drawn
+abbrev pub HasDrawn : Log → Type 0
+HasDrawn log = may_empty (side_of log.reads) (side_of log.reads) log.lines ≡ true

@@ -1,5 +1,5 @@
 -- What a contract sees of a `WriteEnd`, and how the end keeps it.
-use Rattle.std.specs.Prelude.{◌≡◌, ℕ, ◌+◌, ◌-◌, ◌^◌, ◌<◌, ◌≤◌, Bool, true, false, List, [], length, min, refl}
+use Rattle.std.specs.Prelude.{◌≡◌, ℕ, ◌+◌, ◌-◌, ◌^◌, ◌<◌, ◌≤◌, Bool, true, false, List, [], length, min, refl, if◌then◌else◌}
 use Rattle.std.specs.Coded.{Coded, code_by, coded×, coded_list, coded_ℕ, coded_bool}
 use Rattle.rtrb.specs.Fifo.{position_of, slot_of as offset_of}
 use Rattle.piper_protocol.specs.LendBound.{lend_bound}
@@ -65,6 +65,16 @@ HasLoadedHead w =
 abbrev pub room_in_one_piece : WriteView → ℕ
 room_in_one_piece w = min w.room (w.capacity - write_place w)
 
+-- and how many of these are lent at most: none once the writer closed the pipe
+abbrev pub lendable : WriteView → ℕ
+lendable w = if w.shut then 0 else room_in_one_piece w
+
+-- the capacity is the ring's, and the room ends at most a turn after what was published
+abbrev pub IsBounded : WriteView → Type 0
+IsBounded w =
+    (w.capacity ≡ w.ring.names.capacity) × (w.capacity ≤ length w.sent + w.room)
+    × (w.room ≤ w.capacity)
+
 -- a call for at most `max` bytes may lend n: none once the writer closed the pipe,
 -- and else all that is asked for and fits, or as much of it as one call may set to zero: twice what
 -- was published and is lent, and 4,096 more
@@ -117,6 +127,9 @@ pub record IsWriteEnd (e : WriteParts) : Type 0 where
       × (e.indices.head ≡ position_of e.indices.capacity (e.seat.limit - e.indices.capacity))
   pub leased : (e.lease.life ≡ e.seat.names.life) × (e.lease.first ≡ false)
   pub lending : e.indices.lent ≡ length e.room.lent.bytes
+  pub piece :
+      offset_of e.indices.capacity (length e.seat.sent) + length e.room.lent.bytes
+      ≤ e.indices.capacity
   pub heard : (e.observed.names ≡ e.seat.names) × (e.saw.names ≡ e.seat.names)
   pub closed : e.indices.is_shut ≡ e.seat.shut
   pub lends_none : e.seat.shut ≡ true → e.room.lent.bytes ≡ []

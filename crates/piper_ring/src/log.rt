@@ -1,31 +1,16 @@
 //! What a side did, call by call, in the words of the call table. It has no bytes: an access of a
 //! side adds itself, and clauses read it.
 ghost use Rattle.std.specs.Borrow.{ftrue};
-ghost use Rattle.std.specs.Prelude.{◌≡◌, Bool, List, false};
-ghost use Rattle.piper_ring.specs.Line.{Line, accesses_in};
+ghost use Rattle.std.specs.Prelude.{◌≡◌, Bool, List, false, length, true};
+ghost use Rattle.piper_protocol.specs.Lines.{Line, accesses_in};
 ghost use Rattle.piper_ring.specs.Shared.{Names, names_code};
+ghost use Rattle.piper_protocol.specs.Told.{are_calls, moved_in};
 ghost use Rattle.piper_ring.specs.Trace.{did_owns, side_of};
 
+use crate::ring::marks::{ReadMark, WriteMark};
+use piper_protocol::log::Note;
 use piper_protocol::table::{Action, Found, Point, Side};
 use std::marker::{Model, PhantomData, Send, Sync};
-
-/// What a side says of what it did.
-#[derive(Drop)]
-pub enum Note {
-    /// A call began at this point of the table.
-    Began(Point),
-    /// The access before it was the step that the table has next, and found this.
-    Told(Found),
-    /// The access before it was none of the table's: the step that the table has next is to come.
-    Passed,
-    /// The access before it was the load of closed that a look of the writer begins with, when no
-    /// room was known or some.
-    ClosedLoaded { none: bool, is_closed: bool },
-    /// The step that the table has next was made, is no access, and found this.
-    Made(Found),
-    /// A copy drew whether it yields.
-    Drew(bool),
-}
 
 /// All that a side of a ring did, the last first: the reader if `reads`, else the writer. `lines`
 /// has each access of what both sides share, with what it found and left: the access itself adds
@@ -65,8 +50,7 @@ impl Drop for Log {
 }
 
 impl Log {
-    ghost use Rattle.piper_ring.specs.Log.{WasMade, began, closed_loaded, drew, made, next, passed, told, with_note};
-    ghost use Rattle.piper_ring.specs.Told.{IsTold, MayPass, tells_true};
+    ghost use Rattle.piper_ring.specs.Log.{IsLoaded, IsTold, MayBegin, MayDraw, MayMake, MayPass, WasMade, began, closed_loaded, drew, has_met, is_noted, made, next, passed, taught, tells_true, told, with_note};
 
     /// A log that nobody keeps, for a query.
     #[inline(always)]
@@ -77,8 +61,10 @@ impl Log {
     }
 
     /// A call begins.
+    #[tactic(auto, using(crate::proofs::Told::begun_true))]
     #[inline(always)]
     pub(crate) fn begin(&mut self, first: Point)
+        requires { MayBegin first self.old }
         ensures line { self.new ≡ began first self.old }
         ensures right { tells_true self.new ≡ tells_true self.old }
     {
@@ -113,7 +99,7 @@ impl Log {
     #[tactic(auto, using(crate::proofs::Told::closed_loaded_true))]
     #[inline(always)]
     pub(crate) fn closed_loaded_first(&mut self, none: bool, is_closed: bool)
-        requires { IsTold Action.LoadClosed (Found.Flag is_closed) self.old }
+        requires { IsLoaded none is_closed self.old }
         ensures line { self.new ≡ closed_loaded none is_closed self.old }
         ensures right { tells_true self.new ≡ tells_true self.old }
     {
@@ -121,8 +107,10 @@ impl Log {
     }
 
     /// A copy drew.
+    #[tactic(auto, using(crate::proofs::Told::drew_true))]
     #[inline(always)]
     pub(crate) fn drew(&mut self, is_drawn: bool)
+        requires { MayDraw self.old }
         ensures line { self.new ≡ drew is_drawn self.old }
         ensures right { tells_true self.new ≡ tells_true self.old }
     {
@@ -136,21 +124,34 @@ impl Log {
         requires called { WasMade Action.Wake }
         ensures line { self.new ≡ made Found.Nothing self.old }
         ensures right { tells_true self.new ≡ tells_true self.old }
+        ensures calls { are_calls self.new.lines ≡ are_calls self.old.lines }
+        ensures noted { is_noted self.new ≡ true }
+        ensures moved { moved_in self.new.lines ≡ moved_in self.old.lines }
     {
-        self.note(Found::Nothing);
+        self.note(Action::Wake, Found::Nothing);
     }
 
-    /// The step that the table has next was made, is no access, and found this.
+    /// This step was made, which the table has next; it is no access, and found this.
+    #[tactic(auto, using(crate::proofs::Told::made_true))]
     #[inline(always)]
-    pub(crate) fn note(&mut self, found: Found)
+    pub(crate) fn note(&mut self, action: Action, found: Found)
+        requires { MayMake action found self.old }
         ensures line { self.new ≡ made found self.old }
         ensures right { tells_true self.new ≡ tells_true self.old }
     {
+        let _ = action;
         self.push(&Note::Made(found));
     }
 
     #[inline(always)]
     fn push(&mut self, note: &Note)
         ensures { self.new ≡ with_note note.now self.old }
+    {}
+
+    /// Both handles met, when the other side had moved as many bytes as its mark says.
+    #[inline(always)]
+    pub(crate) fn meet(&mut self, reader: &ReadMark, writer: &WriteMark)
+        ensures { self.new
+            ≡ has_met (taught self.old.reads reader.now.count (length writer.now.bytes)) self.old }
     {}
 }

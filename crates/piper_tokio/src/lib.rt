@@ -1,5 +1,5 @@
-//! The pipe's handles, and an end of a duplex stream, as readers and writers of `tokio`, so that
-//! its copies, the codecs of `tokio_util`, and `hyper` run over them.
+//! The pipe's handles, and an end of a duplex stream, as readers and writers of `tokio`. Its
+//! copies, the codecs of `tokio_util`, and `hyper` run over them.
 #![tactic(auto)]
 
 mod end;

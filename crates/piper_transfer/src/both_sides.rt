@@ -38,8 +38,8 @@ pub struct Ready {
 /// writes. If a second thread is refused, or is late, both sides take turns on this one.
 ///
 /// It ends at the input's end, once all of it is written, or at the first failure of either side. A
-/// read or a write that is interrupted is made again, and so is one that would block, after a sleep
-/// of 1 to 10 milliseconds (not proved). `meter` is kept up to date meanwhile (tested, not proved).
+/// read or a write is made again if it is interrupted, and after a sleep of 1 to 10 milliseconds if
+/// it would block (not proved). `meter` is kept up to date meanwhile (tested, not proved).
 ///
 /// Returns: `Ok(())`: all that the input gave is written, and the output is flushed.
 /// Errors: `Read`: all that the input gave before is written, and the output is flushed. `Write`: a

@@ -113,8 +113,8 @@ where
     unreachable!()
 }
 
-/// Flushes the output. A flush that is interrupted is made again, and so is one that would block,
-/// after a sleep of 1 to 10 milliseconds.
+/// Flushes the output. A flush is made again if it is interrupted, and after a sleep of 1 to 10
+/// milliseconds if it would block.
 ///
 /// Errors: that of the output; it is of another kind than these two.
 pub fn flush_patiently<R, D>(rt: &R, dest: &mut D) -> io::Result<()>

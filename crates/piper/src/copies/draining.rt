@@ -3,7 +3,8 @@ ghost use Rattle.std.specs.Prelude.{◌≡◌, ◌<◌, ◌≤◌, ◌⊎◌, []
 ghost use Rattle.piper_ring.specs.ReadView.{in_one_piece};
 ghost use Rattle.piper_protocol.specs.Table.{ends, goes_on};
 ghost use Rattle.piper_ring.specs.Log.{Comes, found_of, made, next, now};
-ghost use Rattle.piper_ring.specs.SlotsView.{WaitsAsBefore};
+ghost use Rattle.piper_ring.specs.SlotsView.{IsReaderAtRest, WaitsAsBefore};
+ghost use Rattle.piper.specs.Called.{CallsTaken};
 ghost use Rattle.piper.specs.CopyAnswers.{CountsFailure, IsAtOnce, of_std, of_bytes};
 ghost use Rattle.piper.specs.Drains.{DrainRounds};
 ghost use Rattle.piper.specs.Like.{Counts, passed};
@@ -16,14 +17,13 @@ use crate::handles::Reader;
 use crate::handles::draws::{WAITING, draw_yield};
 use crate::handles::waiting::wake_other;
 use crate::like::{StdWrite, StdWriter, WriteBytes, WriteLike};
-use futures::task::{Context, Poll};
+use futures::task::{Context, Poll, Waker};
 use piper_protocol::answer::Answer;
 use piper_protocol::table::{Action, Form, Found, MOST_A_ROUND, Point, Purpose, ReadPoint};
-use piper_ring::{Look, OutOfMemory};
+use piper_ring::{Look, OutOfMemory, ReadSide};
 
 impl Reader {
-    ghost use Rattle.piper.specs.Handles.{SameReader};
-    ghost use Rattle.piper.specs.ReaderCalls.{DrainRest, DrainsAtOnce, DrainsLike, DrainsSlice, DrainsStd, DrainsWaiting, ReaderTried, WakesWriter};
+    ghost use Rattle.piper.specs.ReaderCalls.{DrainRest, DrainsAtOnce, DrainsLike, DrainsSlice, DrainsStd, DrainsWaiting, ReaderTried};
 
     /// Moves known bytes into a writer of std.
     ///
@@ -119,7 +119,7 @@ impl Reader {
         ensures rest { DrainRest result self.old self.new }
     {
         if !self.side.look_first(Purpose::Copy(WAITING)) {
-            match self.look_waiting(Purpose::Copy(WAITING), cx) {
+            match Reader::look_waiting(&mut self.side, &self.source, Purpose::Copy(WAITING), cx) {
                 Ok(Look::Ready) => {}
                 Ok(Look::Closed) => return Poll::Ready(Ok(0)),
                 Ok(Look::NotReady) => return Poll::Pending,
@@ -129,7 +129,7 @@ impl Reader {
         if draw_yield(&mut self.side, &mut self.rng, cx) {
             return Poll::Pending;
         }
-        self.drain_rounds(WAITING, dest)
+        drain_rounds(&mut self.side, WAITING, dest)
     }
 
     /// Moves known bytes into any destination, and doesn't wait: it registers no task and never
@@ -153,67 +153,71 @@ impl Reader {
         ensures rest { DrainRest result self.old self.new }
     {
         match self.side.look_now(Purpose::Copy(Form::Try)) {
-            Look::Ready => self.drain_rounds(Form::Try, dest),
+            Look::Ready => drain_rounds(&mut self.side, Form::Try, dest),
             Look::Closed => Poll::Ready(Ok(0)),
             Look::NotReady => Poll::Pending,
         }
     }
+}
 
-    // Hands known bytes to the destination in rounds, each in one piece, until none is known or it
-    // takes none.
-    #[inline(always)]
-    fn drain_rounds<W: WriteLike>(
-        &mut self,
-        form: Form,
-        dest: &mut W,
-    ) -> Poll<Result<usize, CopyError<W::Error>>>
-        requires at { now self.old.side.log
-            ≡ goes_on (Point.Reader (ReadPoint.CallDestination form 0)) }
-        requires some { HasBytes self.old.side.end }
-        ensures ran { Comes (ends (Point.Reader ReadPoint.Idle) (copy_answer form result))
-            self.old.side.log self.new.side.log }
-        ensures drained { DrainRounds W.takes W.is_full W.fails result
-            self.old.side.end self.new.side.end dest.old dest.new }
-        ensures failures { CountsFailure result (W.failures dest.old) (W.failures dest.new) }
-        ensures ready { IsAtOnce result }
-        ensures rest { WakesWriter self.old self.new × SameReader WaitsAsBefore self.old self.new }
-    {
-        let mut moved = 0;
-        'rounds: loop {
-            if dest.asks() == 0 {
-                self.side.note(Action::CallDestination, Found::Moved(0));
-                return Poll::Ready(Ok(moved));
-            }
-            let n = match self.drain_round(dest) {
-                Ok(n) => n,
-                Err(error) => return Poll::Ready(Err(CopyError::Like(error))),
-            };
-            if n == 0 {
-                return Poll::Ready(Ok(moved));
-            }
-            moved += n;
-            self.side.store_head(n);
-            wake_other(&mut self.side);
+// Hands known bytes to the destination in rounds, each in one piece, until none is known or it
+// takes none.
+#[inline(always)]
+fn drain_rounds<W: WriteLike>(
+    side: &mut ReadSide<Waker>,
+    form: Form,
+    dest: &mut W,
+) -> Poll<Result<usize, CopyError<W::Error>>>
+    requires at { now side.old.log
+        ≡ goes_on (Point.Reader (ReadPoint.CallDestination form 0)) }
+    requires some { HasBytes side.old.end }
+    ensures ran { Comes (ends (Point.Reader ReadPoint.Idle) (copy_answer form result))
+        side.old.log side.new.log }
+    ensures drained { DrainRounds W.takes W.is_full W.fails result
+        side.old.end side.new.end dest.old dest.new }
+    ensures failures { CountsFailure result (W.failures dest.old) (W.failures dest.new) }
+    ensures ready { IsAtOnce result }
+    ensures called { CallsTaken side.old.slots side.new.slots }
+    ensures notifies { IsReaderAtRest side.old.end side.old.slots →
+        IsReaderAtRest side.new.end side.new.slots }
+    ensures rest { WaitsAsBefore side.old.slots side.new.slots
+        × (side.new.cells ≡ side.old.cells) }
+{
+    let mut moved = 0;
+    'rounds: loop {
+        if dest.asks() == 0 {
+            side.note(Action::CallDestination, Found::Moved(0));
+            return Poll::Ready(Ok(moved));
         }
+        let n = match drain_round(side, dest) {
+            Ok(n) => n,
+            Err(error) => return Poll::Ready(Err(CopyError::Like(error))),
+        };
+        if n == 0 {
+            return Poll::Ready(Ok(moved));
+        }
+        moved += n;
+        side.store_head(n);
+        wake_other(side);
     }
+}
 
-    // One call of the destination, on known bytes in one piece.
-    #[inline(always)]
-    fn drain_round<W: WriteLike>(&mut self, dest: &mut W) -> Result<usize, W::Error>
-        requires { next self.old.side.log ≡ Action.CallDestination }
-        ensures log { self.new.side.log ≡ made (found_of result) self.old.side.log }
-        ensures bound { IfOk result (λ n. n ≤ in_one_piece self.old.side.end) }
-        ensures most { IfOk result (λ n. n ≤ MOST_A_ROUND) }
-        ensures bytes { W.takes dest.old (passed result self.old.side.end.known) dest.new }
-        ensures full { result ≡ Ok 0 → (self.old.side.end.known ≡ []) ⊎ W.is_full dest.new }
-        ensures error { IfErr result (λ e. W.fails dest.old e dest.new) }
-        ensures failures { Counts result (W.failures dest.old) (W.failures dest.new) }
-        ensures end { self.new.side.end ≡ self.old.side.end }
-        ensures rest { SameReader (λ s t. t ≡ s) self.old self.new }
-    {
-        let piece = self.side.end().peek_buf();
-        let moved = dest.write(&piece[..piece.len().min(MOST_A_ROUND)]);
-        self.side.note_moved(Action::CallDestination, &moved);
-        moved
-    }
+// One call of the destination, on known bytes in one piece.
+#[inline(always)]
+fn drain_round<W: WriteLike>(side: &mut ReadSide<Waker>, dest: &mut W) -> Result<usize, W::Error>
+    requires { next side.old.log ≡ Action.CallDestination }
+    ensures log { side.new.log ≡ made (found_of result) side.old.log }
+    ensures bound { IfOk result (λ n. n ≤ in_one_piece side.old.end) }
+    ensures most { IfOk result (λ n. n ≤ MOST_A_ROUND) }
+    ensures bytes { W.takes dest.old (passed result side.old.end.known) dest.new }
+    ensures full { result ≡ Ok 0 → (side.old.end.known ≡ []) ⊎ W.is_full dest.new }
+    ensures error { IfErr result (λ e. W.fails dest.old e dest.new) }
+    ensures failures { Counts result (W.failures dest.old) (W.failures dest.new) }
+    ensures end { side.new.end ≡ side.old.end }
+    ensures rest { (side.new.slots ≡ side.old.slots) × (side.new.cells ≡ side.old.cells) }
+{
+    let piece = side.end().peek_buf();
+    let moved = dest.write(&piece[..piece.len().min(MOST_A_ROUND)]);
+    side.note_taken(&moved);
+    moved
 }

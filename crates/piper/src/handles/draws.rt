@@ -1,7 +1,7 @@
 //! The draw of a polling copy, which makes it yield once in a hundred calls.
 ghost use Rattle.std.specs.Prelude.{◌≡◌, ◌↔◌, Bool, IsTrue, IsFalse, true, false};
 ghost use Rattle.futures.specs.Task.{Keeps};
-ghost use Rattle.piper_ring.specs.Log.{Comes, WasMade, drew, made, next, now, own, then};
+ghost use Rattle.piper_ring.specs.Log.{Comes, MayDraw, WasMade, drew, made, next, now, own, then};
 ghost use Rattle.piper_ring.specs.SlotsView.{OnlyWaits};
 ghost use Rattle.piper.specs.Contexts.{AsksAgain};
 ghost use Rattle.piper.specs.Draws.{DrawsYield, drawn_from};
@@ -24,6 +24,7 @@ pub(crate) fn draw_yield<E: SlotEnd>(
     rng: &mut Pcg32,
     cx: &mut Context<'_>,
 ) -> bool
+    requires may { MayDraw side.old.log }
     requires turn { (is_drawn : Bool) →
         next (drew is_drawn side.old.log) ≡ Action.Take (own E.READS) }
     requires drawn { next (made Found.Nothing (drew true side.old.log)) ≡ Action.Yield }

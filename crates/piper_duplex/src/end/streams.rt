@@ -116,7 +116,7 @@ impl AsyncWrite for End {
         self.writer.poll_write(cx, source)
     }
 
-    /// Ready at once, always with `Ok(())`: what was written is published.
+    /// Ready at once, always with `Ok(())`. It changes nothing: a write holds no byte back.
     fn poll_flush(&mut self, cx: &mut Context<'_>) -> Poll<Result<(), PipeError>> {
         self.writer.poll_flush(cx)
     }

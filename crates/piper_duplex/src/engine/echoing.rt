@@ -15,7 +15,7 @@ use piper::io::{AsyncBufRead, AsyncWrite};
 use piper_lines::{LineAnswer, Lines, Written, poll_write_all};
 use std::alloc::Global;
 
-/// How many lines a poll echoes at most, so that other tasks get their turn.
+/// How many lines a poll echoes at most, before other tasks get their turn.
 const MOST_LINES: u32 = 64;
 
 /// Why an echo ended.

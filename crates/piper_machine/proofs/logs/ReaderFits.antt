@@ -5,7 +5,7 @@ use Rattle.piper_machine.specs.Types.{Answer, Action, Found, Purpose, ReadPoint,
 use Rattle.piper_protocol.specs.declared.table.Purpose.TheVariants.{Poll, Copy}
 use Rattle.piper_protocol.specs.Index.{offset_of}
 use Rattle.piper_protocol.specs.Table.{Next, head_store, moved_in, read_action, read_after, reader_looks_for}
-use Rattle.piper_machine.specs.logs.Calling.{Calling, calling_after, may_wait_after, no_calling, withdrawn}
+use Rattle.piper_machine.specs.logs.Calling.{Calling, calling_after, may_wait_after, no_calling}
 use Rattle.piper_machine.specs.logs.Line.{met_head, met_tail, Opening, polls, try_drains, try_drains_with, poll_drains_bytes, poll_drains, consumes, drops, Line, began, loaded_head, loaded_tail, loaded_closed, stored_head, stored_tail, stored_closed, loaded_slot, swapped, knew_empty, took, gave, failed, drew, refused, yielded, woke}
 use Rattle.piper_machine.specs.logs.OneList.{FindsCount, Words, words_after}
 use Rattle.piper_machine.specs.logs.Reading.{HasDrawn, IsReaderNext, MayTake, ReaderAt, reader_after, reader_answered, reader_begun, reader_changed, reader_empties, reader_stepped, reader_told, shown, size_after}
@@ -134,7 +134,7 @@ module _ (capacity : ℕ) (w : WriterAt) where
     empties-fit line action e fit = subst (λ (a : Action). Fits capacity (reader_empties capacity a line r) w (words_after line s)) (sym e) fit
 
     -- before it registers
-    withdraws-fit : (slot : Option ℕ) → slot ≡ None → Fits capacity (record r { calling = withdrawn r.calling; may_wait = false }) w (record s { reader_slot = slot })
+    withdraws-fit : (slot : Option ℕ) → slot ≡ None → Fits capacity (record r { may_wait = false }) w (record s { reader_slot = slot })
     withdraws-fit slot none = record {
       counts = fits.counts;
       reads = record { shown = fits.reads.shown; draws = fits.reads.draws };
@@ -148,12 +148,12 @@ module _ (capacity : ℕ) (w : WriterAt) where
     reader-fits (loaded_closed b) next finds = steps-fit (loaded_closed b) Action.LoadClosed next (λ x. absurd cc) refl (omega arith) rest-fits
     reader-fits (stored_head bytes) next finds = steps-fit (stored_head bytes) (Action.StoreHead (length bytes)) next.0 (λ x. absurd cc) refl (omega arith) (head-fits (length bytes) (omega (arith, fits.reads.shown, store-is r.point (length bytes) next.0)))
     reader-fits stored_closed next finds = steps-fit stored_closed (Action.StoreClosed false) next (λ x. absurd cc) refl (omega arith) (share-fits r.may_wait (record s { is_closed = true }) refl refl (record { closed = λ x. refl; reader_rests = fits.shares.reader_rests; writer_rests = fits.shares.writer_rests }))
-    reader-fits (loaded_slot side true) next finds = goes-on r s r.point (calling_after (loaded_slot side true) r.calling) r.size r.given fits.reads.shown fits.reads.draws fits
-    reader-fits (loaded_slot Reader false) next finds = elim next.0 [
+    reader-fits (loaded_slot side true) next finds = fits
+    reader-fits (loaded_slot Reader false) next finds = elim next [
       | inl to ↦ empties-fit (loaded_slot Reader false) (Action.Take Reader) to.0 (steps-fit (loaded_slot Reader false) (Action.Take Reader) to.0 (λ x. to.1) refl (omega arith) (share-fits false (record s { reader_slot = s.reader_slot; writer_slot = s.writer_slot }) refl refl (record { closed = fits.shares.closed; reader_rests = λ x. none-of s.reader_slot finds; writer_rests = fits.shares.writer_rests })))
       | inr may ↦ empties-fit (loaded_slot Reader false) Action.Register may.1 (withdraws-fit s.reader_slot (none-of s.reader_slot finds))
     ]
-    reader-fits (loaded_slot Writer false) next finds = elim next.0 [
+    reader-fits (loaded_slot Writer false) next finds = elim next [
       | inl to ↦ empties-fit (loaded_slot Writer false) (Action.Take Writer) to.0 (steps-fit (loaded_slot Writer false) (Action.Take Writer) to.0 (λ x. to.1) refl (omega arith) rest-fits)
       | inr may ↦ absurd (let no : Writer ≡ Reader = may.0 in cc)
     ]

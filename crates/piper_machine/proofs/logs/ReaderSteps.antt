@@ -195,7 +195,7 @@ module _ (capacity : ℕ) (w : WriterAt) (l : Chance) (sources : List SourceAct)
           (k, acts, subst (λ (es : List Event). Leads capacity p p es) (sym (stays capacity r.point false may.1)) (leads-none capacity p))
 
       pub finds-empty : (side : Side) → IsReaderNext capacity (loaded_slot side false) r → Finds (loaded_slot side false) s → Fits capacity (reader_after capacity (loaded_slot side false) r) w s → ReaderLeads (loaded_slot side false)
-      finds-empty side next finds = elim next.0 [
+      finds-empty side next finds = elim next [
         | inl to ↦ at-action (loaded_slot side false) (Action.Take side) to.0 (finds-none side to finds)
         | inr may ↦ at-action (loaded_slot side false) Action.Register may.1 (finds-own-empty side may)
       ]
@@ -203,7 +203,7 @@ module _ (capacity : ℕ) (w : WriterAt) (l : Chance) (sources : List SourceAct)
       pub knows-empty : IsReaderNext capacity knew_empty r → Fits capacity (reader_after capacity knew_empty r) w s → ReaderLeads knew_empty
       knows-empty next after k acts =
           let p : Pipe = at_first k acts in
-          let none : s.reader_slot ≡ None = fits.shares.reader_rests next.3 in (
+          let none : s.reader_slot ≡ None = fits.shares.reader_rests next.2 in (
             k,
             acts,
             goes knew_empty (Action.Take Reader) k k acts acts next.0 (λ x. absurd cc)

@@ -1,7 +1,14 @@
--- Three pairs of logs that may be, and others that may not.
+-- Pairs of logs that may be, one pair as handles note it, and others that may not.
 use Rattle.std.proofs.Common.{◌≡◌, List, [], ◌∷◌, true, false, None, Some, refl, arith}
-use Rattle.piper_machine.specs.Types.{Reader, Writer}
-use Rattle.piper_machine.specs.logs.Line.{Line, polls, try_drains_with, poll_drains_bytes, poll_drains, consumes, try_fills, poll_fills, produces, closes, drops, began, loaded_head, loaded_tail, loaded_closed, stored_head, stored_tail, stored_closed, loaded_slot, swapped, met_tail, knew_empty, took, gave, failed, drew, refused, yielded, woke}
+use Rattle.piper_machine.specs.Types.{AfterRead, Found, ReadPoint, Try, WritePoint, Reader, Writer}
+use Rattle.piper_protocol.specs.declared.log.Note.{Note}
+use Rattle.piper_protocol.specs.declared.table.Point.{Point}
+use Rattle.piper_protocol.specs.declared.table.Purpose.TheVariants.{Poll, Copy}
+use Rattle.piper_protocol.specs.Lines as handle
+use Rattle.piper_protocol.specs.OneList as shared
+use Rattle.piper_protocol.specs.Told.{AreTrueLogs, are_calls, are_told, have_met, moved_in, seen_in, shut_in, tickets_in, waits_in}
+use Rattle.piper_machine.specs.logs.Line.{Line, polls, try_drains_with, poll_drains_bytes, poll_drains, consumes, try_fills, try_fills_with, poll_fills, produces, closes, drops, began, loaded_head, loaded_tail, loaded_closed, stored_head, stored_tail, stored_closed, loaded_slot, swapped, met_tail, knew_empty, took, gave, failed, drew, refused, yielded, woke}
+use Rattle.piper_machine.specs.logs.OfHandles.{lines_in}
 use Rattle.piper_machine.specs.logs.OneList.{AreInOrder, By, by, did, is_access, kept_if}
 use Rattle.piper_machine.specs.logs.OneRun.{AreLogs}
 use Rattle.piper_machine.specs.logs.Reading.{AreReaderRuns}
@@ -116,6 +123,58 @@ source_fails = search arith
 
 shuts : AreWriterRuns 4 (knew_empty ∷ woke 7 ∷ swapped Reader (Some 7) None ∷ stored_closed ∷ began closes ∷ [])
 shuts = search arith
+
+-- a poll, its two bytes and a second poll, which waits, and a fill without a context, as handles note them
+
+abbrev read_by_handle : List handle.Line
+read_by_handle =
+    handle.note (Note.Told (Found.IndexLoaded true)) ∷ handle.access (shared.loaded_tail 2)
+    ∷ handle.note (Note.Told (Found.Flag false)) ∷ handle.access (shared.loaded_closed false)
+    ∷ handle.note (Note.Told (Found.Granted true)) ∷ handle.access (shared.swapped Reader None (Some 1))
+    ∷ handle.note (Note.Told (Found.IndexLoaded true)) ∷ handle.access (shared.loaded_tail 2) ∷ handle.note (Note.Began (Point.Reader (ReadPoint.LookTail Poll)))
+    ∷ handle.note (Note.Told (Found.Waker false)) ∷ handle.access (shared.loaded_slot Writer false)
+    ∷ handle.note (Note.Told Found.Nothing) ∷ handle.access (shared.stored_head (5 ∷ 6 ∷ [])) ∷ handle.note (Note.Began (Point.Reader (ReadPoint.StoreHead 2 AfterRead.Answer)))
+    ∷ handle.note (Note.Made Found.Nothing) ∷ handle.note (Note.Told (Found.IndexLoaded false)) ∷ handle.access (shared.loaded_tail 2) ∷ handle.note (Note.Began (Point.Reader (ReadPoint.LookTail Poll))) ∷ []
+
+abbrev written_by_handle : List handle.Line
+written_by_handle =
+    handle.note (Note.Made (Found.Moved 0))
+    ∷ handle.note (Note.Told (Found.Waker false)) ∷ handle.access (shared.loaded_slot Reader false)
+    ∷ handle.note (Note.Told Found.Nothing) ∷ handle.access (shared.stored_tail (5 ∷ 6 ∷ []))
+    ∷ handle.note (Note.Told (Found.Flag false)) ∷ handle.access (shared.loaded_closed false) ∷ handle.note (Note.Made (Found.Moved 2))
+    ∷ handle.note (Note.ClosedLoaded false false) ∷ handle.access (shared.loaded_closed false) ∷ handle.note (Note.Began (Point.Writer (WritePoint.LookClosed (Copy Try)))) ∷ []
+
+abbrev shared_by_handles : List (shared.By shared.Access)
+shared_by_handles =
+    shared.by Reader (shared.loaded_tail 2) ∷ shared.by Reader (shared.loaded_closed false) ∷ shared.by Reader (shared.swapped Reader None (Some 1)) ∷ shared.by Reader (shared.loaded_tail 2)
+    ∷ shared.by Reader (shared.loaded_slot Writer false) ∷ shared.by Reader (shared.stored_head (5 ∷ 6 ∷ [])) ∷ shared.by Reader (shared.loaded_tail 2)
+    ∷ shared.by Writer (shared.loaded_slot Reader false) ∷ shared.by Writer (shared.stored_tail (5 ∷ 6 ∷ [])) ∷ shared.by Writer (shared.loaded_closed false) ∷ shared.by Writer (shared.loaded_closed false) ∷ []
+
+by_handles : AreTrueLogs 4 read_by_handle written_by_handle (5 ∷ 6 ∷ []) (5 ∷ 6 ∷ [])
+unfolding are_told are_calls moved_in seen_in shut_in tickets_in waits_in
+by_handles = record {
+  some = omega arith;
+  reads = record { told = refl; calls = refl; settled = refl; bytes = refl };
+  writes = record { told = refl; calls = refl; settled = refl; bytes = refl };
+  list = (shared_by_handles, search arith, refl, refl);
+  rest = [];
+  order = refl;
+}
+
+not_met : (have_met read_by_handle ≡ false) × (have_met written_by_handle ≡ false)
+unfolding have_met
+not_met = (refl, refl)
+
+lines_read : lines_in Reader read_by_handle
+    ≡ loaded_tail 2 ∷ loaded_closed false ∷ swapped Reader None (Some 1) ∷ loaded_tail 2 ∷ began (polls 1)
+    ∷ loaded_slot Writer false ∷ stored_head (5 ∷ 6 ∷ []) ∷ began (consumes (5 ∷ 6 ∷ [])) ∷ knew_empty ∷ loaded_tail 2 ∷ began (polls 1) ∷ []
+unfolding tickets_in
+lines_read = refl
+
+lines_written : lines_in Writer written_by_handle
+    ≡ gave [] ∷ loaded_slot Reader false ∷ stored_tail (5 ∷ 6 ∷ []) ∷ loaded_closed false ∷ gave (5 ∷ 6 ∷ []) ∷ loaded_closed false ∷ began try_fills_with ∷ []
+unfolding tickets_in
+lines_written = refl
 
 -- a byte is found before it is published
 early : AreInOrder (by Writer (stored_tail (5 ∷ [])) ∷ by Reader (loaded_tail 1) ∷ []) → ⊥

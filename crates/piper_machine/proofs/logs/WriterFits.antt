@@ -4,7 +4,7 @@ use Rattle.std.proofs.lemmas.Bool.Decides.{nat_tests}
 use Rattle.piper_machine.specs.Types.{Answer, Action, Found, WritePoint, Reader, Writer}
 use Rattle.piper_protocol.specs.Index.{offset_of}
 use Rattle.piper_protocol.specs.Table.{Next, ends_fill, moved_in, tail_store, write_action, write_after}
-use Rattle.piper_machine.specs.logs.Calling.{Calling, calling_after, may_wait_after, no_calling, withdrawn}
+use Rattle.piper_machine.specs.logs.Calling.{Calling, calling_after, may_wait_after, no_calling}
 use Rattle.piper_machine.specs.logs.Line.{met_head, met_tail, Opening, polls, try_fills, try_fills_with, poll_fills_bytes, poll_fills, produces, closes, drops, Line, began, loaded_head, loaded_tail, loaded_closed, stored_head, stored_tail, stored_closed, loaded_slot, swapped, knew_empty, took, gave, failed, drew, refused, yielded, woke}
 use Rattle.piper_machine.specs.logs.OneList.{FindsCount, Words, words_after}
 use Rattle.piper_machine.specs.logs.Reading.{ReaderAt}
@@ -177,7 +177,7 @@ module _ (capacity : ℕ) (r : ReaderAt) where
     empties-fit line action e fit = subst (λ (a : Action). Fits capacity r (writer_empties capacity a line w) (words_after line s)) (sym e) fit
 
     -- before it registers
-    withdraws-fit : (slot : Option ℕ) → slot ≡ None → Fits capacity r (record w { calling = withdrawn w.calling; may_wait = false }) (record s { writer_slot = slot })
+    withdraws-fit : (slot : Option ℕ) → slot ≡ None → Fits capacity r (record w { may_wait = false }) (record s { writer_slot = slot })
     withdraws-fit slot none = record {
       counts = fits.counts;
       reads = fits.reads;
@@ -196,12 +196,12 @@ module _ (capacity : ℕ) (r : ReaderAt) where
       | inl e ↦ close-fits false e (subst (λ (v : WriterAt). Fits capacity r (at_rest (record v { may_wait = w.may_wait })) (record s { is_closed = true })) (sym (shuts-not w.point w e)) closed-fits)
       | inr e ↦ close-fits true e (subst (λ (v : WriterAt). Fits capacity r (at_rest (record v { may_wait = w.may_wait })) (record s { is_closed = true })) (sym (shuts w.point w e)) shut-fits)
     ]
-    writer-fits (loaded_slot side true) next finds = keeps-on w s w.point (calling_after (loaded_slot side true) w.calling) w.source fits.writes.stores fits.writes.draws fits
-    writer-fits (loaded_slot Reader false) next finds = elim next.0 [
+    writer-fits (loaded_slot side true) next finds = fits
+    writer-fits (loaded_slot Reader false) next finds = elim next [
       | inl to ↦ empties-fit (loaded_slot Reader false) (Action.Take Reader) to.0 (keeps-fit (loaded_slot Reader false) (Action.Take Reader) to.0 (λ x. to.1) refl refl refl rest-fits)
       | inr may ↦ absurd (let no : Reader ≡ Writer = may.0 in cc)
     ]
-    writer-fits (loaded_slot Writer false) next finds = elim next.0 [
+    writer-fits (loaded_slot Writer false) next finds = elim next [
       | inl to ↦ empties-fit (loaded_slot Writer false) (Action.Take Writer) to.0 (keeps-fit (loaded_slot Writer false) (Action.Take Writer) to.0 (λ x. to.1) refl refl refl (share-fits false (record s { reader_slot = s.reader_slot; writer_slot = s.writer_slot }) refl refl (record { closed = fits.shares.closed; reader_rests = fits.shares.reader_rests; writer_rests = λ x. none-of s.writer_slot finds })))
       | inr may ↦ empties-fit (loaded_slot Writer false) Action.Register may.1 (withdraws-fit s.writer_slot (none-of s.writer_slot finds))
     ]

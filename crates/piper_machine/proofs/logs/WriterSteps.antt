@@ -246,7 +246,7 @@ module _ (capacity : ℕ) (r : ReaderAt) (k : Chance) (acts : List DestAct) wher
           (l, sources, subst (λ (es : List Event). Leads capacity p p es) (sym (stays capacity (room_to capacity w) w.point false may.1)) (leads-none capacity p))
 
       pub finds-empty : (side : Side) → IsWriterNext capacity (loaded_slot side false) w → Finds (loaded_slot side false) s → Fits capacity r (writer_after capacity (loaded_slot side false) w) s → WriterLeads (loaded_slot side false)
-      finds-empty side next finds = elim next.0 [
+      finds-empty side next finds = elim next [
         | inl to ↦ at-action (loaded_slot side false) (Action.Take side) to.0 (finds-none side to finds)
         | inr may ↦ at-action (loaded_slot side false) Action.Register may.1 (finds-own-empty side may)
       ]
@@ -254,7 +254,7 @@ module _ (capacity : ℕ) (r : ReaderAt) (k : Chance) (acts : List DestAct) wher
       pub knows-empty : IsWriterNext capacity knew_empty w → Fits capacity r (writer_after capacity knew_empty w) s → WriterLeads knew_empty
       knows-empty next after l sources =
           let p : Pipe = at_first l sources in
-          let none : s.writer_slot ≡ None = fits.shares.writer_rests next.3 in (
+          let none : s.writer_slot ≡ None = fits.shares.writer_rests next.2 in (
             l,
             sources,
             keeps knew_empty (Action.Take Writer) l l sources sources next.0 (λ x. absurd cc) (λ x. absurd cc)

@@ -12,8 +12,6 @@ pub record Calling : Type 0 where
   pub draw : Option Bool
   -- whether its waker was registered, or memory for that was refused, if it has tried
   pub granted : Option Bool
-  -- its last access found the slot filled that it is to empty
-  pub is_looking : Bool
 
 abbrev pub no_calling : Calling
 no_calling = record {
@@ -21,7 +19,6 @@ no_calling = record {
   taken = None;
   draw = None;
   granted = None;
-  is_looking = false;
 }
 
 abbrev pub handed_over : Option ℕ → Calling
@@ -29,21 +26,14 @@ handed_over waker = record no_calling { handed = waker }
 
 -- what a line leaves of this
 abbrev pub calling_after : Line → Calling → Calling
-calling_after (loaded_slot side true) c = record c { is_looking = true }
-calling_after (loaded_slot side false) c = record c { taken = None; is_looking = false }
-calling_after (swapped side old None) c = record c { taken = old; is_looking = false }
-calling_after (swapped side old (Some waker)) c =
-    record c { granted = Some true; is_looking = false }
+calling_after (loaded_slot side false) c = record c { taken = None }
+calling_after (swapped side old None) c = record c { taken = old }
+calling_after (swapped side old (Some waker)) c = record c { granted = Some true }
 calling_after refused c = record c { granted = Some false }
 calling_after (drew is_drawn) c = record c { draw = Some is_drawn }
 calling_after knew_empty c = record c { taken = None }
 calling_after (woke waker) c = record c { taken = None }
 calling_after line c = c
-
--- what is left of it after a side that is about to register found its own slot empty, or emptied
--- it: the waker that comes out is not one to be called
-abbrev pub withdrawn : Calling → Calling
-withdrawn c = record c { is_looking = false }
 
 -- what the table is told of a line that both sides have
 abbrev pub told_by : Line → Found

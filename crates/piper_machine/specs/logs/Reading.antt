@@ -5,7 +5,7 @@ use Rattle.piper_protocol.specs.declared.table.Purpose.TheVariants.{Poll, Copy}
 use Rattle.piper_protocol.specs.Index.{offset_of}
 use Rattle.piper_protocol.specs.Table.{read_action, read_after, reader_looks_for}
 use Rattle.piper_machine.specs.logs.Line.{Opening, Line, polls, try_drains, try_drains_with, poll_drains_bytes, poll_drains, consumes, drops, began, loaded_tail, loaded_closed, stored_head, stored_closed, loaded_slot, swapped, met_tail, knew_empty, took, failed, drew, refused, yielded, woke}
-use Rattle.piper_machine.specs.logs.Calling.{Calling, no_calling, handed_over, calling_after, withdrawn, may_wait_after, told_by}
+use Rattle.piper_machine.specs.logs.Calling.{Calling, no_calling, handed_over, calling_after, may_wait_after, told_by}
 
 pub record ReaderAt : Type 0 where
   pub point : ReadPoint
@@ -102,16 +102,13 @@ reader_stepped capacity line r =
 -- a line by which a slot was found empty, or emptied: before the reader registers it is no step of
 -- the table
 abbrev pub reader_empties : ℕ → Action → Line → ReaderAt → ReaderAt
-reader_empties capacity Action.Register line r = record r {
-  calling = withdrawn r.calling;
-  may_wait = may_wait_after Reader line r.may_wait;
-}
+reader_empties capacity Action.Register line r =
+    record r { may_wait = may_wait_after Reader line r.may_wait }
 reader_empties capacity action line r = reader_stepped capacity line r
 
 abbrev pub reader_after : ℕ → Line → ReaderAt → ReaderAt
 reader_after capacity (began opening) r = reader_begun opening r
-reader_after capacity (loaded_slot side true) r =
-    record r { calling = calling_after (loaded_slot side true) r.calling }
+reader_after capacity (loaded_slot side true) r = r
 reader_after capacity (loaded_slot side false) r =
     reader_empties capacity (read_action r.point) (loaded_slot side false) r
 reader_after capacity (swapped side old None) r =
@@ -172,15 +169,14 @@ IsReaderNext capacity (stored_head bytes) r =
     (read_action r.point ≡ Action.StoreHead (length bytes)) × (bytes ≡ r.given)
 IsReaderNext capacity stored_closed r = (read_action r.point ≡ Action.StoreClosed false)
 -- where the slot is found filled, the exchange is still to come
-IsReaderNext capacity (loaded_slot side is_filled) r =
-    (IsToEmpty side r ⊎ MayWithdraw side r) × (r.calling.is_looking ≡ false)
+IsReaderNext capacity (loaded_slot side is_filled) r = IsToEmpty side r ⊎ MayWithdraw side r
 IsReaderNext capacity (swapped side old None) r = IsToEmpty side r ⊎ MayWithdraw side r
 IsReaderNext capacity (swapped side old (Some waker)) r =
     (side ≡ Reader) × (read_action r.point ≡ Action.Register) × (r.calling.handed ≡ Some waker)
     × (r.calling.granted ≡ None)
 IsReaderNext capacity knew_empty r =
     (read_action r.point ≡ Action.Take Reader) × HasDrawn r.point r.calling.draw
-    × (r.calling.is_looking ≡ false) × (r.may_wait ≡ false)
+    × (r.may_wait ≡ false)
 IsReaderNext capacity (took bytes) r =
     (read_action r.point ≡ Action.CallDestination)
     × MayTake (min (shown capacity r) MOST_A_ROUND) r.size (length bytes)

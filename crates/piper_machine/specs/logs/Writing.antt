@@ -5,7 +5,7 @@ use Rattle.piper_protocol.specs.declared.table.Purpose.TheVariants.{Poll, Copy}
 use Rattle.piper_protocol.specs.Index.{offset_of}
 use Rattle.piper_protocol.specs.Table.{ends_fill, write_action, write_after}
 use Rattle.piper_machine.specs.logs.Line.{Opening, Line, polls, try_fills, try_fills_with, poll_fills_bytes, poll_fills, produces, closes, drops, began, loaded_head, loaded_closed, stored_tail, stored_closed, loaded_slot, swapped, met_head, knew_empty, gave, failed, drew, refused, yielded, woke}
-use Rattle.piper_machine.specs.logs.Calling.{Calling, no_calling, handed_over, calling_after, withdrawn, may_wait_after, told_by}
+use Rattle.piper_machine.specs.logs.Calling.{Calling, no_calling, handed_over, calling_after, may_wait_after, told_by}
 
 -- what the open fill takes bytes from: a source of the caller's own, these bytes, or nothing that
 -- is left
@@ -159,16 +159,13 @@ writer_stepped capacity line w =
 -- a line by which a slot was found empty, or emptied: before the writer registers it is no step of
 -- the table
 abbrev pub writer_empties : ℕ → Action → Line → WriterAt → WriterAt
-writer_empties capacity Action.Register line w = record w {
-  calling = withdrawn w.calling;
-  may_wait = may_wait_after Writer line w.may_wait;
-}
+writer_empties capacity Action.Register line w =
+    record w { may_wait = may_wait_after Writer line w.may_wait }
 writer_empties capacity action line w = writer_stepped capacity line w
 
 abbrev pub writer_after : ℕ → Line → WriterAt → WriterAt
 writer_after capacity (began opening) w = writer_begun opening w
-writer_after capacity (loaded_slot side true) w =
-    record w { calling = calling_after (loaded_slot side true) w.calling }
+writer_after capacity (loaded_slot side true) w = w
 writer_after capacity (loaded_slot side false) w =
     writer_empties capacity (write_action w.point) (loaded_slot side false) w
 writer_after capacity (swapped side old None) w =
@@ -237,15 +234,14 @@ IsWriterNext capacity (stored_tail bytes) w =
 IsWriterNext capacity stored_closed w =
     (write_action w.point ≡ Action.StoreClosed false) ⊎ (write_action w.point ≡ Action.StoreClosed true)
 -- where the slot is found filled, the exchange is still to come
-IsWriterNext capacity (loaded_slot side is_filled) w =
-    (IsToEmpty side w ⊎ MayWithdraw side w) × (w.calling.is_looking ≡ false)
+IsWriterNext capacity (loaded_slot side is_filled) w = IsToEmpty side w ⊎ MayWithdraw side w
 IsWriterNext capacity (swapped side old None) w = IsToEmpty side w ⊎ MayWithdraw side w
 IsWriterNext capacity (swapped side old (Some waker)) w =
     (side ≡ Writer) × (write_action w.point ≡ Action.Register) × (w.calling.handed ≡ Some waker)
     × (w.calling.granted ≡ None)
 IsWriterNext capacity knew_empty w =
     (write_action w.point ≡ Action.Take Writer) × HasDrawn w.point w.calling.draw
-    × (w.calling.is_looking ≡ false) × (w.may_wait ≡ false)
+    × (w.may_wait ≡ false)
 IsWriterNext capacity (gave bytes) w =
     (write_action w.point ≡ Action.CallSource) × MayGive (most_lent capacity w) w.source bytes
 IsWriterNext capacity failed w =

@@ -1,7 +1,7 @@
 //! What is left of a side that has left.
 ghost use Rattle.std.specs.Prelude.{◌≡◌, true, false};
-ghost use Rattle.piper_ring.specs.Log.{IsLogOf};
-ghost use Rattle.piper_ring.specs.Told.{tells_true};
+ghost use Rattle.piper_protocol.specs.Told.{are_calls, moved_in};
+ghost use Rattle.piper_ring.specs.Log.{IsLogOf, is_noted, tells_true};
 
 use crate::ends::cells::LeftWakers;
 use crate::ends::slots::reader::ReadRegistrations;
@@ -31,6 +31,8 @@ pub struct FinishedReader {
     ghost of_one_ring: { slots.names ≡ mark.consumed.names },
     ghost own_log: { IsLogOf slots.names true log },
     ghost right: { tells_true log ≡ true },
+    ghost calls: { are_calls log.lines ≡ true },
+    ghost noted: { is_noted log ≡ true },
     ghost after_its_close: { slots.stored.closed ≡ true },
 }
 
@@ -46,5 +48,8 @@ pub struct FinishedWriter {
     ghost of_one_ring: { slots.names ≡ mark.names },
     ghost own_log: { IsLogOf slots.names false log },
     ghost right: { tells_true log ≡ true },
+    ghost calls: { are_calls log.lines ≡ true },
+    ghost noted: { is_noted log ≡ true },
+    ghost moved: { moved_in log.lines ≡ mark.bytes },
     ghost after_its_close: { (mark.shut ≡ true) × (slots.stored.closed ≡ true) },
 }

@@ -68,6 +68,7 @@ pub fn open_with_slots<T>(
         × FreshSlots r.end.ring.names r.slots) }
     ensures writer { IfOk result (λ (_, w). FreshWriteEnd capacity w.end
         × FreshSlots w.end.ring.names w.slots) }
+    ensures logs { IfOk result (λ (r, w). (r.log.lines ≡ []) × (w.log.lines ≡ [])) }
     ensures refused { IfErr result HasFailed }
 {
     let (parts, space) = claim(&alloc, capacity)?.part(capacity);

@@ -60,6 +60,7 @@ impl ReadEnd {
         ensures value { result ≡ self.now.capacity }
         ensures bounds { (0 < result) × (2 * result < 2 ^ 64) }
         ensures known { length self.now.known ≤ result }
+        ensures ring { self.now.capacity ≡ self.now.ring.names.capacity }
     {
         self.parts.indices.capacity()
     }

@@ -197,7 +197,7 @@ impl tokio::io::AsyncWrite for CompatWriter {
         }
     }
 
-    /// Ready at once, always with `Ok(())`: what was written is published.
+    /// Ready at once, always with `Ok(())`. It changes nothing: a write holds no byte back.
     fn poll_flush(&mut self, cx: &mut Context<'_>) -> Poll<io::Result<()>>
         ensures answer { result ≡ Poll.Ready (Ok (record {})) }
         ensures bytes { Gave (writing self.old) [] (writing self.new) }

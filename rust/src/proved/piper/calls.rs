@@ -75,7 +75,7 @@ impl Reader {
         ensures polled { ReaderPolled result self.old self.new cx.old cx.new } */
     {
         if !self.side.look_first(Purpose::Poll) {
-            match self.look_waiting(Purpose::Poll, cx) {
+            match Reader::look_waiting(&mut self.side, &self.source, Purpose::Poll, cx) {
                 Ok(Look::Ready) => {}
                 Ok(Look::Closed) => return Poll::Ready(Ok(false)),
                 Ok(Look::NotReady) => return Poll::Pending,
@@ -114,7 +114,7 @@ impl Reader {
         } }
         ensures woken { Consumes self.old self.new amt } */
     {
-        self.side.begin(Point::Reader(ReadPoint::StoreHead(amt, AfterRead::Answer)));
+        self.side.begin_consume(amt);
         self.side.store_head(amt);
         wake_other(&mut self.side);
     }
@@ -145,7 +145,7 @@ impl Reader {
             source: _,
             rng: _,
         } = self;
-        side.begin(Point::Reader(ReadPoint::StoreClosed));
+        side.begin_drop();
         // Closed is stored and the slot emptied in one, since between these two steps there is no
         // handle. When the waker is called the memory may be freed.
         let Finished { side, taken, left } = side.finish();
@@ -223,7 +223,12 @@ impl Writer {
         match self.side.look_first(Purpose::Poll) {
             Look::Ready => {}
             Look::Closed => return Poll::Ready(Ok(false)),
-            Look::NotReady => match self.look_waiting(Purpose::Poll, cx) {
+            Look::NotReady => match Writer::look_waiting(
+                &mut self.side,
+                &self.source,
+                Purpose::Poll,
+                cx,
+            ) {
                 Ok(Look::Ready) => {}
                 Ok(Look::Closed) => return Poll::Ready(Ok(false)),
                 Ok(Look::NotReady) => return Poll::Pending,
@@ -254,7 +259,7 @@ impl Writer {
         } }
         ensures woken { Produces self.old self.new } */
     {
-        self.side.begin(Point::Writer(WritePoint::StoreTail(n, AfterWrite::Answer)));
+        self.side.begin_produce(n);
         self.side.store_tail(n);
         wake_other(&mut self.side);
     }
@@ -271,7 +276,7 @@ impl Writer {
         ensures closes { Closes self.old self.new result cx.old cx.new } */
     {
         let _unused = cx;
-        self.side.begin(Point::Writer(WritePoint::StoreClosed(AfterWrite::WakeWriter)));
+        self.side.begin_close(AfterWrite::WakeWriter);
         self.side.store_closed();
         wake_waiting(&mut self.side);
         wake_own(&mut self.side);
@@ -304,7 +309,7 @@ impl Writer {
             source: _,
             rng: _,
         } = self;
-        side.begin(Point::Writer(WritePoint::StoreClosed(AfterWrite::Drop)));
+        side.begin_close(AfterWrite::Drop);
         // As the reader's.
         let Finished { side, taken, left } = side.finish();
         let_left_go(left);

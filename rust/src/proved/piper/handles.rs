@@ -1,4 +1,6 @@
 //! The two handles of a pipe. Each is a side of the ring, and what it waits and draws with.
+/* ghost use Rattle.piper_ring.specs.Log.{Rests}; */
+
 pub(crate) mod draws;
 mod ends;
 mod opening;
@@ -19,6 +21,7 @@ pub struct Reader {
     /// What its task waits at. A waker of it is called when it lies in the slot no more.
     pub(crate) source: Source,
     pub(crate) rng: Pcg32,
+    /* ghost rests: { Rests side.log }, */
 }
 
 /// The writing side of a pipe.
@@ -31,4 +34,5 @@ pub struct Writer {
     /// What its task waits at. A waker of it is called when it lies in the slot no more.
     pub(crate) source: Source,
     pub(crate) rng: Pcg32,
+    /* ghost rests: { Rests side.log }, */
 }

@@ -4,6 +4,7 @@
 
 pub mod answer;
 pub mod indices;
+pub mod log;
 pub mod memory;
 pub mod reported;
 pub mod table;

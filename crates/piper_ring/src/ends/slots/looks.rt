@@ -2,7 +2,8 @@
 //! not, why. A call that waits registers between `look_first` and `look_again`.
 ghost use Rattle.std.specs.Prelude.{◌≡◌, ◌+◌, ◌<◌, ◌≤◌, ◌++◌, IsTrue, IsFalse, length, not, true, false};
 ghost use Rattle.piper_protocol.specs.Table.{goes_on, reader_found, reader_found_none, reader_looked, writer_found, writer_found_none};
-ghost use Rattle.piper_ring.specs.Log.{Comes, Opened, now};
+ghost use Rattle.piper_protocol.specs.Told.{is_undrawn};
+ghost use Rattle.piper_ring.specs.Log.{Comes, IsUndrawn, Opened, Rests, now};
 
 use crate::ends::reader::ReadEnd;
 use crate::ends::slots::side::Side;
@@ -26,6 +27,9 @@ impl<T> Side<ReadEnd, T> {
     /// A call begins, and looks for a byte that is known, or else for one that was published since.
     /// Returns whether there is one.
     pub fn look_first(&mut self, purpose: Purpose) -> bool
+        requires undrawn { is_undrawn purpose ≡ true }
+        requires rests { Rests self.old.log }
+        ensures undrawn { IsUndrawn self.new.log }
         ensures log { Opened (looks_at self.old.end purpose)
             (goes_on (Point.Reader (reader_looked (not result) purpose))) self.old.log self.new.log }
         ensures some { IsTrue result → HasBytes self.new.end }
@@ -47,6 +51,7 @@ impl<T> Side<ReadEnd, T> {
     pub fn look_again(&mut self, purpose: Purpose) -> Look
         requires at { now self.old.log ≡ goes_on (Point.Reader (ReadPoint.LookClosed purpose)) }
         requires none { length self.old.end.known ≡ 0 }
+        ensures undrawn { IsUndrawn self.new.log }
         ensures log { Comes (look_next result purpose (Point.Reader (reader_found purpose)))
             self.old.log self.new.log }
         ensures found { ReaderSees result self.new.end }
@@ -70,7 +75,9 @@ impl<T> Side<ReadEnd, T> {
     /// The look of a call that doesn't wait.
     #[inline(always)]
     pub fn look_now(&mut self, purpose: Purpose) -> Look
-        requires { reader_found_none purpose ≡ ReadPoint.LookClosed purpose }
+        requires undrawn { is_undrawn purpose ≡ true }
+        requires rests { Rests self.old.log }
+        requires at_once { reader_found_none purpose ≡ ReadPoint.LookClosed purpose }
         ensures log { Opened (looks_at self.old.end purpose)
             (look_next result purpose (Point.Reader (reader_found purpose)))
             self.old.log self.new.log }
@@ -91,6 +98,9 @@ impl<T> Side<WriteEnd, T> {
     /// A call begins, and looks whether the pipe is closed, and if it is not, for room that is
     /// known, or else for room that was given back since.
     pub fn look_first(&mut self, purpose: Purpose) -> Look
+        requires undrawn { is_undrawn purpose ≡ true }
+        requires rests { Rests self.old.log }
+        ensures undrawn { IsUndrawn self.new.log }
         ensures log { Opened (Point.Writer (WritePoint.LookClosed purpose))
             (first_next result purpose) self.old.log self.new.log }
         ensures found { WriterSees result self.new.end }
@@ -113,6 +123,7 @@ impl<T> Side<WriteEnd, T> {
     pub fn look_again(&mut self, purpose: Purpose) -> Look
         requires at { now self.old.log ≡ goes_on (Point.Writer (WritePoint.LookHeadAgain purpose)) }
         requires none { WriterSees Look.NotReady self.old.end }
+        ensures undrawn { IsUndrawn self.new.log }
         ensures log { Comes (look_next result purpose (Point.Writer (writer_found purpose)))
             self.old.log self.new.log }
         ensures found { WriterSees result self.new.end }
@@ -135,7 +146,9 @@ impl<T> Side<WriteEnd, T> {
     /// The look of a call that doesn't wait.
     #[inline(always)]
     pub fn look_now(&mut self, purpose: Purpose) -> Look
-        requires { writer_found_none purpose ≡ WritePoint.LookHeadAgain purpose }
+        requires undrawn { is_undrawn purpose ≡ true }
+        requires rests { Rests self.old.log }
+        requires at_once { writer_found_none purpose ≡ WritePoint.LookHeadAgain purpose }
         ensures log { Opened (Point.Writer (WritePoint.LookClosed purpose))
             (look_next result purpose (Point.Writer (writer_found purpose)))
             self.old.log self.new.log }

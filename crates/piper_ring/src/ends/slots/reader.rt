@@ -1,8 +1,9 @@
 //! The reader's side: how it waits in its slot, and wakes whoever waits in the writer's.
-ghost use Rattle.std.specs.Prelude.{◌≡◌, ◌+◌, ◌<◌, ◌≤◌, ◌++◌, [], length, take, drop, None, true, false, is_some, IsTrue, IsFalse};
-ghost use Rattle.piper_protocol.specs.OneList.{AreOneList, loaded_closed, loaded_tail, stored_head};
+ghost use Rattle.std.specs.Prelude.{◌≡◌, ◌+◌, ◌<◌, ◌≤◌, ◌++◌, [], length, take, drop, None, true, false, is_some, IsTrue, IsFalse, IfOk, min};
+ghost use Rattle.piper_protocol.specs.OneList.{loaded_closed, loaded_tail, stored_head};
 ghost use Rattle.piper_protocol.specs.Table.{goes_on};
-ghost use Rattle.piper_ring.specs.Log.{Comes, HasLeft, accesses_of, did, leaves_at, next, now, then, told};
+ghost use Rattle.piper_protocol.specs.Told.{AreTrueLogs};
+ghost use Rattle.piper_ring.specs.Log.{Comes, HasLeft, Rests, began, did, found_of, has_met, leaves_at, made, next, now, then, told};
 
 use crate::ends::finished::{Finished, FinishedReader};
 use crate::ends::reader::ReadEnd;
@@ -14,7 +15,7 @@ use crate::ring::marks::{LastReadMark, WriteMark};
 use crate::ring::memory::WRITER_SLOT;
 use crate::ring::slots::{SlotWords, WaiterState};
 use piper_cells::lent_space::Lease;
-use piper_protocol::table::{self, Action, Found};
+use piper_protocol::table::{self, Action, AfterRead, Found, MOST_A_ROUND, Point, ReadPoint};
 
 /// The reader's side of a ring whose sides can wait.
 pub type ReadSide<T> = Side<ReadEnd, T>;
@@ -38,6 +39,10 @@ impl SlotEnd for ReadEnd {
     ghost stored_of = { λ e. as_stored [] (length e.taken) false };
 
     ghost moved_of = { λ e. e.taken };
+
+    ghost seen_of = { λ e. length e.taken + length e.known };
+
+    ghost shut_of = { λ e. false };
 
     ghost tells = { λ m z s. (m.names ≡ z) × (m.bytes ≡ s.bytes) × (m.shut ≡ s.closed) };
 
@@ -109,6 +114,44 @@ impl<T> Side<ReadEnd, T> {
         is_closed
     }
 
+    /// A call begins that gives up the first `n` known bytes.
+    #[inline(always)]
+    pub fn begin_consume(&mut self, n: usize)
+        requires there { n ≤ in_one_piece self.old.end }
+        requires rests { Rests self.old.log }
+        ensures { Becomes self.old self.new self.old.end self.old.slots
+            (began (Point.Reader (ReadPoint.StoreHead n AfterRead.Answer)) self.old.log) }
+    {
+        // A ring holds at least one byte.
+        let _ = self.end.capacity();
+        self.begin(Point::Reader(ReadPoint::StoreHead(n, AfterRead::Answer)));
+    }
+
+    /// A call begins by which this side leaves.
+    #[inline(always)]
+    pub fn begin_drop(&mut self)
+        requires { Rests self.old.log }
+        ensures { Becomes self.old self.new self.old.end self.old.slots
+            (began (Point.Reader ReadPoint.StoreClosed) self.old.log) }
+    {
+        self.begin(Point::Reader(ReadPoint::StoreClosed));
+    }
+
+    /// A destination was called with known bytes: it took so many, or failed.
+    #[inline(always)]
+    pub fn note_taken<F>(&mut self, moved: &Result<usize, F>)
+        requires turn { next self.old.log ≡ Action.CallDestination }
+        requires within { IfOk moved.now (λ n. n ≤ min MOST_A_ROUND (in_one_piece self.old.end)) }
+        ensures { Becomes self.old self.new self.old.end self.old.slots
+            (made (found_of moved.now) self.old.log) }
+    {
+        let _ = self.end.capacity();
+        match moved {
+            Ok(n) => self.log.note(Action::CallDestination, Found::Moved(*n)),
+            Err(_) => self.log.note(Action::CallDestination, Found::Failed),
+        }
+    }
+
     /// Takes the first `n` known bytes off, and stores the head past them: their places are the
     /// writer's again.
     #[inline(always)]
@@ -177,10 +220,11 @@ impl<T> Side<ReadEnd, T> {
     }
 
     /// `meet` of both ends, held by one thread. And for each side that waits, and since whose
-    /// registration the other stored something and looked, the last ticket was taken. What both did
-    /// is one list, in which each access found what the last one before it left.
+    /// registration the other stored something and looked, the last ticket was taken. What both logs
+    /// say is true, and their accesses are one list.
     pub fn meet(&mut self, writer: &mut WriteSide<T>)
-        requires { writer.old.end.ring ≡ self.old.end.ring }
+        requires ring { writer.old.end.ring ≡ self.old.end.ring }
+        requires rest { Rests self.old.log × Rests writer.old.log }
         ensures ends { EndsMeet self.old.end self.new.end writer.old.end writer.new.end }
         ensures reader { IsReaderPending self.old.end self.old.slots →
             ReaderHasNews self.old.end writer.old.slots →
@@ -188,11 +232,14 @@ impl<T> Side<ReadEnd, T> {
         ensures writer { IsWriterPending writer.old.end writer.old.slots →
             WriterHasNews writer.old.end self.old.slots →
             self.old.slots.taken ≡ writer.old.slots.tickets }
-        ensures list { AreOneList (accesses_of self.old.log) (accesses_of writer.old.log) }
+        ensures logs { AreTrueLogs self.old.end.capacity self.old.log.lines writer.old.log.lines
+            self.old.end.taken writer.old.end.sent }
         ensures capacity { (writer.old.end.capacity ≡ self.old.end.capacity)
             × (0 < self.old.end.capacity) }
-        ensures rest { Becomes self.old self.new self.new.end self.old.slots self.old.log
-            × Becomes writer.old writer.new writer.new.end writer.old.slots writer.old.log }
+        ensures rest { Becomes self.old self.new self.new.end self.old.slots
+            (has_met (length writer.new.end.sent) self.old.log)
+            × Becomes writer.old writer.new writer.new.end writer.old.slots
+            (has_met (length self.new.end.taken) writer.old.log) }
     {
         // A ring holds at least one byte.
         let _ = self.end.capacity();
@@ -200,5 +247,9 @@ impl<T> Side<ReadEnd, T> {
         writer.meet_slot(&mut self.slots);
         self.meet_log(&mut writer.log);
         self.end.meet(&mut writer.end);
+        let consumed = self.end.mark();
+        let published = writer.end.mark();
+        self.log.meet(&consumed, &published);
+        writer.log.meet(&consumed, &published);
     }
 }

@@ -4,7 +4,8 @@
 /* ghost use Rattle.piper_protocol.specs.Table.{ends, goes_on}; */
 /* ghost use Rattle.piper_ring.specs.Log.{Comes, found_of, made, next, now}; */
 /* ghost use Rattle.piper_ring.specs.Looks.{HasRoom}; */
-/* ghost use Rattle.piper_ring.specs.SlotsView.{WaitsAsBefore}; */
+/* ghost use Rattle.piper_ring.specs.SlotsView.{IsWriterAtRest, WaitsAsBefore}; */
+/* ghost use Rattle.piper.specs.Called.{CallsTaken}; */
 /* ghost use Rattle.piper.specs.CopyAnswers.{OnMemory, CountsFailure, IsAtOnce, of_std, of_bytes}; */
 /* ghost use Rattle.piper.specs.Fills.{FillRounds, Fills, FoundRoom, OnNoCount, most_of_round}; */
 /* ghost use Rattle.piper.specs.Like.{Counts, passed}; */
@@ -16,12 +17,12 @@ use crate::proved::piper::handles::Writer;
 use crate::proved::piper::handles::draws::{WAITING, draw_yield};
 use crate::proved::piper::handles::waiting::wake_other;
 use crate::proved::piper::like::{ReadBytes, ReadLike, StdRead, StdReader};
-use crate::shim::futures::task::{Context, Poll};
+use crate::shim::futures::task::{Context, Poll, Waker};
 use crate::proved::piper_protocol::answer::Answer;
 use crate::proved::piper_protocol::table::{
     Action, AfterWrite, Form, Found, MOST_A_ROUND, Point, Purpose, WritePoint,
 };
-use crate::proved::piper_ring::{Look, OutOfMemory};
+use crate::proved::piper_ring::{Look, OutOfMemory, WriteSide};
 
 impl Writer {
     /* ghost use Rattle.piper.specs.Handles.{SameWriter}; */
@@ -167,7 +168,12 @@ impl Writer {
         match self.side.look_first(Purpose::Copy(WAITING)) {
             Look::Ready => {}
             Look::Closed => return Poll::Ready(Ok(0)),
-            Look::NotReady => match self.look_waiting(Purpose::Copy(WAITING), cx) {
+            Look::NotReady => match Writer::look_waiting(
+                &mut self.side,
+                &self.source,
+                Purpose::Copy(WAITING),
+                cx,
+            ) {
                 Ok(Look::Ready) => {}
                 Ok(Look::Closed) => return Poll::Ready(Ok(0)),
                 Ok(Look::NotReady) => return Poll::Pending,
@@ -177,7 +183,7 @@ impl Writer {
         if draw_yield(&mut self.side, &mut self.rng, cx) {
             return Poll::Pending;
         }
-        self.fill_rounds(WAITING, source)
+        fill_rounds(&mut self.side, WAITING, source)
     }
 
     // The fill without a context: the look, and the rounds.
@@ -197,75 +203,83 @@ impl Writer {
             × SameWriter WaitsAsBefore self.old self.new } */
     {
         match self.side.look_now(Purpose::Copy(Form::Try)) {
-            Look::Ready => self.fill_rounds(Form::Try, source),
+            Look::Ready => fill_rounds(&mut self.side, Form::Try, source),
             Look::Closed => Poll::Ready(Ok(0)),
             Look::NotReady => Poll::Pending,
         }
     }
+}
 
-    // Publishes what the source gives in rounds, each in one piece, until there is no room, it
-    // gives none, or the pipe is seen closed.
-    #[inline(always)]
-    fn fill_rounds<R: ReadLike>(
-        &mut self,
-        form: Form,
-        source: &mut R,
-    ) -> Poll<Result<usize, CopyError<R::Error>>>
-        /* requires at { now self.old.side.log ≡ goes_on (Point.Writer (WritePoint.CallSource form 0)) }
-        requires is_open { (self.old.side.end.shut ≡ false) × (self.old.side.end.saw ≡ false) }
-        requires some { HasRoom self.old.side.end }
-        ensures ran { Comes (ends (Point.Writer WritePoint.Idle) (copy_answer form result))
-            self.old.side.log self.new.side.log }
-        ensures filled { FillRounds R.gives R.is_dry R.fails result
-            self.old.side.end self.new.side.end source.old source.new }
-        ensures failures { CountsFailure result (R.failures source.old) (R.failures source.new) }
-        ensures open { OnNoCount result (self.new.side.end.saw ≡ false) }
-        ensures found { FoundRoom result self.new.side.end }
-        ensures ready { IsAtOnce result }
-        ensures rest { WakesReader self.old self.new × SameWriter WaitsAsBefore self.old self.new } */
-    {
-        let mut moved = 0;
-        'rounds: loop {
-            let asks = source.asks();
-            if asks == 0 {
-                self.side.note(Action::CallSource, Found::Moved(0));
-                return Poll::Ready(Ok(moved));
-            }
-            let n = match self.fill_round(asks, source) {
-                Ok(n) => n,
-                Err(error) => return Poll::Ready(Err(CopyError::Like(error))),
-            };
-            if n == 0 {
-                return Poll::Ready(Ok(moved));
-            }
-            moved += n;
-            if self.side.load_closed() {
-                return Poll::Ready(Ok(moved));
-            }
-            self.side.store_tail(n);
-            wake_other(&mut self.side);
+// Publishes what the source gives in rounds, each in one piece, until there is no room, it
+// gives none, or the pipe is seen closed.
+#[inline(always)]
+fn fill_rounds<R: ReadLike>(
+    side: &mut WriteSide<Waker>,
+    form: Form,
+    source: &mut R,
+) -> Poll<Result<usize, CopyError<R::Error>>>
+    /* requires at { now side.old.log ≡ goes_on (Point.Writer (WritePoint.CallSource form 0)) }
+    requires is_open { (side.old.end.shut ≡ false) × (side.old.end.saw ≡ false) }
+    requires some { HasRoom side.old.end }
+    ensures ran { Comes (ends (Point.Writer WritePoint.Idle) (copy_answer form result))
+        side.old.log side.new.log }
+    ensures filled { FillRounds R.gives R.is_dry R.fails result
+        side.old.end side.new.end source.old source.new }
+    ensures failures { CountsFailure result (R.failures source.old) (R.failures source.new) }
+    ensures open { OnNoCount result (side.new.end.saw ≡ false) }
+    ensures found { FoundRoom result side.new.end }
+    ensures ready { IsAtOnce result }
+    ensures called { CallsTaken side.old.slots side.new.slots }
+    ensures notifies { IsWriterAtRest side.old.end side.old.slots →
+        IsWriterAtRest side.new.end side.new.slots }
+    ensures rest { WaitsAsBefore side.old.slots side.new.slots
+        × (side.new.cells ≡ side.old.cells) } */
+{
+    let mut moved = 0;
+    'rounds: loop {
+        let asks = source.asks();
+        if asks == 0 {
+            side.note(Action::CallSource, Found::Moved(0));
+            return Poll::Ready(Ok(moved));
         }
+        let n = match fill_round(side, asks, source) {
+            Ok(n) => n,
+            Err(error) => return Poll::Ready(Err(CopyError::Like(error))),
+        };
+        if n == 0 {
+            return Poll::Ready(Ok(moved));
+        }
+        moved += n;
+        if side.load_closed() {
+            return Poll::Ready(Ok(moved));
+        }
+        side.store_tail(n);
+        wake_other(side);
     }
+}
 
-    // One call of the source, on room that is lent to it in one piece, no more than it asks for.
-    #[inline(always)]
-    fn fill_round<R: ReadLike>(&mut self, asks: usize, source: &mut R) -> Result<usize, R::Error>
-        /* requires turn { next self.old.side.log ≡ Action.CallSource }
-        requires is_open { self.old.side.end.shut ≡ false }
-        requires some { 0 < asks }
-        ensures log { self.new.side.log ≡ made (found_of result) self.old.side.log }
-        ensures bound { IfOk result (λ n. n ≤ length self.new.side.end.lent) }
-        ensures most { IfOk result (λ n. n ≤ most_of_round self.new.side.end) }
-        ensures bytes { R.gives source.old (passed result self.new.side.end.lent) source.new }
-        ensures dry { result ≡ Ok 0 → (self.new.side.end.room ≡ 0) ⊎ R.is_dry source.new }
-        ensures error { IfErr result (λ e. R.fails source.old e source.new) }
-        ensures failures { Counts result (R.failures source.old) (R.failures source.new) }
-        ensures end { self.new.side.end
-            ≡ record self.old.side.end { lent = self.new.side.end.lent } }
-        ensures rest { SameWriter (λ s t. t ≡ s) self.old self.new } */
-    {
-        let moved = source.read(self.side.write_buf(asks.min(MOST_A_ROUND)));
-        self.side.note_moved(Action::CallSource, &moved);
-        moved
-    }
+// One call of the source, on room that is lent to it in one piece, no more than it asks for.
+#[inline(always)]
+fn fill_round<R: ReadLike>(
+    side: &mut WriteSide<Waker>,
+    asks: usize,
+    source: &mut R,
+) -> Result<usize, R::Error>
+    /* requires turn { next side.old.log ≡ Action.CallSource }
+    requires is_open { side.old.end.shut ≡ false }
+    requires some { 0 < asks }
+    ensures log { side.new.log ≡ made (found_of result) side.old.log }
+    ensures bound { IfOk result (λ n. n ≤ length side.new.end.lent) }
+    ensures most { IfOk result (λ n. n ≤ most_of_round side.new.end) }
+    ensures bytes { R.gives source.old (passed result side.new.end.lent) source.new }
+    ensures dry { result ≡ Ok 0 → (side.new.end.room ≡ 0) ⊎ R.is_dry source.new }
+    ensures error { IfErr result (λ e. R.fails source.old e source.new) }
+    ensures failures { Counts result (R.failures source.old) (R.failures source.new) }
+    ensures end { side.new.end
+        ≡ record side.old.end { lent = side.new.end.lent } }
+    ensures rest { (side.new.slots ≡ side.old.slots) × (side.new.cells ≡ side.old.cells) } */
+{
+    let moved = source.read(side.write_buf(asks.min(MOST_A_ROUND)));
+    side.note_given(&moved);
+    moved
 }

@@ -3,17 +3,22 @@
 /* ghost use Rattle.std.specs.Borrow.{sem}; */
 
 use super::{Reader, Writer};
+use crate::proved::piper_protocol::table::Side;
 use crate::proved::piper_ring::{
     FinishedReader, FinishedWriter, LastReadMark, ReadEnd, ReadMark, WriteEnd, WriteMark,
 };
 
 impl Reader {
-    /* ghost use Rattle.piper_protocol.specs.OneList.{AreOneList}; */
-    /* ghost use Rattle.piper_ring.specs.Log.{accesses_of}; */
-    /* ghost use Rattle.piper_ring.specs.Told.{IsTrueLog, tells_true}; */
-    /* ghost use Rattle.piper.specs.OfReader.{accesses, end_of, log, ring, taken}; */
+    /* ghost use Rattle.piper.specs.OfReader.{end_of, ring}; */
     /* ghost use Rattle.piper.specs.OfWriter as of_writer; */
-    /* ghost use Rattle.piper.specs.ReaderCalls.{MeetWoken, Meets, ReaderObserves, ReaderWasWoken}; */
+    /* ghost use Rattle.piper.specs.ReaderCalls.{
+      HaveTrueLogs,
+      LogsMeet,
+      MeetWoken,
+      Meets,
+      ReaderObserves,
+      ReaderWasWoken,
+    }; */
 
     /// Its end of the ring.
     #[inline] pub fn end(&self) -> &ReadEnd
@@ -54,9 +59,7 @@ impl Reader {
     /// Requires: both handles are of one pipe.
     #[inline] pub fn meet(&mut self, other: &mut Writer)
         /* requires { of_writer.ring other.old ≡ ring self.old }
-        ensures list { AreOneList (accesses self.old) (of_writer.accesses other.old) }
-        ensures logs { IsTrueLog (log self.old) (taken self.old)
-            × IsTrueLog (of_writer.log other.old) (of_writer.sent other.old) }
+        ensures logs { LogsMeet self.old self.new other.old other.new }
         ensures met { Meets self.old self.new other.old other.new }
         ensures woken { MeetWoken self.old self.new other.old other.new } */
     {
@@ -71,14 +74,14 @@ impl Reader {
     /// Requires: the mark is of the same pipe.
     #[inline] pub fn meet_finished(&mut self, left: &mut FinishedWriter)
         /* requires { left.old.mark.names ≡ (ring self.old).names }
-        ensures list { AreOneList (accesses self.old) (accesses_of left.old.log) }
-        ensures logs { IsTrueLog (log self.old) (taken self.old)
-            × (tells_true left.old.log ≡ true) }
+        ensures logs { HaveTrueLogs self.old left.old.log.lines left.old.mark.bytes }
         ensures woken { ReaderWasWoken self.old left.old }
         ensures observes { ReaderObserves left.old.mark self.old self.new }
         ensures last { left.old.mark.shut ≡ true }
         ensures rest { left.new ≡ left.old } */
     {
+        // A ring holds at least one byte.
+        let _ = self.side.end().capacity();
         self.side.meet_slot(&mut left.slots);
         self.side.meet_log(&mut left.log);
         self.side.observe(&left.mark);
@@ -87,10 +90,10 @@ impl Reader {
 
 impl Writer {
     /* ghost use Rattle.piper.specs.Handles.{lends_room}; */
+    /* ghost use Rattle.piper_protocol.specs.Lines.{accesses_in}; */
     /* ghost use Rattle.piper_protocol.specs.OneList.{AreOneList}; */
-    /* ghost use Rattle.piper_ring.specs.Log.{accesses_of}; */
-    /* ghost use Rattle.piper_ring.specs.Told.{IsTrueLog, tells_true}; */
-    /* ghost use Rattle.piper.specs.OfWriter.{accesses, end_of, log, ring, saw, sent}; */
+    /* ghost use Rattle.piper_protocol.specs.Told.{IsTrueLog, moved_in}; */
+    /* ghost use Rattle.piper.specs.OfWriter.{capacity, end_of, lines, ring, saw, sent}; */
     /* ghost use Rattle.piper.specs.WriterCalls.{MayLend, MustLend, WriterObserves, WriterWasWoken}; */
 
     /// Its end of the ring.
@@ -131,13 +134,16 @@ impl Writer {
     /// Requires: the mark is of the same pipe.
     #[inline] pub fn meet_finished(&mut self, left: &mut FinishedReader)
         /* requires { left.old.mark.consumed.names ≡ (ring self.old).names }
-        ensures list { AreOneList (accesses_of left.old.log) (accesses self.old) }
-        ensures logs { IsTrueLog (log self.old) (sent self.old)
-            × (tells_true left.old.log ≡ true) }
+        ensures list { AreOneList (accesses_in left.old.log.lines) (accesses_in (lines self.old)) }
+        ensures logs { IsTrueLog (capacity self.old) Side.Writer (lines self.old) (sent self.old)
+            × IsTrueLog (capacity self.old) Side.Reader left.old.log.lines
+            (moved_in left.old.log.lines) }
         ensures woken { WriterWasWoken self.old left.old }
         ensures observes { WriterObserves left.old.mark.consumed.count true self.old self.new }
         ensures rest { left.new ≡ left.old } */
     {
+        // A ring holds at least one byte.
+        let _ = self.side.end().capacity();
         self.side.meet_slot(&mut left.slots);
         self.side.meet_log(&mut left.log);
         self.side.observe_last(&left.mark);

@@ -16,6 +16,7 @@ use crate::shim::std::alloc::Global;
 /// Returns: both handles. The reader's random generator begins at `seed`, the writer's at `seed`
 /// with its lowest bit flipped.
 /// Errors: `OutOfMemory` if memory is refused. Then nothing stays allocated (not proved).
+/* #[tactic(auto, unfolding(crate::specs::Handles::LogsAreNew, piper_ring::specs::Log::is_at_rest))] */
 #[inline] pub fn pipe(alloc: Global, cap: usize, seed: u64) -> Result<(Reader, Writer), OutOfMemory>
     /* requires { (0 < cap) × (2 * cap < 2 ^ 64) }
     ensures fresh { IfOk result (λ (reader, writer). ArePair reader writer

@@ -1,7 +1,7 @@
 //! What both handles do at the slots: in their own a task waits, in the other's they wake one.
 /* ghost use Rattle.std.specs.Prelude.{◌≡◌, ◌⊎◌, IsTrue, IsFalse, IfNone, IfSome, true, false}; */
 /* ghost use Rattle.futures.specs.Task.{Covers, Keeps, Wakes}; */
-/* ghost use Rattle.piper_ring.specs.Log.{Comes, WakesNext, WasMade, next, now, other, own, then}; */
+/* ghost use Rattle.piper_ring.specs.Log.{Comes, HasDrawn, IsUndrawn, WakesNext, WasMade, next, now, other, own, then}; */
 /* ghost use Rattle.piper_ring.specs.SlotsView.{OnlyWaits, Registers, WaitsAsBefore}; */
 /* ghost use Rattle.piper.specs.Called.{CallsTaken, RegistersTask, TakesOwn, WasCalled, WasLetGo}; */
 /* ghost use Rattle.piper.specs.Contexts.{LacksWaker, WasAsked}; */
@@ -60,6 +60,7 @@ pub(crate) fn register<E: SlotEnd>(
 #[inline(always)]
 pub(crate) fn take_own<E: SlotEnd>(side: &mut Side<E, Waker>)
     /* requires turn { next side.old.log ≡ Action.Take (own E.READS) }
+    requires drawn { HasDrawn side.old.log }
     ensures log { Comes (then (now side.old.log) Found.Nothing) side.old.log side.new.log }
     ensures leaves { side.new.slots ≡ record side.old.slots { waits = false } }
     ensures dropped { TakesOwn WasLetGo E.READS side.old.slots side.new.log }
@@ -78,6 +79,7 @@ pub(crate) fn take_own<E: SlotEnd>(side: &mut Side<E, Waker>)
 #[inline(never)]
 fn let_own_go<E: SlotEnd>(side: &mut Side<E, Waker>)
     /* requires turn { next side.old.log ≡ Action.Take (own E.READS) }
+    requires drawn { HasDrawn side.old.log }
     requires waits { side.old.slots.waits ≡ true }
     ensures log { Comes (then (now side.old.log) Found.Nothing) side.old.log side.new.log }
     ensures leaves { side.new.slots ≡ record side.old.slots { waits = false } }
@@ -92,6 +94,7 @@ fn let_own_go<E: SlotEnd>(side: &mut Side<E, Waker>)
 /// Takes whoever is registered in the side's own slot, in a close, and calls its waker.
 #[inline] pub(crate) fn wake_own<E: SlotEnd>(side: &mut Side<E, Waker>)
     /* requires turn { next side.old.log ≡ Action.Take (own E.READS) }
+    requires drawn { HasDrawn side.old.log }
     requires on { WakesNext (now side.old.log) }
     ensures log { Comes (then (now side.old.log) (Found.Waker false)) side.old.log side.new.log }
     ensures called { TakesOwn WasCalled E.READS side.old.slots side.new.log }
@@ -154,6 +157,7 @@ pub(crate) fn wake_other<E: SlotEnd>(side: &mut Side<E, Waker>)
 pub(crate) fn wake_waiting<E: SlotEnd>(side: &mut Side<E, Waker>)
     /* requires turn { next side.old.log ≡ Action.Take (other E.READS) }
     requires on { WakesNext (now side.old.log) }
+    ensures undrawn { IsUndrawn side.new.log }
     ensures log { Comes (then (now side.old.log) (Found.Waker false)) side.old.log side.new.log }
     ensures rests { side.new.slots.stored ≡ E.stored_of side.new.end }
     ensures called { CallsTaken side.old.slots side.new.slots }

@@ -59,7 +59,8 @@ impl ReadEnd {
     #[inline] pub fn capacity(&self) -> usize
         /* ensures value { result ≡ self.now.capacity }
         ensures bounds { (0 < result) × (2 * result < 2 ^ 64) }
-        ensures known { length self.now.known ≤ result } */
+        ensures known { length self.now.known ≤ result }
+        ensures ring { self.now.capacity ≡ self.now.ring.names.capacity } */
     {
         self.parts.indices.capacity()
     }

@@ -32,7 +32,12 @@ pub trait SlotEnd {
 
     /* ghost stored_of: { Self → Stored }; */
 
-    /* ghost moved_of: { Self → List ℕ }; */
+    /* /// The bytes that it consumed or published, and how many it knows the other one to have.
+    ghost moved_of: { Self → List ℕ }; */
+
+    /* ghost seen_of: { Self → ℕ }; */
+
+    /* ghost shut_of: { Self → Bool }; */
 
     /* ghost tells: { Self.Heard → Names → Stored → Type 0 }; */
 

@@ -47,7 +47,7 @@ impl WriteEnd {
     /* ghost use Rattle.piper_protocol.specs.OneList.{loaded_closed, loaded_head, stored_closed, stored_tail}; */
     /* ghost use Rattle.piper_ring.specs.Loads.{FoundClosed}; */
     /* ghost use Rattle.piper_ring.specs.Log.{IsLogOf, MayNote, did}; */
-    /* ghost use Rattle.piper_ring.specs.WriteView.{Lendable, LoadsHead, WriteEndMayHave, WriterLoadsClosed}; */
+    /* ghost use Rattle.piper_ring.specs.WriteView.{IsBounded, Lendable, LoadsHead, WriteEndMayHave, WriterLoadsClosed, lendable}; */
     /* ghost use Rattle.piper_ring.specs.LendsBuffer.{lends_buffer}; */
     /* ghost use Rattle.std.specs.Borrow.{sem}; */
     /* ghost use Rattle.piper_ring.specs.Shared.{ring_of}; */
@@ -56,7 +56,8 @@ impl WriteEnd {
     #[inline] pub fn capacity(&self) -> usize
         /* ensures value { result ≡ self.now.capacity }
         ensures bounds { (0 < result) × (2 * result < 2 ^ 64) }
-        ensures room { self.now.room ≤ result } */
+        ensures room { self.now.room ≤ result }
+        ensures ring { self.now.capacity ≡ self.now.ring.names.capacity } */
     {
         self.parts.indices.capacity()
     }
@@ -70,7 +71,9 @@ impl WriteEnd {
 
     /// How many bytes are left of the slice last lent.
     #[inline] pub fn lent(&self) -> usize
-        /* ensures { result ≡ length self.now.lent } */
+        /* ensures value { result ≡ length self.now.lent }
+        ensures within { result ≤ lendable self.now }
+        ensures bounds { IsBounded self.now } */
     {
         self.parts.indices.lent()
     }
@@ -78,7 +81,8 @@ impl WriteEnd {
     /// Whether this end knows of no room.
     #[inline] pub fn knows_none(&self) -> bool
         /* ensures none { IsTrue result ↔ (self.now.room ≡ 0) }
-        ensures few { 2 * self.now.room < 2 ^ 64 } */
+        ensures few { 2 * self.now.room < 2 ^ 64 }
+        ensures bounds { IsBounded self.now } */
     {
         self.parts.indices.knows_none()
     }

@@ -24,18 +24,18 @@ dropped : (c : goal.After-result-1) → ReaderHasDropped c.args.self
 dropped c = record {
   taken = c.finish-side.result.taken;
   after = c.finish-side.result.side.log;
-  leaves = rw c.begin.ensures.log at c.finish-side.ensures.leaves;
+  leaves = rw c.begin_drop.ensures.log at c.finish-side.ensures.leaves;
   called = is_called c;
   left = c.finish-side.result.left;
-  gets = rw c.begin.ensures.end at c.finish-side.ensures.left;
+  gets = rw c.begin_drop.ensures.end at c.finish-side.ensures.left;
   reader = c.let_left_go.ensures.reader;
   writer = c.let_left_go.ensures.writer;
 }
 
 pub returns-clause-woken : goal.returns-clause-woken
 returns-clause-woken c =
-    let took = rw c.begin.ensures.slots at c.finish-side.ensures.ticket.waker in
-    let none = rw c.begin.ensures.slots at c.finish-side.ensures.ticket.none in record {
+    let took = rw c.begin_drop.ensures.slots at c.finish-side.ensures.ticket.waker in
+    let none = rw c.begin_drop.ensures.slots at c.finish-side.ensures.ticket.none in record {
       count = search rules;
       over = search rules;
       called = rw (same_slots c) (calls_one _ _ _ _ took none (is_called c));

@@ -5,5 +5,5 @@ use Rattle.piper.proofs.handles.Reader.look_waiting.Goals as goal
 
 pub returns-clause-pending : goal.returns-clause-pending
 returns-clause-pending c =
-    reader_pends _ _ _ c.register.new.side.slots _ _ (search rules) c.look_again.ensures.rest.0 c.register.ensures.covered
+    reader_pends _ _ _ _ _ c.register.new.side.slots _ _ (search rules) c.look_again.ensures.rest.0 c.register.ensures.covered
     (search rules) (search rules) (c.register.ensures.registered c.if-not-register.false)

@@ -1,10 +1,15 @@
 -- Who waits with something to do had its waker taken after the other's last look.
-use Rattle.std.proofs.Common.{◌∙◌, sym, ap, length, length-append, inl, arith}
+use Rattle.std.proofs.Common.{rules, ◌∙◌, sym, ap, length, length-append, inl, arith}
 use Rattle.piper_ring.specs.ReadView.{ReadView}
 use Rattle.piper_ring.specs.Slot.{Stored}
 use Rattle.piper_ring.specs.WriteView.{WriteView}
+use Rattle.piper.specs.ReaderCalls.{HaveTrueLogs, LogsMeet}
 use Rattle.piper.proofs.RoomOrNone.{and_open, either_less, news_by, none_or_told, room_or_none}
 use Rattle.piper.proofs.handles.Reader.meet.Goals as goal
+
+pub returns-clause-logs : goal.returns-clause-logs
+unfolding HaveTrueLogs LogsMeet
+returns-clause-logs c = (c.meet.ensures.logs, search rules, search rules)
 
 pub returns-clause-woken : goal.returns-clause-woken
 returns-clause-woken c =

@@ -8,9 +8,9 @@ use Rattle.piper_ring.specs.SlotsView.{Registers}
 use Rattle.piper.proofs.handles.Reader.poll.Goals as goal
 use Rattle.piper.proofs.handles.Reader.poll.Goals.{then-not-look_first+in-Ok-Ready, else-not-look_first}
 
-held : (c : goal.After-take_own)
-    → (c.if-not-look_first.self.side.slots ≡ c.args.self.now.side.slots)
-    ⊎ Registers c.args.self.now.side.slots c.if-not-look_first.self.side.slots
+held : (c : goal.After-self-2-1)
+    → (c.if-not-look_first.self.1.0.slots ≡ c.args.self.now.side.slots)
+    ⊎ Registers c.args.self.now.side.slots c.if-not-look_first.self.1.0.slots
 held c =
     elim c.if-not-look_first.branch [
       | then-not-look_first+in-Ok-Ready w ↦ inr (rw w.self-is (rw c.look_first.ensures.rest.0 at w.in-Ok-Ready.ensures.registered))
@@ -39,8 +39,8 @@ looked_twice a b c none first second = record {
       ∙ ap (λ (v : ReadView). record v { known = c.known; saw = c.saw; all = c.all }) first.rest;
 }
 
-looked : (c : goal.After-take_own)
-    → ReaderLooked c.args.self.now.side.end c.if-not-look_first.self.side.end
+looked : (c : goal.After-self-2-1)
+    → ReaderLooked c.args.self.now.side.end c.if-not-look_first.self.1.0.end
 looked c =
     elim c.if-not-look_first.branch [
       | then-not-look_first+in-Ok-Ready w ↦ rw w.self-is (looked_twice _ _ _ (c.look_first.ensures.none w.if-not-look_first.true).0 c.look_first.ensures.looked w.look_waiting.ensures.looked)

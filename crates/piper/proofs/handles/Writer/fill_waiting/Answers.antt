@@ -1,6 +1,6 @@
 -- The rounds move into what the look found, which was one look or two. Nothing is moved where it is
 -- not true, or where the fill yields.
-use Rattle.std.proofs.Common.{rules, ◌≡◌, Ok, Err, refl, inr}
+use Rattle.std.proofs.Common.{rules, Ok, Err, refl, inr}
 use Rattle.futures.specs.Task.{Keeps}
 use Rattle.futures.specs.declared.task.Poll.TheVariants.{Ready, Pending}
 use Rattle.piper_ring.specs.Looks.{WriterLooked}
@@ -29,25 +29,19 @@ returns-in-Err-clause-filled g c =
 
 pub returns-then-draw_yield-clause-filled : goal.returns-then-draw_yield-clause-filled
 returns-then-draw_yield-clause-filled g c =
-    let looked : WriterLooked c.args.self.now.side.end c.match-look_first.self.side.end = elim c.match-look_first.branch [
+    let looked : WriterLooked c.args.self.now.side.end c.match-look_first.self.1.0.end = elim c.match-look_first.branch [
       | in-Ready w ↦ rw w.self-is c.look_first.ensures.looked
       | in-NotReady+in-Ok-Ready w ↦ rw w.self-is (looked_on _ _ _ c.look_first.ensures.looked w.in-NotReady.ensures.found.0 w.look_waiting.ensures.looked)
     ] in
     rw c.draw_yield.ensures.rest.0 (fills_none _ _ _ Pending _ _ _ looked (refl, refl) tt)
 
-looked : (g : _) (c : goal.After-fill_rounds g) → WriterLooked c.args.self.now.side.end c.match-look_first.self.side.end
+looked : (g : _) (c : goal.After-self-2-1 g) → WriterLooked c.args.self.now.side.end c.match-look_first.self.1.0.end
 looked g c = elim c.match-look_first.branch [
   | in-Ready w ↦ rw w.self-is c.look_first.ensures.looked
   | in-NotReady+in-Ok-Ready w ↦ rw w.self-is (looked_on _ _ _ c.look_first.ensures.looked w.in-NotReady.ensures.found.0 w.look_waiting.ensures.looked)
 ]
 
-same : (g : _) (c : goal.After-fill_rounds g) → c.match-look_first.self.rng ≡ c.args.self.now.rng
-same g c = elim c.match-look_first.branch [
-  | in-Ready w ↦ rw w.self-is refl
-  | in-NotReady+in-Ok-Ready w ↦ rw w.self-is w.look_waiting.ensures.rest.rng
-]
-
-kept : (g : _) (c : goal.After-fill_rounds g) → Keeps c.args.cx.now c.match-look_first.cx
+kept : (g : _) (c : goal.After-self-2-1 g) → Keeps c.args.cx.now c.match-look_first.cx
 kept g c = elim c.match-look_first.branch [
   | in-Ready w ↦ rw w.cx-is (λ fact h. h)
   | in-NotReady+in-Ok-Ready w ↦ rw w.cx-is w.look_waiting.ensures.kept
@@ -59,7 +53,7 @@ returns-clause-filled g c =
 
 pub returns-clause-waiting : goal.returns-clause-waiting
 returns-clause-waiting g c = record {
-  draws = once_drawn _ _ _ _ _ _ c.fill_rounds.ensures.ready c.fill_rounds.ensures.found (same g c) (search rules) c.draw_yield.ensures.draw.0 c.if-draw_yield.false;
+  draws = once_drawn _ _ _ _ _ _ c.fill_rounds.ensures.ready c.fill_rounds.ensures.found refl (search rules) c.draw_yield.ensures.draw.0 c.if-draw_yield.false;
   pending = once_pending _ _ c.fill_rounds.ensures.ready;
   memory = once_granted _ _ c.fill_rounds.ensures.ready;
   context = λ fact held. c.draw_yield.ensures.kept fact (kept g c fact held);

@@ -6,17 +6,17 @@ use Rattle.piper_ring.specs.SlotsView.{Registers}
 use Rattle.piper.proofs.handles.Writer.poll.Goals as goal
 use Rattle.piper.proofs.handles.Writer.poll.Goals.{in-Ready, in-NotReady+in-Ok-Ready}
 
-looked : (c : goal.After-take_own)
-    → WriterLooked c.args.self.now.side.end c.match-look_first.self.side.end
+looked : (c : goal.After-self-2-1)
+    → WriterLooked c.args.self.now.side.end c.match-look_first.self.1.0.end
 looked c =
     elim c.match-look_first.branch [
       | in-Ready w ↦ rw w.self-is c.look_first.ensures.looked
       | in-NotReady+in-Ok-Ready w ↦ rw w.self-is (search rules)
     ]
 
-held : (c : goal.After-take_own)
-    → (c.match-look_first.self.side.slots ≡ c.args.self.now.side.slots)
-    ⊎ Registers c.args.self.now.side.slots c.match-look_first.self.side.slots
+held : (c : goal.After-self-2-1)
+    → (c.match-look_first.self.1.0.slots ≡ c.args.self.now.side.slots)
+    ⊎ Registers c.args.self.now.side.slots c.match-look_first.self.1.0.slots
 held c =
     elim c.match-look_first.branch [
       | in-Ready w ↦ inl (rw w.self-is c.look_first.ensures.rest.0)

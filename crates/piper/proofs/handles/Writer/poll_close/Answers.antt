@@ -8,7 +8,7 @@ use Rattle.piper.proofs.handles.Writer.poll_close.Goals as goal
 pub returns-clause-closes : goal.returns-clause-closes
 unfolding Ran
 returns-clause-closes c =
-    let kept = rw (c.store_closed.ensures.side.slots, c.begin.ensures.slots) at c.wake_waiting.ensures.own in record {
+    let kept = rw (c.store_closed.ensures.side.slots, c.begin_close.ensures.slots) at c.wake_waiting.ensures.own in record {
       answer = search rules;
       woken = search rules;
       called = search rules;

@@ -1,6 +1,7 @@
 -- The two ends of a new ring keep their views.
 use Rattle.piper_ring.proofs.Kit.{◌≡◌, ℕ, ◌+◌, ◌-◌, ◌*◌, ◌^◌, ◌<◌, ◌++◌, List, length, take, arith, refl, ap, subst, ◌∙◌, sym, Names, IsPrefix, Reaches, reaches_same, ReaderIndices, WriterIndices}
-use Rattle.rtrb.proofs.Positions.{position_none}
+use Rattle.rtrb.proofs.Positions.{position_none, slot_lt}
+use Rattle.rtrb.specs.Fifo.{slot_of as offset_of}
 use Rattle.piper_ring.specs.declared.ring.marks.WriteMark.{WriteMark}
 use Rattle.piper_ring.specs.declared.ring.places.Blank.{Blank}
 use Rattle.piper_ring.proofs.ends.opening.open_ends.Goals as goal
@@ -45,4 +46,5 @@ invariant_of-result-2 c = let o = c.open-read_seat.ensures in let seat = c.open-
       heard = (c.mark-observed_by_writer.ensures.0 ∙ sym o.pair.2, c.unseen-write_saw.ensures.0 ∙ sym o.pair.2);
       closed = ap (λ (w : WriterIndices). w.is_shut) fresh ∙ sym o.writer.2;
       lends_none = λ _. room.lent;
+      piece = let below : offset_of c.new-3.result.capacity (length seat.sent) < c.new-3.result.capacity = slot_lt _ _ (omega arith) in omega (arith, below, ap length room.lent);
     }

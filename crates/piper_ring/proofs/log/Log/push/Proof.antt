@@ -1,7 +1,7 @@
 -- `push` adds a note. Assumes `Logic`.
 use Rattle.piper_ring.proofs.Kit.{◌≡◌, ℕ, List, [], ◌∷◌, refl, named, Val, vptr, SProp, emp, ftrue, flft, ‵, raw, ◌⊛◌, ◌$◌, ◌∵◌, !, qed, by, move, keep, split, split3, join, fsplit3, fjoin, fjoin3, use0, feq_i, of_opd, returns, enter, alloc_all, pass_all, free_all, look_at, sets, env, mut_vals, mut_Tells, opens, closes, stay_ref, Goes-ref, vunit, unit_lit, fact, fact_i, tables, yes, RattleType, owns, types_at, plain, RefOf, shr_vals, shr_Tells, nothing, Stays, stay_dropped, walk_of, Goes-dropped, proved, leaves}
 use Rattle.piper_ring.specs.Log.{with_note}
-use Rattle.piper_ring.specs.contracts.log.Note as Note
+use Rattle.piper_protocol.specs.contracts.log.Note as Note
 use Rattle.piper_ring.specs.contracts.log.Log as Log
 use Rattle.piper_ring.proofs.log.Log.push as own
 

@@ -3,8 +3,8 @@
 /* ghost use Rattle.piper_ring.specs.Cells.{AreCellsOf}; */
 /* ghost use Rattle.piper_protocol.specs.OneList.{loaded_slot, swapped}; */
 /* ghost use Rattle.piper_ring.specs.Slot.{ticket_if}; */
-/* ghost use Rattle.piper_ring.specs.Log.{AreSides, Comes, IsLogOf, IsOutside, accesses_of, began, did, drew, found_of, made, next, now, other, own, passed, passed_if, then, told, told_if}; */
-/* ghost use Rattle.piper_ring.specs.Told.{moved_in, tells_true}; */
+/* ghost use Rattle.piper_protocol.specs.Told.{are_calls, moved_in, seen_in, shut_in, tickets_in, waits_in}; */
+/* ghost use Rattle.piper_ring.specs.Log.{AreSides, Comes, HasDrawn, IsLogOf, IsOutside, MayBegin, MayDraw, Rests, accesses_of, as_is, began, did, drew, made, next, now, other, own, passed, passed_if, tells_true, then, told, told_if}; */
 
 use crate::proved::piper_ring::ends::cells::WakerCells;
 use crate::proved::piper_ring::ends::slots::{Registrations, SlotEnd};
@@ -28,7 +28,12 @@ pub struct Side<E: SlotEnd, T> {
     /* ghost places: { AreCellsOf slots.names cells }, */
     /* ghost own_log: { IsLogOf slots.names E.READS log }, */
     /* ghost right: { tells_true log ≡ true }, */
+    /* ghost calls: { are_calls log.lines ≡ true }, */
     /* ghost moved: { moved_in log.lines ≡ E.moved_of end }, */
+    /* ghost seen: { seen_in log.lines ≡ as_is (E.seen_of end) }, */
+    /* ghost shut: { shut_in log.lines ≡ as_is (E.shut_of end) }, */
+    /* ghost waits: { waits_in (own E.READS) log.lines ≡ as_is slots.waits }, */
+    /* ghost tickets: { tickets_in log.lines ≡ as_is slots.tickets }, */
 }
 
 impl<E: SlotEnd, T> Side<E, T> {
@@ -55,8 +60,10 @@ impl<E: SlotEnd, T> Side<E, T> {
 
     /// A call begins, at this point of the table.
     #[inline(always)]
-    pub fn begin(&mut self, first: Point)
-        /* ensures { Becomes self.old self.new self.old.end self.old.slots (began first self.old.log) } */
+    pub(crate) fn begin(&mut self, first: Point)
+        /* requires may { MayBegin first self.old.log }
+        requires rests { Rests self.old.log }
+        ensures { Becomes self.old self.new self.old.end self.old.slots (began first self.old.log) } */
     {
         self.log.begin(first);
     }
@@ -64,36 +71,21 @@ impl<E: SlotEnd, T> Side<E, T> {
     /// A copy drew whether it yields.
     #[inline(always)]
     pub fn drew(&mut self, is_drawn: bool)
-        /* ensures { Becomes self.old self.new self.old.end self.old.slots (drew is_drawn self.old.log) } */
+        /* requires { MayDraw self.old.log }
+        ensures { Becomes self.old self.new self.old.end self.old.slots (drew is_drawn self.old.log) } */
     {
         self.log.drew(is_drawn);
     }
 
-    /// A step of the table was made that is no access of the ring: a source, a destination or a
-    /// waker was called, or asked for.
+    /// A step of the table was made that is no access of the ring, and moved no byte: a source, a
+    /// destination or a waker was called, or asked for.
     #[inline(always)]
     pub fn note(&mut self, action: Action, found: Found)
         /* requires turn { next self.old.log ≡ action }
         requires outside { IsOutside action found }
         ensures { Becomes self.old self.new self.old.end self.old.slots (made found self.old.log) } */
     {
-        let _ = action;
-        self.log.note(found);
-    }
-
-    /// A source or a destination was called: it moved so many bytes, or failed.
-    #[inline(always)]
-    pub fn note_moved<F>(&mut self, action: Action, moved: &Result<usize, F>)
-        /* requires turn { next self.old.log ≡ action }
-        requires outside { IsOutside action (found_of moved.now) }
-        ensures { Becomes self.old self.new self.old.end self.old.slots
-            (made (found_of moved.now) self.old.log) } */
-    {
-        let _ = action;
-        self.log.note(match moved {
-            Ok(n) => Found::Moved(*n),
-            Err(_) => Found::Failed,
-        });
+        self.log.note(action, found);
     }
 
     /// The side's own slot is to be emptied, and the side knows that no waker is there: that is a
@@ -102,17 +94,21 @@ impl<E: SlotEnd, T> Side<E, T> {
     pub fn own_is_empty(&mut self)
         /* requires turn { next self.old.log ≡ Action.Take (own E.READS) }
         requires none { self.old.slots.waits ≡ false }
+        requires drawn { HasDrawn self.old.log }
         ensures { Becomes self.old self.new self.old.end self.old.slots
             (made Found.Nothing self.old.log) } */
     {
-        self.log.note(Found::Nothing);
+        self.log
+            .note(Action::Take(side_of(E::READS)), Found::Nothing);
     }
 
     /// Checks whether this side's waker is still registered in its slot. Returns `true` if it is:
     /// then the table still has `take_registered` next.
+    /* #[tactic(auto, using(crate::proofs::Told::own_loaded, crate::proofs::Told::note_waits, crate::proofs::Told::access_told), unfolding(piper_protocol::specs::Told::are_calls, piper_protocol::specs::Told::moved_in, piper_protocol::specs::Told::seen_in, piper_protocol::specs::Told::shut_in, piper_protocol::specs::Told::tickets_in, crate::specs::Log::as_is, crate::specs::Log::is_at_rest, crate::specs::Log::is_noted))] */
     #[inline] pub fn is_registered(&mut self) -> bool
         /* requires turn { next self.old.log ≡ Action.Take (own E.READS) }
         requires waits { self.old.slots.waits ≡ true }
+        requires drawn { HasDrawn self.old.log }
         ensures some { IsTrue result →
             Becomes self.old self.new self.old.end self.old.slots
             (passed (did (loaded_slot (own E.READS) true) self.old.log)) }
@@ -138,6 +134,7 @@ impl<E: SlotEnd, T> Side<E, T> {
     #[inline] pub fn take_registered(&mut self) -> Option<T>
         /* requires turn { next self.old.log ≡ Action.Take (own E.READS) }
         requires waits { self.old.slots.waits ≡ true }
+        requires drawn { HasDrawn self.old.log }
         ensures side { Becomes self.old self.new self.old.end
             (record self.old.slots { waits = false }) (told Found.Nothing
             (did (swapped (own E.READS) (ticket_if (is_some result) self.old.slots.tickets) None)
@@ -155,6 +152,7 @@ impl<E: SlotEnd, T> Side<E, T> {
     /// table that empties the own slot in a close.
     #[inline] pub fn take_own(&mut self) -> Option<T>
         /* requires turn { next self.old.log ≡ Action.Take (own E.READS) }
+        requires drawn { HasDrawn self.old.log }
         ensures side { Becomes self.old self.new self.old.end
             (record self.old.slots { waits = false })
             (told_if self.old.slots.waits (Found.Waker (is_some result))
@@ -166,7 +164,8 @@ impl<E: SlotEnd, T> Side<E, T> {
             self.old.slots.waits self.old.slots.tickets result } */
     {
         if !self.is_waiting() {
-            self.log.note(Found::Waker(false));
+            let action = Action::Take(side_of(E::READS));
+            self.log.note(action, Found::Waker(false));
             return None;
         }
         let waker = self.take_back();
@@ -255,6 +254,7 @@ impl<E: SlotEnd, T> Side<E, T> {
 
     /// Checks after all that this side stored whether the other is registered in its slot.
     /// Returns `true` if it isn't; else the table still has `take` next.
+    /* #[tactic(auto, using(crate::proofs::Told::other_loaded, crate::proofs::Told::note_waits, crate::proofs::Told::access_told), unfolding(piper_protocol::specs::Told::are_calls, piper_protocol::specs::Told::moved_in, piper_protocol::specs::Told::seen_in, piper_protocol::specs::Told::shut_in, piper_protocol::specs::Told::tickets_in, crate::specs::Log::as_is, crate::specs::Log::is_at_rest, crate::specs::Log::is_noted))] */
     #[inline(always)]
     pub fn nobody_waits(&mut self) -> bool
         /* requires turn { next self.old.log ≡ Action.Take (other E.READS) }
@@ -279,6 +279,7 @@ impl<E: SlotEnd, T> Side<E, T> {
 
     /// After all that this side stored, takes the other's ticket if it is registered in its
     /// slot. Returns the waker that it put there.
+    /* #[tactic(auto, using(crate::proofs::Told::other_taken, crate::proofs::Told::note_waits, crate::proofs::Told::access_told), unfolding(piper_protocol::specs::Told::are_calls, piper_protocol::specs::Told::moved_in, piper_protocol::specs::Told::seen_in, piper_protocol::specs::Told::shut_in, piper_protocol::specs::Told::tickets_in, crate::specs::Log::as_is, crate::specs::Log::is_at_rest, crate::specs::Log::is_noted))] */
     #[inline] pub fn take(&mut self) -> Option<T>
         /* requires turn { next self.old.log ≡ Action.Take (other E.READS) }
         ensures ticket { TakesTicket self.old.slots self.new.slots result }

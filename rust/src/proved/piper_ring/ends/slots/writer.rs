@@ -1,9 +1,9 @@
 //! The writer's side: how it waits in its slot, and wakes whoever waits in the reader's.
-/* ghost use Rattle.std.specs.Prelude.{◌≡◌, ◌+◌, ◌-◌, ◌<◌, ◌≤◌, ◌++◌, ◌==◌, [], length, take, drop, max, None, true, false, is_some, IsTrue, IsFalse}; */
+/* ghost use Rattle.std.specs.Prelude.{◌≡◌, ◌+◌, ◌-◌, ◌<◌, ◌≤◌, ◌++◌, ◌==◌, [], length, take, drop, max, None, true, false, is_some, IsTrue, IsFalse, IfOk, min, ◌⊎◌}; */
 /* ghost use Rattle.std.specs.Borrow.{sem}; */
 /* ghost use Rattle.piper_protocol.specs.OneList.{loaded_closed, loaded_head, stored_closed, stored_tail}; */
 /* ghost use Rattle.piper_protocol.specs.Table.{goes_on}; */
-/* ghost use Rattle.piper_ring.specs.Log.{Comes, HasLeft, closed_loaded, did, leaves_at, next, now, then, told}; */
+/* ghost use Rattle.piper_ring.specs.Log.{Comes, HasLeft, Rests, began, closed_loaded, did, found_of, leaves_at, made, next, now, then, told}; */
 
 use crate::proved::piper_ring::ends::finished::{Finished, FinishedWriter};
 use crate::proved::piper_ring::ends::slots::side::Side;
@@ -14,7 +14,7 @@ use crate::proved::piper_ring::ring::marks::{ClosedMark, LastReadMark, ReadMark}
 use crate::proved::piper_ring::ring::memory::READER_SLOT;
 use crate::proved::piper_ring::ring::slots::{SlotWords, WaiterState};
 use crate::proved::piper_cells::lent_space::Lease;
-use crate::proved::piper_protocol::table::{self, Action, Found};
+use crate::proved::piper_protocol::table::{self, Action, AfterWrite, Found, MOST_A_ROUND, Point, WritePoint};
 
 /// The writer's side of a ring whose sides can wait.
 pub type WriteSide<T> = Side<WriteEnd, T>;
@@ -45,6 +45,10 @@ impl SlotEnd for WriteEnd {
     /* ghost stored_of = { λ e. as_stored e.sent 0 e.shut }; */
 
     /* ghost moved_of = { λ e. e.sent }; */
+
+    /* ghost seen_of = { λ e. length e.sent + e.room - e.capacity }; */
+
+    /* ghost shut_of = { λ e. e.shut }; */
 
     /* ghost tells = { λ m z s. (m.count.names ≡ z) × (m.closed.names ≡ z)
         × (m.count.count ≡ s.count) × (m.closed.seen ≡ s.closed) }; */
@@ -153,6 +157,44 @@ impl<T> Side<WriteEnd, T> {
             self.old.slots self.old.log } */
     {
         self.end.unlend();
+    }
+
+    /// A call begins that publishes the first `n` bytes of what is left of the slice last lent.
+    #[inline(always)]
+    pub fn begin_produce(&mut self, n: usize)
+        /* requires there { n ≤ length self.old.end.lent }
+        requires rests { Rests self.old.log }
+        ensures { Becomes self.old self.new self.old.end self.old.slots
+            (began (Point.Writer (WritePoint.StoreTail n AfterWrite.Answer)) self.old.log) } */
+    {
+        let _ = self.end.lent();
+        self.begin(Point::Writer(WritePoint::StoreTail(n, AfterWrite::Answer)));
+    }
+
+    /// A call begins that closes the pipe; `and_then` says whether this side leaves by it.
+    #[inline(always)]
+    pub fn begin_close(&mut self, and_then: AfterWrite)
+        /* requires then { (and_then ≡ AfterWrite.WakeWriter) ⊎ (and_then ≡ AfterWrite.Drop) }
+        requires rests { Rests self.old.log }
+        ensures { Becomes self.old self.new self.old.end self.old.slots
+            (began (Point.Writer (WritePoint.StoreClosed and_then)) self.old.log) } */
+    {
+        self.begin(Point::Writer(WritePoint::StoreClosed(and_then)));
+    }
+
+    /// A source was called with what is lent: it gave so many bytes, or failed.
+    #[inline(always)]
+    pub fn note_given<F>(&mut self, moved: &Result<usize, F>)
+        /* requires turn { next self.old.log ≡ Action.CallSource }
+        requires within { IfOk moved.now (λ n. n ≤ min MOST_A_ROUND (length self.old.end.lent)) }
+        ensures { Becomes self.old self.new self.old.end self.old.slots
+            (made (found_of moved.now) self.old.log) } */
+    {
+        let _ = self.end.lent();
+        match moved {
+            Ok(n) => self.log.note(Action::CallSource, Found::Moved(*n)),
+            Err(_) => self.log.note(Action::CallSource, Found::Failed),
+        }
     }
 
     /// Publishes the first `n` bytes of what is left of the slice last lent, and stores the tail

@@ -2,6 +2,7 @@
 -- is left.
 -- Both ends keep their views as the one comes to know of all bytes, and the other of all room.
 use Rattle.piper_ring.proofs.Kit.{◌≡◌, ℕ, ◌+◌, ◌-◌, ◌^◌, ◌<◌, ◌≤◌, ◌++◌, List, length, take, arith, sym, subst, ap, ◌∙◌, length-append, IsPrefix, position_of, ReaderIndices, WriterIndices, Names, ring_of, Stream, reaches_trans, ReadView, WriteView}
+use Rattle.rtrb.specs.Fifo.{slot_of as offset_of}
 use Rattle.std.proofs.lemmas.Grind.{common_steps}
 use Rattle.piper_protocol.specs.Index.{distance}
 use Rattle.piper_ring.specs.Shared.{Ring}
@@ -86,6 +87,7 @@ invariant_of-other c = let e = c.self.inside.parts in let i = c.self.invariant i
       heard = (o.heard.0 ∙ sym (λ j. (s j).names), o.heard.1 ∙ sym (λ j. (s j).names));
       closed = ap (λ (x : WriterIndices). x.is_shut) after ∙ o.closed ∙ sym (λ j. (s j).shut);
       lends_none = λ shut. o.lends_none (sym (λ j. (s j).shut) ∙ shut);
+      piece = subst (λ (k : ℕ). k ≤ c.set_head.new.self.capacity) (λ j. offset_of (sym cap j) (sym sent j) + length r.lent.bytes) (subst (λ (k : ℕ). offset_of w.indices.capacity sl + length r.lent.bytes ≤ k) (sym cap) o.piece);
     }
 
 pub returns : goal.returns

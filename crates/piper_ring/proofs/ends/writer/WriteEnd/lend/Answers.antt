@@ -1,5 +1,7 @@
 -- What is lent lies in the room and before the end of the memory.
 use Rattle.piper_ring.proofs.Kit.{◌≡◌, ℕ, ◌+◌, ◌-◌, ◌<◌, ◌≤◌, length, min, arith, sym, refl, ap, subst, ◌∙◌, slot_of as offset_of, slot_small, WriterIndices, room_in, left_in, ring_of, WriteView}
+use Rattle.std.proofs.Common.{rules}
+use Rattle.std.specs.List.{length_refill}
 use Rattle.piper_protocol.specs.LendBound.{lend_bound}
 use Rattle.piper_ring.specs.Lends.{written}
 use Rattle.piper_ring.specs.LendsBuffer.{with_lent}
@@ -40,3 +42,22 @@ returns c = let e = c.self.inside.parts in let i = c.self.invariant in let w = e
         some = λ open_still any asked. let all = lends_all c.args.max w len count (i.closed ∙ ap (λ (v : WriteView). v.shut) c.self.view_is ∙ open_still) in let same : e.seat.limit - s ≡ c.args.self.now.room = ap (λ (v : WriteView). v.room) c.self.view_is in omega arith;
       },
     )
+
+pub invariant_of-self-lent : goal.invariant_of-self-lent
+invariant_of-self-lent c ws = let e = c.self.inside.parts in let i = c.self.invariant in let cap : ℕ = e.indices.capacity in let s : ℕ = length e.seat.sent in let from : ℕ = c.lend-loan.result.from in let len : ℕ = c.lend-loan.result.len in
+    let kept : c.lend-loan.new.self.capacity ≡ cap = ap (λ (v : WriterIndices). v.capacity) c.lend-loan.ensures.after in let at : from ≡ offset_of cap s = offset_at cap _ s _ i.cached.0 c.lend-loan.ensures.remainder in let inside : from < cap = c.lend-loan.ensures.below in
+    let most : len ≤ min (min c.args.max (lend_bound e.indices.zeroed)) (min (room_in e.indices) (left_in e.indices)) = lends_within c.args.max e.indices len c.lend-loan.ensures.len in let left : left_in e.indices ≡ cap - from = ap (λ (k : ℕ). cap - k) (sym c.lend-loan.ensures.from) in
+    let many : length (written c.slice_mut.result.now ws) ≡ len = sym (length_refill _ _ ws refl) ∙ ap length c.slice_mut.ensures.value ∙ c.lend.ensures.lent in
+    record {
+      fits = search rules;
+      room = search rules;
+      placed = search rules;
+      freed = search rules;
+      cached = search rules;
+      leased = search rules;
+      lending = search rules;
+      heard = search rules;
+      closed = search rules;
+      lends_none = search rules;
+      piece = subst (λ (k : ℕ). offset_of k s + length (written c.slice_mut.result.now ws) ≤ k) (sym kept) (omega (arith, at, inside, most, left, many));
+    }

@@ -4,7 +4,9 @@ use Rattle.std.proofs.Math.Seq.{take-nil, drop-nil}
 use Rattle.std.proofs.Common.{false}
 use Rattle.piper_protocol.specs.OneList.{stored_tail}
 use Rattle.piper_ring.specs.Log.{IsLogOf, did}
+use Rattle.rtrb.specs.Fifo.{slot_of as offset_of}
 use Rattle.piper_ring.proofs.Indices.{further}
+use Rattle.piper_ring.proofs.WriterFacts.{rest_of_piece}
 use Rattle.piper_ring.proofs.ends.writer.WriteEnd.store_tail.Goals as goal
 
 pub store_tail-requires-clause-bytes : goal.store_tail-requires-clause-bytes
@@ -44,6 +46,7 @@ invariant_of-self c = let e = c.self.inside.parts in let i = c.self.invariant in
       cached = (further e.indices.capacity _ s n _ c.publish-tail.ensures.remainder i.cached.0 ∙ sym (λ j. position_of (cap j) (sent j)), head ∙ i.cached.1 ∙ sym (λ j. position_of (cap j) (limit j - cap j)));
       leased = (i.leased.0 ∙ ap (λ (z : Names). z.life) (sym (λ j. (t j).names)), i.leased.1);
       lending = omega arith;
+      piece = let fits = rest_of_piece e.indices.capacity s n (length L) pos i.piece le in subst (λ (k : ℕ). k ≤ g.capacity) (λ j. offset_of (sym cap j) (sym sent j) + sym rest j) (subst (λ (k : ℕ). offset_of e.indices.capacity (s + n) + (length L - n) ≤ k) (sym cap) fits);
       heard = (i.heard.0 ∙ sym (λ j. (t j).names), i.heard.1 ∙ sym (λ j. (t j).names));
       closed = ap (λ (w : WriterIndices). w.is_shut) after ∙ i.closed ∙ sym (λ j. (t j).shut);
       lends_none = λ shut. (λ j. (d.rest j).bytes) ∙ ap (drop_list n) (i.lends_none (sym (λ j. (t j).shut) ∙ shut)) ∙ drop-nil n;

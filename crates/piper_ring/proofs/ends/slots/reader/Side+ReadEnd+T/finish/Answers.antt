@@ -1,5 +1,6 @@
 -- What was taken, and that the side left, is what this function says.
 use Rattle.std.proofs.Common.{◌≡◌, ℕ, Bool, true, false, is_some, ◌∙◌, refl, sym, rules}
+use Rattle.piper_protocol.specs.Told.{are_calls, are_told}
 use Rattle.piper_ring.specs.Loads.{as_taken}
 use Rattle.piper_ring.specs.Slot.{ticket_if}
 use Rattle.piper_ring.proofs.ends.slots.reader.Side+ReadEnd+T.finish.Goals as goal
@@ -13,3 +14,13 @@ returns-clause-ticket g c = record { none = search rules; some = search rules; w
 
 pub returns-clause-leaves : goal.returns-clause-leaves
 returns-clause-leaves g c = let taken = c.empty_other-found.new in (ticket_if taken.right.filled taken.slot.taken, ticket_is taken.right.filled taken.slot.taken ∙ sym c.take_out-taken.ensures.some, search rules)
+
+pub invariant_of-side-clause-calls : goal.invariant_of-side-clause-calls
+unfolding are_calls
+invariant_of-side-clause-calls g c =
+    rw (c.tell-2.ensures.line, c.empty_other-found.ensures.noted, c.tell.ensures.line, c.close-leaving.ensures.noted) c.args.self.calls
+
+pub invariant_of-side-clause-right : goal.invariant_of-side-clause-right
+unfolding are_told
+invariant_of-side-clause-right g c =
+    c.tell-2.ensures.right ∙ rw c.empty_other-found.ensures.noted (c.tell.ensures.right ∙ rw c.close-leaving.ensures.noted c.args.self.right)

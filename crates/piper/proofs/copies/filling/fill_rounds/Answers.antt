@@ -5,7 +5,7 @@ use Rattle.piper_ring.specs.WriteView.{WriteView}
 use Rattle.piper.proofs.Calling.{calls_then}
 use Rattle.piper.proofs.Rounds.{round_in}
 use Rattle.piper.proofs.RoundsIn.{fill_ended, fill_closed, fill_failed, filled_more}
-use Rattle.piper.proofs.handles.Writer.fill_rounds.Goals as goal
+use Rattle.piper.proofs.copies.filling.fill_rounds.Goals as goal
 
 pub returns-then-asks-eq0-clause-filled : goal.returns-then-asks-eq0-clause-filled
 returns-then-asks-eq0-clause-filled g c =
@@ -45,9 +45,7 @@ rounds-preserved g c =
       open_yet = search rules;
       failures = search rules;
       rest = search rules;
-      woke = record {
-        called = calls_then c.args.self.now.side.slots c.rounds.self.side.slots c.wake_other.new.side.slots (ap (λ (s : SlotsView). s.names) before.rest.slots) before.woke.called
-            (rw (c.store_tail.ensures.side.slots, c.load_closed.ensures.side.slots, c.fill_round.ensures.rest.slots) at c.wake_other.ensures.called);
-        notifies = search rules;
-      };
+      called = calls_then c.args.side.now.slots c.rounds.side.slots c.wake_other.new.side.slots (ap (λ (s : SlotsView). s.names) before.rest.0) before.called
+          (rw (c.store_tail.ensures.side.slots, c.load_closed.ensures.side.slots, c.fill_round.ensures.rest.0) at c.wake_other.ensures.called);
+      notifies = search rules;
     }

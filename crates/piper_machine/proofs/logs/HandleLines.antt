@@ -1,0 +1,97 @@
+-- The accesses and the bytes of a handle's log are those of its lines.
+use Rattle.std.proofs.Common.{◌≡◌, ℕ, List, [], ◌∷◌, ◌++◌, Bool, true, false, Option, None, Some, refl, ap, ◌∙◌, append-nil}
+use Rattle.piper_machine.specs.Types.{Action, Found, Side, Reader, Writer}
+use Rattle.piper_protocol.specs.declared.log.Note.{Note}
+use Rattle.piper_protocol.specs.Lines as handle
+use Rattle.piper_protocol.specs.OneList as shared
+use Rattle.piper_protocol.specs.Told.{have_met, moved_in}
+use Rattle.piper_machine.specs.logs.Line.{Line}
+use Rattle.piper_machine.specs.logs.Listed.{line_of, lines_of}
+use Rattle.piper_machine.specs.logs.Moved.{consumed, consumed_by, published, published_by}
+use Rattle.piper_machine.specs.logs.OfHandles.{given_by, line_made, line_noted, lines_with, with_line}
+use Rattle.piper_machine.specs.logs.OneList.{accesses, is_access, kept_if}
+use Rattle.piper_machine.specs.logs.Reading.{AreReaderRuns}
+use Rattle.piper_machine.specs.logs.Writing.{AreWriterRuns}
+
+is-one : (a : shared.Access) (rest : List Line) → kept_if (is_access (line_of a)) (line_of a) rest ≡ line_of a ∷ rest
+is-one (shared.loaded_head count) rest = refl
+is-one (shared.loaded_tail count) rest = refl
+is-one (shared.loaded_closed is_closed) rest = refl
+is-one (shared.stored_head bytes) rest = refl
+is-one (shared.stored_tail bytes) rest = refl
+is-one shared.stored_closed rest = refl
+is-one (shared.loaded_slot side is_filled) rest = refl
+is-one (shared.swapped side old left) rest = refl
+
+-- a step that is no access
+record IsBeside (line : Line) : Type 0 where
+  accesses_none : is_access line ≡ false
+  consumes_none : consumed_by line ≡ []
+  publishes_none : published_by line ≡ []
+
+made-beside : (given : List ℕ) (before : List handle.Line) (action : Action) (found : Found) → IsBeside (line_made given before action found)
+made-beside given before Action.Register found = record { accesses_none = refl; consumes_none = refl; publishes_none = refl }
+made-beside given before Action.Wake found = record { accesses_none = refl; consumes_none = refl; publishes_none = refl }
+made-beside given before Action.Yield found = record { accesses_none = refl; consumes_none = refl; publishes_none = refl }
+made-beside given before Action.CallDestination (Found.Moved n) = record { accesses_none = refl; consumes_none = refl; publishes_none = refl }
+made-beside given before Action.CallDestination found = record { accesses_none = refl; consumes_none = refl; publishes_none = refl }
+made-beside given before Action.CallSource (Found.Moved n) = record { accesses_none = refl; consumes_none = refl; publishes_none = refl }
+made-beside given before Action.CallSource found = record { accesses_none = refl; consumes_none = refl; publishes_none = refl }
+made-beside given before action found = record { accesses_none = refl; consumes_none = refl; publishes_none = refl }
+
+-- a note adds nothing that is shared
+record AddsNone (added : Option Line) : Type 0 where
+  accessed : (rest : List Line) → accesses (with_line added rest) ≡ accesses rest
+  consumed_same : (rest : List Line) → consumed (with_line added rest) ≡ consumed rest
+  published_same : (rest : List Line) → published (with_line added rest) ≡ published rest
+
+adds-none : (line : Line) → IsBeside line → AddsNone (Some line)
+adds-none line beside = record {
+  accessed = λ rest. ap (λ (b : Bool). kept_if b line (accesses rest)) beside.accesses_none;
+  consumed_same = λ rest. ap (λ (x : List ℕ). consumed rest ++ x) beside.consumes_none ∙ append-nil (consumed rest);
+  published_same = λ rest. ap (λ (x : List ℕ). published rest ++ x) beside.publishes_none ∙ append-nil (published rest);
+}
+
+notes-none : (given : List ℕ) (before : List handle.Line) (said : Note) → AddsNone (line_noted given before said)
+notes-none given before (Note.Began first) = adds-none _ (record { accesses_none = refl; consumes_none = refl; publishes_none = refl })
+notes-none given before (Note.Made found) = adds-none _ (made-beside given before (handle.action (handle.comes_to before).point) found)
+notes-none given before (Note.Drew is_drawn) = adds-none _ (record { accesses_none = refl; consumes_none = refl; publishes_none = refl })
+notes-none given before said = record { accessed = λ rest. refl; consumed_same = λ rest. refl; published_same = λ rest. refl }
+
+pub accesses-same : (own : Side) (given : List ℕ) (lines : List handle.Line) → have_met lines ≡ false → accesses (lines_with own given lines) ≡ lines_of (handle.accesses_in lines)
+unfolding have_met
+accesses-same own given [] apart = refl
+accesses-same own given (handle.access a ∷ before) apart =
+    is-one a (accesses (lines_with own (given_by given a) before)) ∙ ap (λ (x : List Line). line_of a ∷ x) (accesses-same own (given_by given a) before apart)
+accesses-same own given (handle.note said ∷ before) apart = (notes-none given before said).accessed (lines_with own given before) ∙ accesses-same own given before apart
+accesses-same own given (handle.met count ∷ before) apart = absurd (let no : true ≡ false = apart in cc)
+
+runs-before : (capacity : ℕ) (added : Option Line) (rest : List Line) → AreReaderRuns capacity (with_line added rest) → AreReaderRuns capacity rest
+runs-before capacity None rest runs = runs
+runs-before capacity (Some line) rest runs = runs.1
+
+writes-before : (capacity : ℕ) (added : Option Line) (rest : List Line) → AreWriterRuns capacity (with_line added rest) → AreWriterRuns capacity rest
+writes-before capacity None rest runs = runs
+writes-before capacity (Some line) rest runs = runs.1
+
+pub consumed-same : (capacity : ℕ) (given : List ℕ) (lines : List handle.Line) → have_met lines ≡ false → AreReaderRuns capacity (lines_with Reader given lines) → consumed (lines_with Reader given lines) ≡ moved_in lines
+unfolding have_met moved_in
+consumed-same capacity given [] apart runs = refl
+consumed-same capacity given (handle.access (shared.stored_head bytes) ∷ before) apart runs = ap (λ (x : List ℕ). x ++ bytes) (consumed-same capacity bytes before apart runs.1)
+consumed-same capacity given (handle.access (shared.stored_tail bytes) ∷ before) apart runs = absurd runs.0
+consumed-same capacity given (handle.access a ∷ before) apart runs = append-nil (consumed (lines_with Reader given before)) ∙ consumed-same capacity given before apart runs.1
+consumed-same capacity given (handle.note said ∷ before) apart runs =
+    let rest : List Line = lines_with Reader given before in
+    (notes-none given before said).consumed_same rest ∙ consumed-same capacity given before apart (runs-before capacity (line_noted given before said) rest runs)
+consumed-same capacity given (handle.met count ∷ before) apart runs = absurd (let no : true ≡ false = apart in cc)
+
+pub published-same : (capacity : ℕ) (given : List ℕ) (lines : List handle.Line) → have_met lines ≡ false → AreWriterRuns capacity (lines_with Writer given lines) → published (lines_with Writer given lines) ≡ moved_in lines
+unfolding have_met moved_in
+published-same capacity given [] apart runs = refl
+published-same capacity given (handle.access (shared.stored_tail bytes) ∷ before) apart runs = ap (λ (x : List ℕ). x ++ bytes) (published-same capacity bytes before apart runs.1)
+published-same capacity given (handle.access (shared.stored_head bytes) ∷ before) apart runs = absurd runs.0
+published-same capacity given (handle.access a ∷ before) apart runs = append-nil (published (lines_with Writer given before)) ∙ published-same capacity given before apart runs.1
+published-same capacity given (handle.note said ∷ before) apart runs =
+    let rest : List Line = lines_with Writer given before in
+    (notes-none given before said).published_same rest ∙ published-same capacity given before apart (writes-before capacity (line_noted given before said) rest runs)
+published-same capacity given (handle.met count ∷ before) apart runs = absurd (let no : true ≡ false = apart in cc)

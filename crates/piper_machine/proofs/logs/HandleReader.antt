@@ -1,0 +1,168 @@
+-- Where a reader is inside its call, by the log of its handle, and where a step leads.
+use Rattle.std.proofs.Common.{◌≡◌, ℕ, ◌-◌, ◌≤◌, min, List, Bool, true, false, not, Option, None, Some, is_some, refl, sym, subst, ◌∙◌, arith}
+use Rattle.std.specs.Bool.{⊤}
+use Rattle.piper_machine.specs.Types.{Action, AfterRead, Answer, Found, Polling, Purpose, ReadPoint, Try, Reader}
+use Rattle.piper_protocol.specs.declared.table.Form.{Form}
+use Rattle.piper_protocol.specs.declared.table.Point.{Point}
+use Rattle.piper_protocol.specs.declared.table.Purpose.TheVariants.{Poll, Copy}
+use Rattle.piper_protocol.specs.Lines as handle
+use Rattle.piper_protocol.specs.Table.{Next, goes_on, read_action, read_after, read_done, read_row, reader_found, reader_found_none, reader_is_true, reader_looked, reader_looked_again, reader_moved}
+use Rattle.piper_protocol.specs.Told.{draws_at, either, has_drawn, is_idle, may_empty, rests}
+use Rattle.piper_machine.specs.logs.Calling.{Calling, calling_after, may_wait_after, no_calling}
+use Rattle.piper_machine.specs.logs.Line.{Line}
+use Rattle.piper_machine.specs.logs.OfHandles.{of_length}
+use Rattle.piper_machine.specs.logs.Reading.{HasDrawn, IsReaderNext, ReaderAt, reader_after, reader_answered, reader_changed, reader_stepped, reader_told}
+use Rattle.piper_machine.proofs.logs.Draws.{ends-at}
+use Rattle.piper_machine.proofs.logs.HandleCalls.{Calls, Counted, Known, OfCopy, Stage, When, either-first, finds, finds-none, found, found_none, goes-true, is_dead, is_true, known_of, looks, moves, opened, opens, registers, some-is, stays, takes, wakes, yields}
+
+abbrev pub is_round : AfterRead → Bool
+is_round (AfterRead.Round form sum) = true
+is_round next = false
+
+abbrev pub stage : ReadPoint → Stage
+stage (ReadPoint.LookTail l) = opens l
+stage (ReadPoint.LookRegister l) = registers l
+stage (ReadPoint.LookClosed l) = looks l
+stage (ReadPoint.LookTailAgain l was_closed) = looks l
+stage (ReadPoint.LookTake l) = takes l
+stage ReadPoint.Yield = yields
+stage (ReadPoint.CallDestination form sum) = moves true
+stage (ReadPoint.StoreHead n next) = moves (is_round next)
+stage (ReadPoint.TakeWriter next) = moves (is_round next)
+stage (ReadPoint.WakeWriter next) = wakes (is_round next)
+stage point = stays
+
+-- the table leads to these stages
+
+pub stage-found : (l : Purpose) → stage (reader_found l) ≡ found l
+stage-found Poll = refl
+stage-found (Copy Try) = refl
+stage-found (Copy (Polling is_drawn)) = refl
+
+pub stage-none : (l : Purpose) → stage (reader_found_none l) ≡ found_none l
+stage-none Poll = refl
+stage-none (Copy Try) = refl
+stage-none (Copy (Polling is_drawn)) = refl
+
+pub stage-true : (l : Purpose) → stage (reader_is_true l).point ≡ is_true l
+stage-true Poll = refl
+stage-true (Copy Try) = refl
+stage-true (Copy (Polling true)) = refl
+stage-true (Copy (Polling false)) = refl
+
+pub stage-rests : (point : ReadPoint) → read_action point ≡ Action.Rest → stage point ≡ stays
+stage-rests point e = grind arith
+
+module _ (k : Known) (c : Calling) (Own : Type 0) where
+  pub looked : (none : Bool) (l : Purpose) → k.is_drawn ≡ false → Calls (opens l) k c Own → Calls (stage (reader_looked none l)) k c Own
+  looked true l new h = subst (λ (s : Stage). Calls s k c Own) (sym (stage-none l)) (finds-none l k c Own h)
+  looked false l new h = subst (λ (s : Stage). Calls s k c Own) (sym (stage-found l)) (finds l k c Own new (opened l k c Own h))
+
+  pub looked-again : (none was_closed : Bool) (l : Purpose) → k.is_drawn ≡ false → Calls (looks l) k c Own → Calls (stage (reader_looked_again none l was_closed).point) k c Own
+  looked-again true was_closed l new h = tt
+  looked-again false was_closed l new h = subst (λ (s : Stage). Calls s k c Own) (sym (stage-found l)) (finds l k c Own new h)
+
+  pub emptied : (l : Purpose) → (c.handed ≡ Some k.waker) × OfCopy l Own → Calls (stage (reader_is_true l).point) k c Own
+  emptied l h = subst (λ (s : Stage). Calls s k c Own) (sym (stage-true l)) (goes-true l k c Own h)
+
+  pub done : (next : AfterRead) → When (is_round next) Own → Calls (stage (read_done next).point) k c Own
+  done AfterRead.Answer h = tt
+  done AfterRead.Drop h = tt
+  done (AfterRead.Round form sum) h = h
+
+  pub moved : (none : Bool) (n sum : ℕ) (form : Form) → Own → Calls (stage (reader_moved none n form sum).point) k c Own
+  moved true n sum form h = tt
+  moved false n sum form h = h
+
+-- a copy has drawn that empties its own slot
+pub has-drawn : (l : Purpose) (draw : Option Bool) (before : List handle.Line) → (handle.comes_to before).point ≡ Point.Reader (ReadPoint.LookTake l) → may_empty Reader Reader before ≡ true → is_some draw ≡ has_drawn before → HasDrawn (ReadPoint.LookTake l) draw
+has-drawn Poll draw before e may d = tt
+has-drawn (Copy Try) draw before e may d = tt
+has-drawn (Copy (Polling is_drawn)) draw before e may d =
+    some-is draw (d ∙ either-first (has_drawn before) (subst (λ (p : Point). either (has_drawn before) (not (draws_at p)) ≡ true) e may))
+
+-- the bytes of the store that is next
+
+abbrev pub Stores : ℕ → List ℕ → ReadPoint → ℕ → List ℕ → Type 0
+Stores capacity given (ReadPoint.StoreHead n next) start own = (n ≤ capacity - start) × (own ≡ of_length n given)
+Stores capacity given point start own = ⊤
+
+abbrev pub is_store : ReadPoint → Bool
+is_store (ReadPoint.StoreHead n next) = true
+is_store point = false
+
+pub stores-none : (capacity : ℕ) (given : List ℕ) (point : ReadPoint) (start : ℕ) (own : List ℕ) → is_store point ≡ false → Stores capacity given point start own
+stores-none capacity given (ReadPoint.StoreHead n next) start own e = absurd cc
+stores-none capacity given point start own e = tt
+
+abbrev pub row : ReadPoint → Found → Next ReadPoint
+row point f = read_row (goes_on ReadPoint.Idle) point f
+
+pub row-stores : (point : ReadPoint) (f : Found) → (read_action point ≡ Action.CallDestination → ⊥) → is_store (row point f).point ≡ false
+row-stores point f other = grind arith
+
+pub moved-stores : (capacity : ℕ) (given : List ℕ) (none : Bool) (n sum start : ℕ) (form : Form) → n ≤ capacity - start → Stores capacity given (reader_moved none n form sum).point start (of_length n given)
+moved-stores capacity given true n sum start form within = tt
+moved-stores capacity given false n sum start form within = (within, refl)
+
+pub takes-within : (n m shown most : ℕ) → m ≡ n → n ≤ shown → n ≤ most → m ≤ min shown most
+takes-within n m shown most e shows within = omega arith
+
+pub idle-point : (point : ReadPoint) → is_idle (Point.Reader point) ≡ true → point ≡ ReadPoint.Idle
+idle-point point e = grind arith
+
+-- the reader is where these lines say, if the next store moves these bytes
+pub record IsAt (capacity : ℕ) (lines : List handle.Line) (given : List ℕ) (r : ReaderAt) : Type 0 where
+  pub counted : Counted capacity Reader lines r.head r.tail r.start r.may_wait
+  pub stores : Stores capacity given r.point r.start r.given
+  pub calls : Calls (stage r.point) (known_of lines) r.calling (r.size ≡ None)
+
+abbrev pub OwnSize : Option ℕ → Type 0
+OwnSize size = (size ≡ None)
+
+abbrev pub Arrives : ℕ → List handle.Line → List ℕ → ReadPoint → ReaderAt → Type 0
+Arrives capacity lines given point r = (Point.Reader point ≡ Point.Reader r.point) × IsAt capacity lines given r
+
+abbrev pub at : ReadPoint → ReaderAt → ReaderAt
+at point r = record r { point = point }
+
+abbrev pub side_next : Next ReadPoint → Next Point
+side_next next = record { point = Point.Reader next.point; answer = next.answer }
+
+module _ (capacity : ℕ) where
+  pub answered : (lines : List handle.Line) (given : List ℕ) (r : ReaderAt) (point : ReadPoint) (calling : Calling) (answer : Option Answer) → ((a : Answer) → answer ≡ Some a → read_action point ≡ Action.Rest)
+      → Counted capacity Reader lines r.head r.tail r.start r.may_wait → Stores capacity given point r.start r.given → Calls (stage point) (known_of lines) calling (r.size ≡ None)
+      → Arrives capacity lines given point (reader_answered answer (record r { point = point; calling = calling }))
+  answered lines given r point calling None rests counted stores calls = (refl, record { counted = counted; stores = stores; calls = calls })
+  answered lines given r point calling (Some a) rests counted stores calls = (
+    refl,
+    record {
+      counted = counted;
+      stores = stores;
+      calls = subst (λ (s : Stage). Calls s (known_of lines) no_calling (OwnSize (Some 0))) (sym (stage-rests point (rests a refl))) tt;
+    },
+  )
+
+  module _ (lines : List handle.Line) (given : List ℕ) (line : Line) where
+    -- a step of the table
+    pub leads : (r : ReaderAt) (next : Next ReadPoint) → read_after capacity r.point (reader_told line r) ≡ next
+        → Counted capacity Reader lines (reader_changed capacity line r).head (reader_changed capacity line r).tail (reader_changed capacity line r).start (may_wait_after Reader line r.may_wait)
+        → Stores capacity given next.point (reader_changed capacity line r).start (reader_changed capacity line r).given
+        → Calls (stage next.point) (known_of lines) (calling_after line r.calling) ((reader_changed capacity line r).size ≡ None)
+        → Arrives capacity lines given next.point (reader_stepped capacity line r)
+    leads r next e counted stores calls =
+        let changed : ReaderAt = record (reader_changed capacity line r) { may_wait = may_wait_after Reader line r.may_wait } in
+        let ended = λ (a : Answer). subst (λ (n : Next ReadPoint). n.answer ≡ Some a → read_action n.point ≡ Action.Rest) e (ends-at capacity r.point (reader_told line r) a) in
+        subst (λ (n : Next ReadPoint). Arrives capacity lines given next.point (reader_answered n.answer (record changed { point = n.point; calling = calling_after line r.calling }))) (sym e)
+        (answered lines given changed next.point (calling_after line r.calling) next.answer ended counted stores calls)
+
+    -- one that is not the call of a destination
+    pub steps : (point : ReadPoint) (f : Found) (r : ReaderAt) → (read_action point ≡ Action.CallDestination → ⊥) → read_after capacity point (reader_told line (at point r)) ≡ row point f
+        → Counted capacity Reader lines (reader_changed capacity line (at point r)).head (reader_changed capacity line (at point r)).tail (reader_changed capacity line (at point r)).start (may_wait_after Reader line r.may_wait)
+        → Calls (stage (row point f).point) (known_of lines) (calling_after line r.calling) ((reader_changed capacity line (at point r)).size ≡ None)
+        → Arrives capacity lines given (row point f).point (reader_stepped capacity line (at point r))
+    steps point f r other e counted calls =
+        leads (at point r) (row point f) e counted (stores-none capacity given (row point f).point (reader_changed capacity line (at point r)).start (reader_changed capacity line (at point r)).given (row-stores point f other)) calls
+
+    abbrev pub Follows : Next ReadPoint → ReaderAt → Type 0
+    Follows next r = IsReaderNext capacity line r × (is_dead (side_next next) ≡ false → Arrives capacity lines given next.point (reader_after capacity line r))

@@ -1,0 +1,221 @@
+-- Where an access of the writer leads, which says what it found.
+use Rattle.std.proofs.Common.{◌≡◌, inl, inr, ℕ, suc, ◌+◌, ◌-◌, ◌%◌, ◌≤◌, ◌==◌, List, ◌∷◌, length, Bool, true, false, None, Some, refl, sym, ap, subst, ◌∙◌, arith, length-append}
+use Rattle.piper_machine.specs.Types.{Action, AfterWrite, Answer, Found, Purpose, WritePoint, Reader, Writer}
+use Rattle.piper_protocol.specs.declared.log.Note.{Note}
+use Rattle.piper_protocol.specs.declared.table.Form.{Form}
+use Rattle.piper_protocol.specs.declared.table.Point.{Point}
+use Rattle.piper_protocol.specs.Index.{offset_of}
+use Rattle.piper_protocol.specs.Lines as handle
+use Rattle.piper_protocol.specs.OneList as shared
+use Rattle.piper_protocol.specs.Table.{end_or_pending, ends, goes_on, look_answer, write_action, writer_looked, writer_looked_again, writer_rounds}
+use Rattle.piper_protocol.specs.Told.{fits, known_in, may_empty, moved_in, piece_in, seen_in, shut_in, tickets_in, waits_in}
+use Rattle.piper_machine.specs.logs.Calling.{calling_after}
+use Rattle.piper_machine.specs.logs.Line.{loaded_head, loaded_closed, stored_tail, stored_closed, loaded_slot, swapped}
+use Rattle.piper_machine.specs.logs.Listed.{line_of}
+use Rattle.piper_machine.specs.logs.OfHandles.{given_by}
+use Rattle.piper_machine.specs.logs.Writing.{WriterAt, contiguous, own, room_to}
+use Rattle.piper_machine.proofs.logs.HandleCalls.{Counted, alike-is, equal-is, kept, known_of, of-own-length, place-after, registered, second-of}
+use Rattle.piper_machine.proofs.logs.HandleWriter.{Follows, IsAt, at, done, emptied, has-drawn, leads, looked, looked-again, round-stores, rounds, row, steps}
+
+module _ (capacity : ℕ) (some : 1 ≤ capacity) where
+  module _ (w : WriterAt) (before : List handle.Line) (given : List ℕ) where
+    pub rooms : Counted capacity Writer before w.tail w.head w.end w.may_wait → room_to capacity w ≡ known_in capacity Writer before
+    rooms counted = let moves_so = counted.moves in let sees_so = counted.sees in cc
+
+    pub pieces : Counted capacity Writer before w.tail w.head w.end w.may_wait → contiguous capacity w ≡ piece_in capacity Writer before
+    pieces counted = let moves_so = counted.moves in let sees_so = counted.sees in let lies_so = counted.lies in cc
+
+    pub lies-after : (end tail n : ℕ) → end ≡ tail % capacity → n ≤ capacity - end → offset_of capacity (end + n) ≡ (tail + n) % capacity
+    lies-after end tail n lies within = ap (λ (m : ℕ). offset_of capacity (m + n)) lies ∙ place-after capacity tail n some (omega (arith, within, lies))
+
+    abbrev ToldAt : WritePoint → shared.Access → Found → Type 0
+    ToldAt point a f =
+        (handle.comes_to before).point ≡ Point.Writer point → fits capacity Writer before (write_action point) a f ≡ true → IsAt capacity before (given_by given a) (at point w)
+        → Follows capacity (handle.note (Note.Told f) ∷ handle.access a ∷ before) given (line_of a) (row point f) (at point w)
+
+    told-head : (l : Purpose) (a : shared.Access) (f : Found) → ToldAt (WritePoint.LookHead l) a f
+    unfolding moved_in seen_in waits_in tickets_in shut_in
+    told-head l (shared.loaded_head count) (Found.IndexLoaded none) = λ e fit is. (
+      refl,
+      λ alive. steps capacity _ given (loaded_head count) (WritePoint.LookHead l) (Found.IndexLoaded none) w refl (ap (λ (b : Bool). goes_on (writer_looked b l)) (sym (alike-is none (capacity - (length (moved_in before) - count) == 0) fit ∙ ap (λ (n : ℕ). capacity - (n - count) == 0) (sym is.counted.moves)))) (record { moves = is.counted.moves; sees = refl; lies = is.counted.lies; may_wait = is.counted.may_wait }) is.shut (looked _ _ _ none l refl is.calls),
+    )
+    told-head l a f = λ e fit is. absurd (let no : false ≡ true = fit in cc)
+
+    told-head-again : (l : Purpose) (a : shared.Access) (f : Found) → ToldAt (WritePoint.LookHeadAgain l) a f
+    unfolding moved_in seen_in waits_in tickets_in shut_in
+    told-head-again l (shared.loaded_head count) (Found.IndexLoaded none) = λ e fit is. (
+      refl,
+      λ alive. steps capacity _ given (loaded_head count) (WritePoint.LookHeadAgain l) (Found.IndexLoaded none) w refl (ap (λ (b : Bool). goes_on (writer_looked_again b l)) (sym (alike-is none (capacity - (length (moved_in before) - count) == 0) fit ∙ ap (λ (n : ℕ). capacity - (n - count) == 0) (sym is.counted.moves)))) (record { moves = is.counted.moves; sees = refl; lies = is.counted.lies; may_wait = is.counted.may_wait }) is.shut (looked-again _ _ _ none l refl is.calls),
+    )
+    told-head-again l a f = λ e fit is. absurd (let no : false ≡ true = fit in cc)
+
+    told-closed : (l : Purpose) (a : shared.Access) (f : Found) → ToldAt (WritePoint.LookClosed l) a f
+    unfolding moved_in seen_in waits_in tickets_in shut_in
+    told-closed l (shared.loaded_closed b) (Found.Flag said) = λ e fit is. (
+      refl,
+      λ alive. absurd (let no : true ≡ false = alive in cc),
+    )
+    told-closed l a f = λ e fit is. absurd (let no : false ≡ true = fit in cc)
+
+    told-closed-again : (l : Purpose) (a : shared.Access) (f : Found) → ToldAt (WritePoint.LookClosedAgain l) a f
+    unfolding moved_in seen_in waits_in tickets_in shut_in
+    told-closed-again l (shared.loaded_closed b) (Found.Flag said) = λ e fit is. (
+      refl,
+      λ alive. steps capacity _ given (loaded_closed b) (WritePoint.LookClosedAgain l) (Found.Flag said) w refl (ap (λ (x : Bool). ends WritePoint.Idle (look_answer l (end_or_pending x))) (alike-is b said fit)) (kept _ _ before _ _ _ _ _ refl refl refl is.counted) is.shut tt,
+    )
+    told-closed-again l a f = λ e fit is. absurd (let no : false ≡ true = fit in cc)
+
+    told-query : (a : shared.Access) (f : Found) → ToldAt WritePoint.QueryClosed a f
+    unfolding moved_in seen_in waits_in tickets_in shut_in
+    told-query (shared.loaded_closed b) (Found.Flag said) = λ e fit is. (
+      refl,
+      λ alive. steps capacity _ given (loaded_closed b) WritePoint.QueryClosed (Found.Flag said) w refl (ap (λ (x : Bool). ends WritePoint.Idle (Answer.Flag x)) (alike-is b said fit)) (kept _ _ before _ _ _ _ _ refl refl refl is.counted) is.shut tt,
+    )
+    told-query a f = λ e fit is. absurd (let no : false ≡ true = fit in cc)
+
+    told-round : (n : ℕ) (form : Form) (sum : ℕ) (a : shared.Access) (f : Found) → ToldAt (WritePoint.RoundClosed n form sum) a f
+    unfolding moved_in seen_in waits_in tickets_in shut_in
+    told-round n form sum (shared.loaded_closed b) (Found.Flag said) = λ e fit is. (
+      refl,
+      λ alive. leads capacity _ given (loaded_closed b) (at (WritePoint.RoundClosed n form sum) w) (row (WritePoint.RoundClosed n form sum) (Found.Flag said)) (ap (λ (x : Bool). writer_rounds x n form sum) (alike-is b said fit)) (kept _ _ before _ _ _ _ _ refl refl refl is.counted) is.shut (round-stores capacity given said n sum w.end w.given form is.stores) (rounds _ _ _ said n sum form is.calls),
+    )
+    told-round n form sum a f = λ e fit is. absurd (let no : false ≡ true = fit in cc)
+
+    told-register : (l : Purpose) (a : shared.Access) (f : Found) → ToldAt (WritePoint.LookRegister l) a f
+    unfolding moved_in seen_in waits_in tickets_in shut_in
+    told-register l (shared.swapped Writer old (Some ticket)) (Found.Granted true) = λ e fit is. (
+      (refl, refl, is.calls.0 ∙ ap Some (is.calls.4 ∙ sym (equal-is ticket (suc (tickets_in before)) fit)), is.calls.3),
+      λ alive. steps capacity _ given (swapped Writer old (Some ticket)) (WritePoint.LookRegister l) (Found.Granted true) w refl refl (record { moves = is.counted.moves; sees = is.counted.sees; lies = is.counted.lies; may_wait = refl }) is.shut (registered l (known_of (handle.note (Note.Told (Found.Granted true)) ∷ handle.access (shared.swapped Writer old (Some ticket)) ∷ before)) (calling_after (swapped Writer old (Some ticket)) w.calling) (w.source ≡ own) (is.calls.0, is.calls.1, is.calls.2)),
+    )
+    told-register l (shared.swapped side old (Some ticket)) (Found.Granted true) = λ e fit is. absurd (let no : false ≡ true = fit in cc)
+    told-register l a f = λ e fit is. absurd (let no : false ≡ true = fit in cc)
+
+    told-take : (l : Purpose) (a : shared.Access) (f : Found) → ToldAt (WritePoint.LookTake l) a f
+    unfolding moved_in seen_in waits_in tickets_in shut_in
+    told-take l (shared.loaded_slot Writer false) (Found.Waker false) = λ e fit is. (
+      inl (refl, has-drawn l w.calling.draw before e fit is.calls.1),
+      λ alive. steps capacity _ given (loaded_slot Writer false) (WritePoint.LookTake l) (Found.Waker false) w refl refl (record { moves = is.counted.moves; sees = is.counted.sees; lies = is.counted.lies; may_wait = refl }) is.shut (emptied _ _ _ l (is.calls.0, is.calls.2)),
+    )
+    told-take l (shared.loaded_slot Writer false) Found.Nothing = λ e fit is. (
+      inl (refl, has-drawn l w.calling.draw before e fit is.calls.1),
+      λ alive. steps capacity _ given (loaded_slot Writer false) (WritePoint.LookTake l) Found.Nothing w refl refl (record { moves = is.counted.moves; sees = is.counted.sees; lies = is.counted.lies; may_wait = refl }) is.shut (emptied _ _ _ l (is.calls.0, is.calls.2)),
+    )
+    told-take l (shared.swapped Writer old None) (Found.Waker said) = λ e fit is. (
+      inl (refl, has-drawn l w.calling.draw before e (second-of _ (may_empty Writer Writer before) fit) is.calls.1),
+      λ alive. steps capacity _ given (swapped Writer old None) (WritePoint.LookTake l) (Found.Waker said) w refl refl (record { moves = is.counted.moves; sees = is.counted.sees; lies = is.counted.lies; may_wait = refl }) is.shut (emptied _ _ _ l (is.calls.0, is.calls.2)),
+    )
+    told-take l (shared.swapped Writer old None) Found.Nothing = λ e fit is. (
+      inl (refl, has-drawn l w.calling.draw before e fit is.calls.1),
+      λ alive. steps capacity _ given (swapped Writer old None) (WritePoint.LookTake l) Found.Nothing w refl refl (record { moves = is.counted.moves; sees = is.counted.sees; lies = is.counted.lies; may_wait = refl }) is.shut (emptied _ _ _ l (is.calls.0, is.calls.2)),
+    )
+    told-take l (shared.loaded_slot side is_filled) (Found.Waker false) = λ e fit is. absurd (let no : false ≡ true = fit in cc)
+    told-take l (shared.loaded_slot side is_filled) Found.Nothing = λ e fit is. absurd (let no : false ≡ true = fit in cc)
+    told-take l (shared.swapped side old None) (Found.Waker said) = λ e fit is. absurd (let no : false ≡ true = fit in cc)
+    told-take l (shared.swapped side old None) Found.Nothing = λ e fit is. absurd (let no : false ≡ true = fit in cc)
+    told-take l a f = λ e fit is. absurd (let no : false ≡ true = fit in cc)
+
+    told-store : (n : ℕ) (next : AfterWrite) (a : shared.Access) (f : Found) → ToldAt (WritePoint.StoreTail n next) a f
+    unfolding moved_in seen_in waits_in tickets_in shut_in
+    told-store n next (shared.stored_tail bytes) Found.Nothing = λ e fit is. (
+      (ap Action.StoreTail (sym (equal-is (length bytes) n fit)), sym (is.stores.1 ∙ of-own-length n bytes fit)),
+      λ alive. steps capacity _ given (stored_tail bytes) (WritePoint.StoreTail n next) Found.Nothing w refl refl
+          (record {
+            moves = ap (λ (m : ℕ). m + length bytes) is.counted.moves ∙ sym (length-append (moved_in before) bytes);
+            sees = is.counted.sees;
+            lies = lies-after w.end w.tail (length bytes) is.counted.lies (subst (λ (m : ℕ). m ≤ capacity - w.end) (sym (equal-is (length bytes) n fit)) is.stores.0);
+            may_wait = is.counted.may_wait;
+          }) is.shut is.calls,
+    )
+    told-store n next a f = λ e fit is. absurd (let no : false ≡ true = fit in cc)
+
+    told-take-reader : (next : AfterWrite) (a : shared.Access) (f : Found) → ToldAt (WritePoint.TakeReader next) a f
+    unfolding moved_in seen_in waits_in tickets_in shut_in
+    told-take-reader next (shared.loaded_slot Reader false) (Found.Waker false) = λ e fit is. (
+      inl (refl, tt),
+      λ alive. steps capacity _ given (loaded_slot Reader false) (WritePoint.TakeReader next) (Found.Waker false) w refl refl (kept _ _ before _ _ _ _ _ refl refl refl is.counted) is.shut (done _ _ _ next is.calls),
+    )
+    told-take-reader next (shared.loaded_slot Reader false) Found.Nothing = λ e fit is. (
+      inl (refl, tt),
+      λ alive. absurd (let no : true ≡ false = alive in cc),
+    )
+    told-take-reader next (shared.swapped Reader None None) (Found.Waker false) = λ e fit is. (
+      inl (refl, tt),
+      λ alive. steps capacity _ given (swapped Reader None None) (WritePoint.TakeReader next) (Found.Waker false) w refl refl (kept _ _ before _ _ _ _ _ refl refl refl is.counted) is.shut (done _ _ _ next is.calls),
+    )
+    told-take-reader next (shared.swapped Reader (Some waker) None) (Found.Waker true) = λ e fit is. (
+      inl (refl, tt),
+      λ alive. steps capacity _ given (swapped Reader (Some waker) None) (WritePoint.TakeReader next) (Found.Waker true) w refl refl (kept _ _ before _ _ _ _ _ refl refl refl is.counted) is.shut (refl, is.calls),
+    )
+    told-take-reader next (shared.swapped Reader old None) Found.Nothing = λ e fit is. (
+      inl (refl, tt),
+      λ alive. absurd (let no : true ≡ false = alive in cc),
+    )
+    told-take-reader next (shared.loaded_slot side is_filled) (Found.Waker false) = λ e fit is. absurd (let no : false ≡ true = fit in cc)
+    told-take-reader next (shared.loaded_slot side is_filled) Found.Nothing = λ e fit is. absurd (let no : false ≡ true = fit in cc)
+    told-take-reader next (shared.swapped side old None) (Found.Waker said) = λ e fit is. absurd (let no : false ≡ true = fit in cc)
+    told-take-reader next (shared.swapped side old None) Found.Nothing = λ e fit is. absurd (let no : false ≡ true = fit in cc)
+    told-take-reader next a f = λ e fit is. absurd (let no : false ≡ true = fit in cc)
+
+    told-take-own : (a : shared.Access) (f : Found) → ToldAt WritePoint.TakeWriter a f
+    unfolding moved_in seen_in waits_in tickets_in shut_in
+    told-take-own (shared.loaded_slot Writer false) (Found.Waker false) = λ e fit is. (
+      inl (refl, tt),
+      λ alive. steps capacity _ given (loaded_slot Writer false) WritePoint.TakeWriter (Found.Waker false) w refl refl (record { moves = is.counted.moves; sees = is.counted.sees; lies = is.counted.lies; may_wait = refl }) is.shut tt,
+    )
+    told-take-own (shared.loaded_slot Writer false) Found.Nothing = λ e fit is. (
+      inl (refl, tt),
+      λ alive. absurd (let no : true ≡ false = alive in cc),
+    )
+    told-take-own (shared.swapped Writer None None) (Found.Waker false) = λ e fit is. (
+      inl (refl, tt),
+      λ alive. steps capacity _ given (swapped Writer None None) WritePoint.TakeWriter (Found.Waker false) w refl refl (record { moves = is.counted.moves; sees = is.counted.sees; lies = is.counted.lies; may_wait = refl }) is.shut tt,
+    )
+    told-take-own (shared.swapped Writer (Some waker) None) (Found.Waker true) = λ e fit is. (
+      inl (refl, tt),
+      λ alive. steps capacity _ given (swapped Writer (Some waker) None) WritePoint.TakeWriter (Found.Waker true) w refl refl (record { moves = is.counted.moves; sees = is.counted.sees; lies = is.counted.lies; may_wait = refl }) is.shut (refl, tt),
+    )
+    told-take-own (shared.swapped Writer old None) Found.Nothing = λ e fit is. (
+      inl (refl, tt),
+      λ alive. absurd (let no : true ≡ false = alive in cc),
+    )
+    told-take-own (shared.loaded_slot side is_filled) (Found.Waker false) = λ e fit is. absurd (let no : false ≡ true = fit in cc)
+    told-take-own (shared.loaded_slot side is_filled) Found.Nothing = λ e fit is. absurd (let no : false ≡ true = fit in cc)
+    told-take-own (shared.swapped side old None) (Found.Waker said) = λ e fit is. absurd (let no : false ≡ true = fit in cc)
+    told-take-own (shared.swapped side old None) Found.Nothing = λ e fit is. absurd (let no : false ≡ true = fit in cc)
+    told-take-own a f = λ e fit is. absurd (let no : false ≡ true = fit in cc)
+
+    told-close : (next : AfterWrite) (a : shared.Access) (f : Found) → ToldAt (WritePoint.StoreClosed next) a f
+    unfolding moved_in seen_in waits_in tickets_in shut_in
+    told-close AfterWrite.WakeWriter shared.stored_closed Found.Nothing = λ e fit is. (
+      inr refl,
+      λ alive. steps capacity _ given stored_closed (WritePoint.StoreClosed AfterWrite.WakeWriter) Found.Nothing w refl refl (kept _ _ before _ _ _ _ _ refl refl refl is.counted) (rw e refl) tt,
+    )
+    told-close AfterWrite.Answer shared.stored_closed Found.Nothing = λ e fit is. (
+      inl refl,
+      λ alive. steps capacity _ given stored_closed (WritePoint.StoreClosed AfterWrite.Answer) Found.Nothing w refl refl (kept _ _ before _ _ _ _ _ refl refl refl is.counted) (rw e is.shut) tt,
+    )
+    told-close AfterWrite.Drop shared.stored_closed Found.Nothing = λ e fit is. (
+      inl refl,
+      λ alive. steps capacity _ given stored_closed (WritePoint.StoreClosed AfterWrite.Drop) Found.Nothing w refl refl (kept _ _ before _ _ _ _ _ refl refl refl is.counted) (rw e is.shut) tt,
+    )
+    told-close (AfterWrite.Round form sum) shared.stored_closed Found.Nothing = λ e fit is. (
+      inl refl,
+      λ alive. steps capacity _ given stored_closed (WritePoint.StoreClosed (AfterWrite.Round form sum)) Found.Nothing w refl refl (kept _ _ before _ _ _ _ _ refl refl refl is.counted) (rw e is.shut) is.calls,
+    )
+    told-close next a f = λ e fit is. absurd (let no : false ≡ true = fit in cc)
+
+    -- an access, with the note that says what it found
+    pub told : (point : WritePoint) (a : shared.Access) (f : Found) → ToldAt point a f
+    told (WritePoint.LookHead l) a f = told-head l a f
+    told (WritePoint.LookHeadAgain l) a f = told-head-again l a f
+    told (WritePoint.LookClosed l) a f = told-closed l a f
+    told (WritePoint.LookClosedAgain l) a f = told-closed-again l a f
+    told WritePoint.QueryClosed a f = told-query a f
+    told (WritePoint.RoundClosed n form sum) a f = told-round n form sum a f
+    told (WritePoint.LookRegister l) a f = told-register l a f
+    told (WritePoint.LookTake l) a f = told-take l a f
+    told (WritePoint.StoreTail n next) a f = told-store n next a f
+    told (WritePoint.TakeReader next) a f = told-take-reader next a f
+    told WritePoint.TakeWriter a f = told-take-own a f
+    told (WritePoint.StoreClosed next) a f = told-close next a f
+    told point a f = λ e fit is. absurd (let no : false ≡ true = fit in cc)

@@ -1,0 +1,216 @@
+-- The log of a writer's handle is a list of runs of the call table.
+use Rattle.std.proofs.Common.{◌≡◌, ◌⊎◌, inl, inr, ℕ, suc, ◌≤◌, ◌==◌, min, List, [], ◌∷◌, length, Bool, true, false, not, None, refl, sym, ap, subst, ◌∙◌, arith}
+use Rattle.std.proofs.Math.Nat.{zero-mod}
+use Rattle.piper_machine.specs.Types.{Action, AfterWrite, Found, Polling, ReadPoint, Try, WritePoint, Reader, Writer, MOST_A_ROUND}
+use Rattle.piper_protocol.specs.declared.log.Note.{Note}
+use Rattle.piper_protocol.specs.declared.table.Point.{Point}
+use Rattle.piper_protocol.specs.declared.table.Purpose.TheVariants.{Poll, Copy}
+use Rattle.piper_protocol.specs.Lines as handle
+use Rattle.piper_protocol.specs.OneList as shared
+use Rattle.piper_protocol.specs.Table.{Next, write_action, writer_is_open, writer_moved}
+use Rattle.piper_protocol.specs.Told.{IsTrueLog, alike, begins as call_begins, fits, has_drawn, is_idle, is_made, known_in, may_draw, moved_in, passes, piece_in, rests, seen_in, shut_in, tickets_in, waits_in, writer_begins}
+use Rattle.piper_machine.specs.logs.Line.{Line, began, loaded_closed, met_head, knew_empty, gave, failed, drew, refused, yielded, woke}
+use Rattle.piper_machine.specs.logs.Listed.{line_of}
+use Rattle.piper_machine.specs.logs.OfHandles.{given_by, line_made, lines_in, of_length, opening_at, writer_opening, taken_in, waker_in}
+use Rattle.piper_machine.specs.logs.Writing.{AreWriterRuns, IsWriterNext, MayGive, Source, WriterAt, contiguous, fresh_writer, most_lent, own, room_to, source_after, unless, writer_after, writer_at, writer_begun}
+use Rattle.piper_machine.proofs.logs.HandleLogs.{AreRuns, runs-of, state_at}
+use Rattle.piper_machine.proofs.logs.HandleCalls.{Calls, Counted, alike-is, first-of, is_dead, kept, known_of, moved-within, none-drawn, not-true, of-length, rests-idle, second-of}
+use Rattle.piper_machine.proofs.logs.HandleWriter.{Arrives, Follows, IsAt, at, done, emptied, has-drawn, idle-point, is-open, leads, lends-so, lent-so, moved, moved-stores, open-stores, row, stage, steps, stores-none}
+use Rattle.piper_machine.proofs.logs.HandleWriterTold.{pieces, rooms, told}
+
+module _ (capacity : ℕ) (some : 1 ≤ capacity) where
+  module _ (w : WriterAt) (before : List handle.Line) (given : List ℕ) where
+    -- an access that is no step of the table
+    passed : (point : WritePoint) (a : shared.Access) → (handle.comes_to before).point ≡ Point.Writer point → passes Writer before (write_action point) a ≡ true → IsAt capacity before (given_by given a) (at point w)
+        → IsWriterNext capacity (line_of a) (at point w) × Arrives capacity (handle.note Note.Passed ∷ handle.access a ∷ before) given point (writer_after capacity (line_of a) (at point w))
+    unfolding moved_in seen_in waits_in tickets_in shut_in
+    passed (WritePoint.LookTake l) (shared.loaded_slot Writer true) e fit is = (
+      inl (refl, has-drawn l w.calling.draw before e fit is.calls.1),
+      (refl, record { counted = (kept _ _ before _ _ _ _ _ refl refl refl is.counted); shut = is.shut; stores = tt; calls = is.calls }),
+    )
+    passed (WritePoint.TakeReader next) (shared.loaded_slot Reader true) e fit is = (inl (refl, tt), (refl, record { counted = (kept _ _ before _ _ _ _ _ refl refl refl is.counted); shut = is.shut; stores = tt; calls = is.calls }))
+    passed WritePoint.TakeWriter (shared.loaded_slot Writer true) e fit is = (inl (refl, tt), (refl, record { counted = (kept _ _ before _ _ _ _ _ refl refl refl is.counted); shut = is.shut; stores = tt; calls = tt }))
+    passed (WritePoint.LookRegister l) (shared.swapped Writer old None) e fit is = (
+      inr (refl, refl, is.counted.may_wait ∙ fit),
+      (refl, record { counted = (record { moves = is.counted.moves; sees = is.counted.sees; lies = is.counted.lies; may_wait = refl }); shut = is.shut; stores = tt; calls = is.calls }),
+    )
+    passed (WritePoint.StoreClosed AfterWrite.WakeWriter) a e fit is = absurd (let no : false ≡ true = fit in cc)
+    passed point (shared.loaded_slot side true) e fit is = absurd (let no : false ≡ true = fit in cc)
+    passed point (shared.swapped side old None) e fit is = absurd (let no : false ≡ true = fit in cc)
+    passed point a e fit is = absurd (let no : false ≡ true = fit in cc)
+
+    -- the load of closed that a look begins with
+    looks-first : (point : WritePoint) (a : shared.Access) (none is_closed : Bool) → (handle.comes_to before).point ≡ Point.Writer point → alike none (known_in capacity Writer before == 0) ≡ true → fits capacity Writer before (write_action point) a (Found.Flag is_closed) ≡ true → IsAt capacity before (given_by given a) (at point w)
+        → IsWriterNext capacity (line_of a) (at point w) × (is_dead (handle.looks none is_closed (Point.Writer point)) ≡ false → ((handle.looks none is_closed (Point.Writer point)).point ≡ Point.Writer (writer_after capacity (line_of a) (at point w)).point) × IsAt capacity (handle.note (Note.ClosedLoaded none is_closed) ∷ handle.access a ∷ before) given (writer_after capacity (line_of a) (at point w)))
+    unfolding moved_in seen_in waits_in tickets_in shut_in
+    looks-first (WritePoint.LookClosed l) (shared.loaded_closed b) none is_closed e knows fit is = (
+      refl,
+      λ alive. leads capacity _ given (loaded_closed b) (at (WritePoint.LookClosed l) w) (writer_is_open is_closed none l)
+          (ap (λ (x : Bool). writer_is_open x (room_to capacity w == 0) l) (alike-is b is_closed fit) ∙ ap (λ (x : Bool). writer_is_open is_closed x l) (ap (λ (n : ℕ). n == 0) (rooms capacity some w before given is.counted) ∙ sym (alike-is none (known_in capacity Writer before == 0) knows)))
+          (kept _ _ before _ _ _ _ _ refl refl refl is.counted)
+          is.shut
+          (stores-none capacity given (writer_is_open is_closed none l).point w.end w.given (open-stores is_closed none l))
+          (is-open _ _ _ is_closed none l refl is.calls),
+    )
+    looks-first (WritePoint.LookClosed l) a none is_closed e knows fit is = absurd (let no : false ≡ true = fit in cc)
+    looks-first point a none is_closed e knows fit is = ((told capacity some w before given point a (Found.Flag is_closed) e fit is).0, λ alive. absurd (let no : true ≡ false = alive in cc))
+
+    -- a step that is no access
+    made : (point : WritePoint) (f : Found) → (handle.comes_to before).point ≡ Point.Writer point → is_made capacity Writer before (write_action point) f ≡ true → IsAt capacity before given (at point w)
+        → Follows capacity (handle.note (Note.Made f) ∷ before) given (line_made given before (write_action point) f) (row point f) (at point w)
+    unfolding moved_in seen_in waits_in tickets_in shut_in
+    made (WritePoint.LookTake l) Found.Nothing e fit is = (
+      (refl, has-drawn l w.calling.draw before e (second-of (not (waits_in Writer before)) _ fit) is.calls.1, is.counted.may_wait ∙ not-true (waits_in Writer before) (first-of (not (waits_in Writer before)) _ fit)),
+      λ alive. steps capacity _ given knew_empty (WritePoint.LookTake l) Found.Nothing w refl refl (kept _ _ before _ _ _ _ _ refl refl refl is.counted) is.shut (emptied _ _ _ l (is.calls.0, is.calls.2)),
+    )
+    made (WritePoint.LookTake l) (Found.Waker false) e fit is = (
+      (refl, has-drawn l w.calling.draw before e (second-of (not (waits_in Writer before)) _ fit) is.calls.1, is.counted.may_wait ∙ not-true (waits_in Writer before) (first-of (not (waits_in Writer before)) _ fit)),
+      λ alive. steps capacity _ given knew_empty (WritePoint.LookTake l) (Found.Waker false) w refl refl (kept _ _ before _ _ _ _ _ refl refl refl is.counted) is.shut (emptied _ _ _ l (is.calls.0, is.calls.2)),
+    )
+    made WritePoint.TakeWriter Found.Nothing e fit is = (
+      (refl, tt, is.counted.may_wait ∙ not-true (waits_in Writer before) (first-of (not (waits_in Writer before)) _ fit)),
+      λ alive. absurd (let no : true ≡ false = alive in cc),
+    )
+    made WritePoint.TakeWriter (Found.Waker false) e fit is = (
+      (refl, tt, is.counted.may_wait ∙ not-true (waits_in Writer before) (first-of (not (waits_in Writer before)) _ fit)),
+      λ alive. steps capacity _ given knew_empty WritePoint.TakeWriter (Found.Waker false) w refl refl (kept _ _ before _ _ _ _ _ refl refl refl is.counted) is.shut tt,
+    )
+    made (WritePoint.LookRegister l) (Found.Granted false) e fit is = (
+      (refl, is.calls.3),
+      λ alive. steps capacity _ given refused (WritePoint.LookRegister l) (Found.Granted false) w refl refl (kept _ _ before _ _ _ _ _ refl refl refl is.counted) is.shut tt,
+    )
+    made (WritePoint.WakeReader next) Found.Nothing e fit is = (
+      (refl, is.calls.0),
+      λ alive. steps capacity _ given (woke (taken_in before)) (WritePoint.WakeReader next) Found.Nothing w refl refl (kept _ _ before _ _ _ _ _ refl refl refl is.counted) is.shut (done _ _ _ next is.calls.1),
+    )
+    made WritePoint.WakeWriter Found.Nothing e fit is = (
+      (refl, is.calls.0),
+      λ alive. steps capacity _ given (woke (taken_in before)) WritePoint.WakeWriter Found.Nothing w refl refl (kept _ _ before _ _ _ _ _ refl refl refl is.counted) is.shut tt,
+    )
+    made WritePoint.Yield (Found.Granted true) e fit is = (
+      (refl, is.calls),
+      λ alive. steps capacity _ given (yielded (waker_in before)) WritePoint.Yield (Found.Granted true) w refl refl (kept _ _ before _ _ _ _ _ refl refl refl is.counted) is.shut tt,
+    )
+    made (WritePoint.CallSource form sum) (Found.Moved n) e fit is =
+        let as_long : length (of_length n given) ≡ n = of-length n given in
+        let within = moved-within (shut_in before) MOST_A_ROUND n (piece_in capacity Writer before) fit in
+        let fits_in : n ≤ contiguous capacity w = subst (λ (m : ℕ). n ≤ m) (sym (pieces capacity some w before given is.counted)) within.1 in
+        let lent : n ≤ min MOST_A_ROUND (unless w.is_shut (contiguous capacity w)) =
+        subst (λ (b : Bool). n ≤ min MOST_A_ROUND (unless b (contiguous capacity w))) (sym is.shut)
+        (subst (λ (m : ℕ). n ≤ min MOST_A_ROUND (unless (shut_in before) m)) (sym (pieces capacity some w before given is.counted)) (lent-so (shut_in before) n (piece_in capacity Writer before) MOST_A_ROUND fit)) in (
+          (refl, subst (λ (from : Source). MayGive (most_lent capacity w) from (of_length n given)) (sym is.calls) (subst (λ (m : ℕ). m ≤ most_lent capacity w) (sym as_long) lent)),
+          λ alive. leads capacity _ given (gave (of_length n given)) (at (WritePoint.CallSource form sum) w) (row (WritePoint.CallSource form sum) (Found.Moved n))
+              (ap (λ (m : ℕ). writer_moved (m == 0) m form sum) as_long)
+              (kept _ _ before _ _ _ _ _ refl refl refl is.counted)
+              is.shut
+              (moved-stores capacity given (n == 0) n sum w.end form (omega (arith, fits_in)))
+              (moved _ _ _ (n == 0) n sum form (ap (source_after (length (of_length n given))) is.calls)),
+        )
+    made (WritePoint.CallSource form sum) Found.Failed e fit is = (
+      (refl, is.calls),
+      λ alive. leads capacity _ given failed (at (WritePoint.CallSource form sum) w) (row (WritePoint.CallSource form sum) Found.Failed) refl (kept _ _ before _ _ _ _ _ refl refl refl is.counted) is.shut tt tt,
+    )
+    made (WritePoint.TakeReader next) Found.Nothing e fit is = absurd (let no : false ≡ true = fit in cc)
+    made (WritePoint.TakeReader next) (Found.Waker false) e fit is = absurd (let no : false ≡ true = fit in cc)
+    made (WritePoint.StoreClosed AfterWrite.WakeWriter) f e fit is = absurd (let no : false ≡ true = fit in cc)
+    made point f e fit is = absurd (let no : false ≡ true = fit in cc)
+
+    -- a copy draws
+    draws : (point : WritePoint) (is_drawn : Bool) → may_draw (Point.Writer point) before ≡ true → IsAt capacity before given (at point w)
+        → IsWriterNext capacity (drew is_drawn) (at point w) × ((handle.drawn is_drawn (Point.Writer point) ≡ Point.Writer (WritePoint.LookTake (Copy (Polling is_drawn)))) × IsAt capacity (handle.note (Note.Drew is_drawn) ∷ before) given (writer_after capacity (drew is_drawn) (at point w)))
+    unfolding moved_in seen_in waits_in tickets_in shut_in
+    draws (WritePoint.LookTake (Copy (Polling false))) is_drawn may is = (
+      (refl, none-drawn w.calling.draw (is.calls.1 ∙ not-true (has_drawn before) may)),
+      (refl, record { counted = (kept _ _ before _ _ _ _ _ refl refl refl is.counted); shut = is.shut; stores = tt; calls = (is.calls.0, refl, is.calls.2) }),
+    )
+    draws point is_drawn may is = absurd (let no : false ≡ true = may in cc)
+
+    -- a call begins
+    begins : (start : WritePoint) → writer_begins capacity start before ≡ true → Counted capacity Writer before w.tail w.head w.end w.may_wait → w.is_shut ≡ shut_in before
+        → let opening = writer_opening (suc (tickets_in before)) given start in
+        IsWriterNext capacity (began opening) (at WritePoint.Idle w) × Arrives capacity (handle.note (Note.Began (Point.Writer start)) ∷ before) given start (writer_begun opening (at WritePoint.Idle w))
+    unfolding moved_in seen_in waits_in tickets_in shut_in
+    begins (WritePoint.LookClosed Poll) may counted shut = ((refl, tt), (refl, record { counted = kept _ _ before _ _ _ _ _ refl refl refl counted; shut = shut; stores = tt; calls = (refl, refl, tt, refl, refl) }))
+    begins (WritePoint.LookClosed (Copy Try)) may counted shut = ((refl, tt), (refl, record { counted = kept _ _ before _ _ _ _ _ refl refl refl counted; shut = shut; stores = tt; calls = (tt, refl, refl, refl, refl) }))
+    begins (WritePoint.LookClosed (Copy (Polling false))) may counted shut = ((refl, tt), (refl, record { counted = kept _ _ before _ _ _ _ _ refl refl refl counted; shut = shut; stores = tt; calls = (refl, refl, refl, refl, refl) }))
+    begins (WritePoint.LookClosed (Copy (Polling true))) may counted shut = absurd (let no : false ≡ true = may in cc)
+    begins (WritePoint.StoreTail n AfterWrite.Answer) may counted shut =
+        let as_long : length (of_length n given) ≡ n = of-length n given in
+        let lends = lends-so (shut_in before) n (piece_in capacity Writer before) may in
+        let within : n ≤ contiguous capacity w = subst (λ (m : ℕ). n ≤ m) (sym (pieces capacity some w before given counted)) lends.1 in
+        let lent : n ≤ unless w.is_shut (contiguous capacity w) =
+        subst (λ (b : Bool). n ≤ unless b (contiguous capacity w)) (sym shut) (subst (λ (m : ℕ). n ≤ unless (shut_in before) m) (sym (pieces capacity some w before given counted)) lends.0) in (
+          (refl, subst (λ (m : ℕ). m ≤ unless w.is_shut (contiguous capacity w)) (sym as_long) lent),
+          (
+            ap (λ (m : ℕ). Point.Writer (WritePoint.StoreTail m AfterWrite.Answer)) (sym as_long),
+            record {
+              counted = kept _ _ before _ _ _ _ _ refl refl refl counted;
+              shut = shut;
+              stores = (omega (arith, as_long, within), ap (λ (m : ℕ). of_length m given) (sym as_long));
+              calls = tt;
+            },
+          ),
+        )
+    begins (WritePoint.StoreClosed AfterWrite.WakeWriter) may counted shut = ((refl, tt), (refl, record { counted = kept _ _ before _ _ _ _ _ refl refl refl counted; shut = shut; stores = tt; calls = tt }))
+    begins (WritePoint.StoreClosed AfterWrite.Drop) may counted shut = ((refl, tt), (refl, record { counted = kept _ _ before _ _ _ _ _ refl refl refl counted; shut = shut; stores = tt; calls = tt }))
+    begins start may counted shut = absurd (let no : false ≡ true = may in cc)
+
+  -- outside any call. No line of the writer says that it is the writer's log
+
+  abbrev Meets : Point → WriterAt → Type 0
+  Meets p w = (p ≡ Point.Writer w.point) ⊎ ((p ≡ Point.Reader ReadPoint.Idle) × (w.point ≡ WritePoint.Idle))
+
+  acting : (p : Point) (w : WriterAt) → Meets p w → (handle.action p ≡ Action.Rest → ⊥) → p ≡ Point.Writer w.point
+  acting p w there acts = elim there [
+    | inl e ↦ e
+    | inr e ↦ absurd (acts (ap handle.action e.0))
+  ]
+
+  idle-at : (w : WriterAt) (next : Next Point) → Meets next.point w → rests next ≡ true → WritePoint.Idle ≡ w.point
+  idle-at w next there resting = elim there [
+    | inl e ↦ sym (idle-point w.point (subst (λ (p : Point). is_idle p ≡ true) e (rests-idle next resting)))
+    | inr e ↦ sym e.1
+  ]
+
+  begins-at : (w : WriterAt) (before : List handle.Line) (given : List ℕ) (start : Point) → Meets (handle.comes_to before).point w → rests (handle.comes_to before) ≡ true → call_begins capacity Writer start before ≡ true → IsAt capacity before given w
+      → let opening = opening_at (suc (tickets_in before)) given start in IsWriterNext capacity (began opening) w × ((start ≡ Point.Writer (writer_begun opening w).point) × IsAt capacity (handle.note (Note.Began start) ∷ before) given (writer_begun opening w))
+  begins-at w before given (Point.Writer start) there resting may is =
+      let opening = writer_opening (suc (tickets_in before)) given start in
+      subst (λ (p : WritePoint). IsWriterNext capacity (began opening) (at p w) × Arrives capacity (handle.note (Note.Began (Point.Writer start)) ∷ before) given start (writer_begun opening (at p w))) (idle-at w (handle.comes_to before) there resting)
+      (begins w before given start may is.counted is.shut)
+  begins-at w before given (Point.Reader start) there resting may is = absurd (let no : false ≡ true = may in cc)
+
+  learns : (w : WriterAt) (before : List handle.Line) (given : List ℕ) (count : ℕ) → Meets (handle.comes_to before).point w → rests (handle.comes_to before) ≡ true → IsAt capacity before given w
+      → IsWriterNext capacity (met_head count) w × Meets (handle.comes_to before).point w × IsAt capacity (handle.met count ∷ before) given (writer_after capacity (met_head count) w)
+  unfolding moved_in seen_in waits_in shut_in
+  learns w before given count there resting is =
+      let idle = idle-at w (handle.comes_to before) there resting in (
+        sym idle,
+        there,
+        record {
+          counted = record { moves = is.counted.moves; sees = refl; lies = is.counted.lies; may_wait = is.counted.may_wait };
+          shut = is.shut;
+          stores = is.stores;
+          calls = subst (λ (p : WritePoint). Calls (stage p) (known_of (handle.met count ∷ before)) w.calling (w.source ≡ own)) idle tt;
+        },
+      )
+
+  first-is : (given : List ℕ) → IsAt capacity [] given fresh_writer
+  unfolding moved_in seen_in waits_in shut_in
+  first-is given = record { counted = record { moves = refl; sees = refl; lies = sym (zero-mod capacity); may_wait = refl }; shut = refl; stores = tt; calls = tt }
+
+  same-at : (lines : List Line) → state_at WriterAt fresh_writer (writer_after capacity) lines ≡ writer_at capacity lines
+  same-at [] = refl
+  same-at (line ∷ before) = ap (writer_after capacity line) (same-at before)
+
+  same-runs : (lines : List Line) → AreRuns WriterAt fresh_writer (writer_after capacity) (IsWriterNext capacity) lines → AreWriterRuns capacity lines
+  same-runs [] runs = tt
+  same-runs (line ∷ before) runs = (subst (IsWriterNext capacity line) (same-at before) runs.0, same-runs before runs.1)
+
+  pub writes : (lines : List handle.Line) (moved : List ℕ) → IsTrueLog capacity Writer lines moved → AreWriterRuns capacity (lines_in Writer lines)
+  writes lines moved log =
+      same-runs (lines_in Writer lines)
+      (runs-of capacity Writer WriterAt fresh_writer (writer_after capacity) (IsWriterNext capacity) (λ w. Point.Writer w.point) Meets (IsAt capacity)
+      (inr (refl, refl)) first-is acting (λ p w e. inl e)
+      (λ w before given a f. told capacity some w before given w.point a f) (λ w before given a. passed w before given w.point a) (λ w before given a. looks-first w before given w.point a) (λ w before given f. made w before given w.point f) (λ w before given is_drawn. draws w before given w.point is_drawn)
+      begins-at learns lines moved log)
