@@ -25,13 +25,12 @@ PAGES = TOP / "docs/api"
 # Of `piper_machine`: modules that its page says in words.
 IN_WORDS = ("index", "destination", "examples")
 HANDLES = ("Reader", "Writer")
-OWNERS = {"OwnedReader": "Reader", "OwnedWriter": "Writer", "OwnedEnd": "End"}
 OF_RING = ["LastReadMark", "ReadEnd", "ReadMark", "WriteEnd", "WriteMark", "open_ring"]
 # The order of a handle's calls in the table and on the page; others follow as in the sources.
 ORDER = ["poll", "peek_buf", "write_buf", "consume", "produced", "try_drain", "try_fill",
          "poll_drain_bytes", "poll_fill_bytes", "poll_drain", "poll_fill", "poll_drain_with",
          "poll_fill_with", "try_drain_with", "try_fill_with", "poll_close", "is_closed", "len",
-         "is_empty", "is_full", "capacity", "drop"]
+         "is_empty", "is_full", "capacity", "finish"]
 FOR_PROOFS = ["mark", "observe", "observe_last", "meet", "meet_finished", "end"]
 
 
@@ -137,9 +136,9 @@ def own_calls(crate, name):
     return sorted(found, key=lambda one: ORDER.index(one.name) if one.name in ORDER else len(ORDER))
 
 
-def trait_calls(page, crate, name, but=lambda trait: False):
+def trait_calls(page, crate, name):
     for trait, of_type, body in impls(crate):
-        if trait and bare(of_type) == name and not but(bare(trait)):
+        if trait and bare(of_type) == name:
             told = [method for method in inner(body) if method.clauses() or method.doc]
             for method in told:
                 impl_call(page, name, bare(trait), method, body.is_foreign(trait))
@@ -154,25 +153,11 @@ def any_item(page, crate, name, path):
         return page.call(item, name, path, depth=3)
     if item.kind == "trait":
         return a_trait(page, crate, name, path)
-    if name in OWNERS:
-        return owner(page, crate, name, path)
     a_type(page, crate, name, path)
     for method in own_calls(crate, name):
         if not (crate == "piper" and name in HANDLES and method.name in FOR_PROOFS):
             page.call(method, f"{name}::{method.name}")
     return trait_calls(page, crate, name)
-
-
-def owner(page, crate, name, path):
-    """An owner: what is its own, and a link to what it owns."""
-    of = OWNERS[name]
-    a_type(page, crate, name, path)
-    page.lines += ["", f"It has the traits of [`{of}`](#{of.lower()}), whose calls say the same of it. "
-                   "These calls are its own:"]
-    for method in own_calls(crate, name):
-        page.call(method, f"{name}::{method.name}")
-    shared = {bare(trait) for trait, of_type, _body in impls(crate) if trait and bare(of_type) == of}
-    trait_calls(page, crate, name, lambda trait: trait == "DerefMut" or trait in shared)
 
 
 def told(page, name, title=None):

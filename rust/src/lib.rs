@@ -112,7 +112,7 @@ pub const IS_PROVED: bool = cfg!(target_pointer_width = "64");
 pub fn pipe(cap: usize) -> (Reader, Writer) {
     assert!(cap > 0, "capacity must be positive");
     assert!(cap.checked_mul(2).is_some(), "capacity is too large");
-    match proved::piper::pipe(Global, cap, first_seed()) {
+    match proved::piper::pipe_with_seed(Global, cap, first_seed()) {
         Ok((reader, writer)) => (Reader::new(reader), Writer::new(writer)),
         Err(OutOfMemory) => panic!("capacity overflow"),
     }

@@ -228,7 +228,7 @@ impl Drop for Reader {
         let mut side = unsafe { ManuallyDrop::take(&mut self.side) };
         // Its own waker is dropped last, and not called by the other side.
         let _mine = side.side.cancel();
-        side.drop();
+        side.finish();
     }
 }
 

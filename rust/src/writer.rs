@@ -240,7 +240,7 @@ impl Drop for Writer {
         let mut side = unsafe { ManuallyDrop::take(&mut self.side) };
         // As the reader's.
         let _mine = side.side.cancel();
-        side.drop();
+        side.finish();
     }
 }
 

@@ -27,9 +27,8 @@ FILES = {
 # Where calls of a trait are made on any type that has it.
 OF_TRAITS = ["tests_pipe/src/examples/streams"]
 # The functions there that return two ends, and the types of these.
-PAIRS = {"duplex": ("End", "End"), "owned_duplex": ("OwnedEnd", "OwnedEnd")}
-PAIRS |= dict.fromkeys(("pipe", "pipe_at_last"), ("Reader", "Writer"))
-PAIRS |= dict.fromkeys(("owned_pipe", "holding", "small"), ("OwnedReader", "OwnedWriter"))
+PAIRS = dict.fromkeys(("duplex", "duplex_with_seed"), ("End", "End"))
+PAIRS |= dict.fromkeys(("pipe", "pipe_with_seed", "pipe_at_last", "holding", "small"), ("Reader", "Writer"))
 # What a value of a type looks like there, if it is no variable whose type its function says.
 LOOKS = {"LineAnswer": "told", "LengthBytes": r"\.encode\(\w+\)", "Side": r"meter\.(?:input|output)",
          "ReadEnd": r"reader\.end", "WriteEnd": r"writer\.end"}

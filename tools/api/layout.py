@@ -5,9 +5,8 @@ CRATES = ["piper", "piper_lines", "piper_futures", "piper_duplex", "piper_transf
           "piper_tokio", "piper_ring", "piper_machine"]
 # Of `piper`: what stands where. Items in none of these sections come before the last.
 SECTIONS = {
-    "Open a pipe": ["owned_pipe", "pipe", "DEFAULT_SEED"],
+    "Open a pipe": ["pipe", "pipe_with_seed", "DEFAULT_SEED"],
     "The handles": ["Reader", "Writer"],
-    "Owners": ["OwnedReader", "OwnedWriter"],
     "Errors": ["OutOfMemory", "PipeError", "Inner"],
     "Copies, and traits of readers and writers": ["poll_copy", "Copied", "AsyncRead", "AsyncBufRead",
                                                   "AsyncWrite"],
@@ -38,7 +37,7 @@ PARTS = {
         "functions": ["Functions"],
         "traits and types": ["Types", "Traits"],
     },
-    "piper_duplex": {"the ends": ["End", "OwnedEnd"]},
+    "piper_duplex": {"the ends": ["End"]},
     "piper_ring": {
         "the reader": ["ReadEnd", "ReadSide"],
         "the writer": ["WriteEnd", "WriteSide"],
@@ -51,13 +50,9 @@ PARTS = {
 WHOLE = {
     "Reader": ("crates/tests_pipe/src/examples/ends.rt", "poll_close", "how_pipes_begin_and_end"),
     "Writer": ("crates/tests_pipe/src/examples/ends.rt", "poll_close", "how_pipes_begin_and_end"),
-    "OwnedReader": ("crates/example_order/src/main.rt", "carry"),
-    "OwnedWriter": ("crates/example_order/src/main.rt", "carry"),
     "Lines": ("crates/tests_pipe/src/examples/lines.rt", "poll_line", "lines_are_written_and_read"),
     "Frames": ("crates/tests_pipe/src/examples/frames.rt", "poll_frame", "frames_are_written_and_read"),
     "End": ("crates/tests_pipe/src/examples/duplex.rt", "halves", "bytes_go_both_ways"),
-    "OwnedEnd": ("crates/tests_pipe/src/examples/duplex.rt", "sends_and_goes",
-                 "an_owned_end_moves_and_closes_where_it_is_dropped"),
     "LineStream": ("crates/tests_above/src/futures_and_streams/owning.rt", "lines_of_a_sink_come_out_of_a_stream_in_order"),
     "PieceSink": ("crates/tests_above/src/futures_and_streams/owning.rt", "lines_of_a_sink_come_out_of_a_stream_in_order"),
     "FrameStream": ("crates/tests_above/src/futures_and_streams/owning.rt", "takes_with_another_limit",

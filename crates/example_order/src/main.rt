@@ -20,7 +20,7 @@ use crate::rounds::carry_in_rounds;
 use crate::sleeping::send_and_count;
 use crate::threads::carry_across;
 use crate::words::answer_words;
-use piper::owned_pipe;
+use piper::pipe;
 use std::alloc::Global;
 use std::io;
 use std::process::ExitCode;
@@ -32,7 +32,7 @@ fn carry(alloc: Global, bytes: &[u8], place: &mut [u8]) -> io::Result<usize>
     requires room { length bytes.now ≤ length place.old }
     ensures { IfOk result (λ n. take n place.new ≡ bytes.now) }
 {
-    let (mut reader, mut writer) = owned_pipe(alloc, bytes.len())?;
+    let (mut reader, mut writer) = pipe(alloc, bytes.len())?;
     writer.try_fill(bytes);
     reader.meet(&mut writer);
     Ok(reader.try_drain(place))
@@ -49,7 +49,7 @@ fn main(rt: HostRuntime) -> io::Result<ExitCode> {
     println!(&rt; "{}", place[..came].escape_ascii())?;
     let came = carry_across(&rt, b"hello, threads", &mut place)?;
     println!(&rt; "{}", place[..came].escape_ascii())?;
-    let (mut reader, mut writer) = owned_pipe(rt.alloc(), 4)?;
+    let (mut reader, mut writer) = pipe(rt.alloc(), 4)?;
     if leave_pending(&rt, &mut reader, &mut writer)? {
         println!(&rt; "one of two pending sides was woken")?;
     }

@@ -6,7 +6,7 @@ ghost use Rattle.piper.specs.OfReader.{lines, ring};
 ghost use Rattle.piper.specs.OfWriter as of_writer;
 ghost use Rattle.example_order.specs.OneRun.{DidOneRun};
 
-use piper::{OwnedReader, OwnedWriter, Reader, Writer, owned_pipe};
+use piper::{Reader, Writer, pipe};
 use piper_machine::one_run::handles_are_one_run;
 use std::alloc::Global;
 use std::io;
@@ -23,11 +23,11 @@ fn meet_first(reader: &mut Reader, writer: &mut Writer)
 }
 
 /// Fills a new pipe with `bytes`, and lets its handles meet.
-pub(crate) fn fill_and_meet(alloc: Global, bytes: &[u8]) -> io::Result<(OwnedReader, OwnedWriter)>
+pub(crate) fn fill_and_meet(alloc: Global, bytes: &[u8]) -> io::Result<(Reader, Writer)>
     requires { (0 < length bytes.now) × (2 * length bytes.now < 2 ^ 64) }
     ensures { IfOk result (λ (reader, writer). DidOneRun reader writer) }
 {
-    let (mut reader, mut writer) = owned_pipe(alloc, bytes.len())?;
+    let (mut reader, mut writer) = pipe(alloc, bytes.len())?;
     writer.try_fill(bytes);
     meet_first(&mut reader, &mut writer);
     Ok((reader, writer))

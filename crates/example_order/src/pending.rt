@@ -6,7 +6,7 @@ ghost use Rattle.piper.specs.Waits.{ReaderLeavesNone, WriterLeavesNone};
 ghost use Rattle.example_order.specs.Sleepers.{FilledAndPolled, IsAwake};
 
 use futures::task::{Context, Doorbell, Poll, Queue};
-use piper::{OwnedReader, OwnedWriter};
+use piper::{Reader, Writer};
 use std::alloc::AllocGlobal;
 use std::io;
 use std::random::RandomSource;
@@ -15,11 +15,7 @@ use std::sync::Wait;
 /// Polls the reader of an empty pipe, fills the pipe, and polls the writer. Returns whether both
 /// polls are pending.
 #[tactic(auto, unfolding(piper::specs::ReaderCalls::LogsMeet))]
-fn fill_while_pending(
-    reader: &mut OwnedReader,
-    writer: &mut OwnedWriter,
-    cx: &mut Context<'_>,
-) -> bool
+fn fill_while_pending(reader: &mut Reader, writer: &mut Writer, cx: &mut Context<'_>) -> bool
     requires pair { ArePair reader.old writer.old }
     requires nobody { ReaderLeavesNone reader.old × WriterLeavesNone writer.old }
     requires woken { NotifiesWriter reader.old × NotifiesReader writer.old }
@@ -38,11 +34,7 @@ fn fill_while_pending(
 }
 
 /// Leaves both sides of a pipe pending that nobody waited at before. Returns whether they are.
-pub(crate) fn leave_pending<H>(
-    rt: &H,
-    reader: &mut OwnedReader,
-    writer: &mut OwnedWriter,
-) -> io::Result<bool>
+pub(crate) fn leave_pending<H>(rt: &H, reader: &mut Reader, writer: &mut Writer) -> io::Result<bool>
 where
     H: Wait + RandomSource + AllocGlobal,
     requires pair { ArePair reader.old writer.old }

@@ -3,7 +3,7 @@
 ghost use Rattle.std.specs.Prelude.{◌≡◌, ◌<◌, ◌≤◌, take, length, IfOk};
 ghost use Rattle.example_order.specs.Rounds.{IsEmptied};
 
-use piper::{Reader, Writer, owned_pipe};
+use piper::{Reader, Writer, pipe};
 use std::alloc::Global;
 use std::io;
 
@@ -34,7 +34,7 @@ pub(crate) fn carry_in_rounds(alloc: Global, bytes: &[u8], place: &mut [u8]) -> 
     requires room { length bytes.now ≤ length place.old }
     ensures { IfOk result (λ n. take n place.new ≡ bytes.now) }
 {
-    let (mut reader, mut writer) = owned_pipe(alloc, CAPACITY)?;
+    let (mut reader, mut writer) = pipe(alloc, CAPACITY)?;
     let mut came = 0;
     while came < bytes.len() {
         let rest = &mut place[came..];

@@ -5,7 +5,7 @@ ghost use Rattle.futures.specs.Task.{IsArmed};
 ghost use Rattle.futures.specs.Poll.{OnPending};
 
 use futures::task::{Context, Doorbell, Poll, Queue};
-use piper::{OwnedReader, OwnedWriter, owned_pipe};
+use piper::{Reader, Writer, pipe};
 use std::alloc::AllocGlobal;
 use std::marker::{Send, Sync};
 use std::random::RandomSource;
@@ -19,7 +19,7 @@ const BYTES: u64 = 100_000;
 /// Sends as many bytes as there is room for, until all are sent or the pipe is closed.
 fn send<H: Wait>(
     rt: &H,
-    writer: &mut OwnedWriter,
+    writer: &mut Writer,
     cx: &mut Context<'_>,
     left: &mut u64,
 ) -> Poll<io::Result<()>>
@@ -45,7 +45,7 @@ fn send<H: Wait>(
 /// Takes what is there, until the pipe's end.
 fn count<H: Wait>(
     rt: &H,
-    reader: &mut OwnedReader,
+    reader: &mut Reader,
     cx: &mut Context<'_>,
     came: &mut u64,
 ) -> Poll<io::Result<()>>
@@ -66,7 +66,7 @@ fn count<H: Wait>(
     unreachable!()
 }
 
-fn send_all<H>(rt: &H, mut writer: OwnedWriter) -> io::Result<()>
+fn send_all<H>(rt: &H, mut writer: Writer) -> io::Result<()>
 where
     H: Wait + RandomSource + AllocGlobal,
 {
@@ -86,7 +86,7 @@ where
     unreachable!()
 }
 
-fn count_all<H>(rt: &H, mut reader: OwnedReader) -> io::Result<u64>
+fn count_all<H>(rt: &H, mut reader: Reader) -> io::Result<u64>
 where
     H: Wait + RandomSource + AllocGlobal,
 {
@@ -112,7 +112,7 @@ where
     H: Threads + Wait + RandomSource + AllocGlobal + Clone + Drop + Send + Sync + 'static,
 {
     let theirs = rt.clone()?;
-    let (reader, writer) = owned_pipe(rt.alloc(), 64)?;
+    let (reader, writer) = pipe(rt.alloc(), 64)?;
     let spawned = thread::spawn(rt, move || send_all(&theirs, writer));
     let child = spawned.map_err(|_| io::Error::other("a second thread is refused"))?;
     let came = count_all(rt, reader);

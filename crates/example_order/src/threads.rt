@@ -7,7 +7,7 @@ ghost use Rattle.piper.specs.OfReader as of_reader;
 ghost use Rattle.piper.specs.OfWriter.{ring, sent};
 ghost use Rattle.example_order.specs.LastMark.{ReportsFront};
 
-use piper::{OwnedReader, OwnedWriter, WriteMark, owned_pipe};
+use piper::{Reader, WriteMark, Writer, pipe};
 use std::alloc::AllocGlobal;
 use std::marker::{Send, Sync};
 use std::sync::Wait;
@@ -32,12 +32,11 @@ impl Promise<WriteMark> for SendsFront {
 
 /// Publishes `bytes` in order, up to the last or to the pipe's close, and drops the writer. The
 /// answer is its last mark.
-fn send_all<H: Wait>(rt: &H, writer: OwnedWriter, bytes: &[u8]) -> WriteMark
+fn send_all<H: Wait>(rt: &H, mut writer: Writer, bytes: &[u8]) -> WriteMark
     requires { sent writer ≡ [] }
     ensures { ReportsFront (ring writer).names result.names
         bytes.now result.bytes result.shut }
 {
-    let mut writer = writer.into_inner();
     let mut given = 0;
     for _ in rt.forever() {
         given += writer.try_fill(&bytes[given..]);
@@ -46,13 +45,13 @@ fn send_all<H: Wait>(rt: &H, writer: OwnedWriter, bytes: &[u8]) -> WriteMark
         }
         thread::yield_now();
     }
-    writer.drop().mark
+    writer.finish().mark
 }
 
 /// Takes bytes to the front of `place` until it is full or the pipe has ended, and returns how
 /// many.
 #[tactic(auto, using(crate::proofs::Beginnings::front_and_next))]
-fn receive_all<H: Wait>(rt: &H, reader: &mut OwnedReader, place: &mut [u8]) -> usize
+fn receive_all<H: Wait>(rt: &H, reader: &mut Reader, place: &mut [u8]) -> usize
     requires { taken reader.old ≡ [] }
     ensures count { result ≤ length place.new }
     ensures taken { taken reader.new ≡ take result place.new }
@@ -81,7 +80,7 @@ where
     ensures { IfOk result (λ n. take n place.new ≡ take n bytes.now) }
 {
     let theirs = rt.clone()?;
-    let (mut reader, writer) = owned_pipe(rt.alloc(), CAPACITY)?;
+    let (mut reader, writer) = pipe(rt.alloc(), CAPACITY)?;
     let promise = SendsFront {
         pipe: writer.mark(),
         bytes,

@@ -13,8 +13,9 @@ use Rattle.piper_protocol.specs.declared.table.Point.{Point}
 use Rattle.piper_ring.specs.Log.{AreRuns, Log, Ran}
 use Rattle.piper_ring.specs.ReadView.{ReadView}
 use Rattle.piper_ring.specs.WriteView.{WriteView}
-use Rattle.piper.specs.ReaderCalls.{Drained, Meets}
-use Rattle.piper.specs.WriterCalls.{Filled}
+use Rattle.piper.specs.Handles.{AreFresh}
+use Rattle.piper.specs.ReaderCalls.{Drained, Meets, ReaderTried}
+use Rattle.piper.specs.WriterCalls.{Filled, WriterTried}
 use Rattle.piper.specs.declared.handles.Reader.{Reader}
 use Rattle.piper.specs.declared.handles.Writer.{Writer}
 
@@ -66,6 +67,20 @@ filled_and_drained n m q r s v w x source old new filled met drained emptied uns
     let found : 0 < length r.side.end.known = grind (arith, common_steps) in
     let all = drained_all _ _ _ _ _ drained found (grind (arith, common_steps)) long in
     all.0 ∙ known ∙ ap (λ k. take k source) (grind (arith, common_steps))
+
+-- a slice that fills a new pipe comes out whole, once the handles met
+pub carried : (n m : ℕ) (q r s : Reader) (v w x : Writer) (source old new : List ℕ) → AreFresh (length source) q v → WriterTried n v w source → Meets q r w x
+    → ReaderTried m r s old new → 0 < length source → length source ≤ length old → length new ≡ length old → take m new ≡ source
+carried n m q r s v w x source old new fresh filled met drained some room long =
+    let unshut = ap (λ (u : WriteView). u.shut) met.writer ∙ ap (λ (u : WriteView). u.shut) filled.copied.rest ∙ fresh.writer.shut in
+    let unseen = sym (ap (λ (u : WriteView). u.saw) met.writer) ∙ saw_none _ _ met.writer_saw unshut in
+    let places = fresh.writer.room in
+    let sent = filled_all _ _ _ _ filled.filled (omega (arith, some, places)) (omega (arith, places)) unseen in
+    let taken = ap (λ (u : ReadView). u.taken) met.reader ∙ fresh.reader.taken in
+    let known : r.side.end.known ≡ source =
+    sym (ap (λ xs. xs ++ r.side.end.known) taken) ∙ met.fifo ∙ ap (λ (u : WriteView). u.sent) met.writer ∙ sent ∙ ap (λ xs. xs ++ source) fresh.writer.sent in
+    let count = ap length known in
+    (drained_all _ _ _ _ _ drained.drained (omega (arith, some, count)) (omega (arith, room, count)) long).0 ∙ known
 
 -- a place whose first i bytes are those of the text, once a part from there on begins with the next
 -- m bytes of the text

@@ -15,7 +15,6 @@ pub mod Generator
 pub mod Handles
 pub mod Looks
 pub mod Runs
-pub mod Owned
 pub mod Waits
 pub mod OfReader
 pub mod OfWriter

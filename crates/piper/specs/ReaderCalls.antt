@@ -192,7 +192,7 @@ pub record ReaderTried (n : ℕ) (a b : Reader) (old new : List ℕ) : Type 0 wh
   pub same : SameReader WaitsAsBefore a b
 
 -- all that a read says of a handle, its answer, the slice and its context: it is one drain. A `&mut`
--- to the handle and its owner say the same
+-- to the handle says the same
 pub record ReadsAsDrain (a b : Reader) (r : Count) (before after : List ℕ)
     (old left : Context) : Type 0 where
   pub drained : DrainsSlice r a b before after

@@ -1,5 +1,5 @@
--- What the calls of the traits say of a handle, besides what the traits say. A `&mut` to the handle,
--- its owner, and an end of two pipes say the same, by their rows.
+-- What the calls of the traits say of a handle, besides what the traits say. A `&mut` to the handle
+-- and an end of two pipes say the same, by their rows.
 use Rattle.std.specs.Prelude.{◌≡◌, ℕ, false, Result, Ok, Err}
 use Rattle.futures.specs.declared.task.context.Context.{Context}
 use Rattle.futures.specs.declared.task.Poll.{Poll}

@@ -89,12 +89,13 @@ WriterIsRemembered a b reader =
     (reader.side.slots.taken ≡ a.side.slots.tickets)
     ⊎ ((b.side.end.room ≡ 0) × (b.side.end.shut ≡ false))
 
--- the reader left: its last call was its drop
-abbrev pub ReaderHasDropped : Reader → Type 0
+-- the reader left: its last call was its drop. No search of a client looks into it
+unfoldable pub ReaderHasDropped : Reader → Type 0
 ReaderHasDropped reader =
     HasDropped reader.side.end.ring.names (of.Reader reads.StoreClosed) reader.side.log
 
-abbrev pub WriterHasDropped : Writer → Type 0
+-- the writer left. No search of a client looks into it
+unfoldable pub WriterHasDropped : Writer → Type 0
 WriterHasDropped writer =
     HasDropped writer.side.end.ring.names (of.Writer (writes.StoreClosed Drop)) writer.side.log
 

@@ -181,7 +181,7 @@ pub record WriterTried (n : ℕ) (a b : Writer) (bytes : List ℕ) : Type 0 wher
   pub same : SameWriter WaitsAsBefore a b
 
 -- all that a write says of a handle, its answer, the slice and its context: it is one fill. A `&mut`
--- to the handle and its owner say the same
+-- to the handle says the same
 pub record WritesAsFill (a b : Writer) (r : Count) (bytes : List ℕ)
     (old left : Context) : Type 0 where
   pub filled : FillsSlice r a b bytes

@@ -6,7 +6,7 @@ use crate::draws::Draws;
 use crate::halt::Halt;
 use crate::tasks::Tasks;
 use futures::test::MockTask;
-use piper::{OwnedReader, OwnedWriter, pipe};
+use piper::{Reader, Writer, pipe_with_seed};
 use piper_machine::calls::Call;
 use piper_machine::polling::Context;
 use piper_protocol::answer::{Answer, Polled};
@@ -19,8 +19,8 @@ use std::random::RandomSource;
 /// The handles of a pipe, with tasks for each of them.
 #[derive(Drop)]
 pub struct Pair {
-    reader: Option<OwnedReader>,
-    writer: Option<OwnedWriter>,
+    reader: Option<Reader>,
+    writer: Option<Writer>,
     reading: Tasks,
     writing: Tasks,
     /// What the reader draws next, and the writer.
@@ -36,10 +36,10 @@ impl Pair {
         if capacity == 0 || capacity > MOST {
             return Err(Stop::Refused(Refusal::Limit));
         }
-        let (reader, writer) = pipe(rt.alloc(), capacity, seed)?;
+        let (reader, writer) = pipe_with_seed(rt.alloc(), capacity, seed)?;
         Ok(Pair {
-            reader: Some(OwnedReader::new(reader)),
-            writer: Some(OwnedWriter::new(writer)),
+            reader: Some(reader),
+            writer: Some(writer),
             reading: Tasks::new(rt.alloc()),
             writing: Tasks::new(rt.alloc()),
             draws: [Draws::new(seed), Draws::new(seed ^ 1)],
@@ -65,22 +65,22 @@ impl Pair {
 
     /// The bytes that the reader knows of and that are contiguous.
     pub fn peek(&mut self) -> Result<&[u8], Halt> {
-        let Some(owned) = &mut self.reader else {
+        let Some(reader) = &mut self.reader else {
             return Err(Halt::OnlyMachine);
         };
-        Ok(owned.get_mut().peek_buf())
+        Ok(reader.peek_buf())
     }
 
     /// Writes a byte at this offset of what is lent.
     pub fn put(&mut self, offset: usize, byte: u8) -> Result<(), Halt> {
-        let Some(owned) = &mut self.writer else {
+        let Some(writer) = &mut self.writer else {
             return Err(Refusal::Dropped.into());
         };
         if offset >= self.lent {
             return Err(Refusal::PastLent.into());
         }
         // What is lent is lent again: the same places, with what is there.
-        let places = owned.get_mut().write_buf(self.lent);
+        let places = writer.write_buf(self.lent);
         if let Some(place) = places.get_mut(offset) {
             *place = byte;
         }
@@ -130,10 +130,9 @@ impl Pair {
     fn close(&mut self, rt: &(impl RandomSource + AllocGlobal)) -> Result<Answer, Halt>
         ensures { OnOk result (self.new.lent ≡ 0) }
     {
-        let Some(owned) = &mut self.writer else {
+        let Some(writer) = &mut self.writer else {
             return Err(Refusal::Dropped.into());
         };
-        let writer = owned.get_mut();
         let task = MockTask::new(rt).map_err(|_| Stop::Memory)?;
         task.enter(|cx| writer.poll_close(cx));
         self.lent = 0;
@@ -142,10 +141,8 @@ impl Pair {
 
     fn at_once(&mut self, call: &Call, dest: &mut [u8]) -> Result<Answer, Halt> {
         match (call.side(), &mut self.reader, &mut self.writer) {
-            (Side::Reader, Some(owned), _) => read_at_once(owned.get_mut(), call, dest),
-            (Side::Writer, _, Some(owned)) => {
-                write_at_once(owned.get_mut(), &mut self.lent, call)
-            }
+            (Side::Reader, Some(reader), _) => read_at_once(reader, call, dest),
+            (Side::Writer, _, Some(writer)) => write_at_once(writer, &mut self.lent, call),
             _ => Err(Refusal::Dropped.into()),
         }
     }
@@ -159,13 +156,13 @@ impl Pair {
     ) -> Result<Answer, Halt> {
         self.steer(rt, context.luck.draw == 0, call)?;
         Ok(match (call.side(), &mut self.reader, &mut self.writer) {
-            (Side::Reader, Some(owned), _) => {
+            (Side::Reader, Some(reader), _) => {
                 let task = self.reading.of(rt, context.waker)?;
-                read_as_task(owned.get_mut(), task, call, dest)?
+                read_as_task(reader, task, call, dest)?
             }
-            (Side::Writer, _, Some(owned)) => {
+            (Side::Writer, _, Some(writer)) => {
                 let task = self.writing.of(rt, context.waker)?;
-                write_as_task(owned.get_mut(), &mut self.lent, task, call)?
+                write_as_task(writer, &mut self.lent, task, call)?
             }
             _ => return Err(Refusal::Dropped.into()),
         })
@@ -175,14 +172,11 @@ impl Pair {
     fn will_draw(&mut self, call: &Call) -> bool {
         match call {
             Call::PollFillBytes(..) | Call::PollFill(..) => match &mut self.writer {
-                Some(owned) => {
-                    let writer = owned.get_mut();
-                    !writer.is_closed() && !writer.is_full()
-                }
+                Some(writer) => !writer.is_closed() && !writer.is_full(),
                 None => false,
             },
             Call::PollDrainBytes(..) | Call::PollDrain(..) => match &mut self.reader {
-                Some(owned) => !owned.get_mut().is_empty(),
+                Some(reader) => !reader.is_empty(),
                 None => false,
             },
             _ => false,
@@ -218,12 +212,10 @@ impl Pair {
     // A copy of no byte out of the pipe, or into it.
     fn draw_as(&mut self, task: &MockTask, side: Side) {
         match (side, &mut self.reader, &mut self.writer) {
-            (Side::Reader, Some(owned), _) => {
-                let reader = owned.get_mut();
+            (Side::Reader, Some(reader), _) => {
                 task.enter(|cx| reader.poll_drain_bytes(cx, &mut []));
             }
-            (Side::Writer, _, Some(owned)) => {
-                let writer = owned.get_mut();
+            (Side::Writer, _, Some(writer)) => {
                 task.enter(|cx| writer.poll_fill_bytes(cx, &[]));
             }
             _ => {}

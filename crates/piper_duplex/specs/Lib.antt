@@ -3,4 +3,3 @@ pub mod Crosswise
 pub mod EchoAll
 pub mod Echoes
 pub mod Failures
-pub mod OwnedEnds

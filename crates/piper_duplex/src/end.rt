@@ -8,28 +8,49 @@ ghost use Rattle.piper_duplex.specs.Crosswise.{IsNewPipe, reading, writing};
 
 mod streams;
 
-use piper::{FinishedReader, FinishedWriter, OutOfMemory, Reader, Writer, pipe};
+use piper::{
+    DEFAULT_SEED, FinishedReader, FinishedWriter, OutOfMemory, Reader, Writer, pipe_with_seed,
+};
 use std::alloc::Global;
 use std::fmt::{self, Debug, Formatter};
 
 /// One end of a duplex stream. It reads from one pipe and writes into the other.
 ///
-/// It is made by `duplex`, can't be cloned, and has to be spent: by its call `drop`, or by
-/// `into_halves`.
+/// It is made by `duplex`, and can't be cloned. An end that is dropped closes both pipes, first the one
+/// that it writes into, and wakes who waits at the other end (the order is tested, not proved).
 ///
 /// In clauses, `reading` and `writing` are the handles that the calls `reader` and `writer` lend.
+#[derive(Drop)]
 pub struct End {
-    reader: Reader,
     writer: Writer,
+    reader: Reader,
 }
 
 /// Creates a duplex stream, of a pipe for each way.
 ///
 /// Requires: each capacity is at least 1 and less than 2^63.
 /// Returns: two ends. What the first writes the second reads, through a pipe of `cap_a` bytes; what
-/// the second writes the first reads, through one of `cap_b`. Both pipes take `seed`.
+/// the second writes the first reads, through one of `cap_b`. Both pipes have the seed
+/// `DEFAULT_SEED`.
 /// Errors: `OutOfMemory` if memory is refused. Then nothing stays allocated (not proved).
-pub fn duplex(
+pub fn duplex(alloc: Global, cap_a: usize, cap_b: usize) -> Result<(End, End), OutOfMemory>
+    requires there { (0 < cap_a) × (2 * cap_a < 2 ^ 64) }
+    requires back { (0 < cap_b) × (2 * cap_b < 2 ^ 64) }
+    ensures there { IfOk result
+        (λ (first, second). IsNewPipe cap_a 0 (reading second) (writing first)) }
+    ensures back { IfOk result
+        (λ (first, second). IsNewPipe cap_b 0 (reading first) (writing second)) }
+    ensures refused { IfErr result HasFailed }
+{
+    duplex_with_seed(alloc, cap_a, cap_b, DEFAULT_SEED)
+}
+
+/// Creates a duplex stream whose pipes both take a seed.
+///
+/// Requires: as `duplex`.
+/// Returns: as `duplex`, with pipes of this seed.
+/// Errors: as `duplex`.
+pub fn duplex_with_seed(
     alloc: Global,
     cap_a: usize,
     cap_b: usize,
@@ -43,22 +64,15 @@ pub fn duplex(
         (λ (first, second). IsNewPipe cap_b seed (reading first) (writing second)) }
     ensures refused { IfErr result HasFailed }
 {
-    let (there_reader, there_writer) = pipe(alloc, cap_a, seed)?;
-    let (back_reader, back_writer) = match pipe(alloc, cap_b, seed) {
-        Ok(handles) => handles,
-        Err(refused) => {
-            there_writer.drop();
-            there_reader.drop();
-            return Err(refused);
-        }
-    };
+    let (there_reader, there_writer) = pipe_with_seed(alloc, cap_a, seed)?;
+    let (back_reader, back_writer) = pipe_with_seed(alloc, cap_b, seed)?;
     let first = End {
-        reader: back_reader,
         writer: there_writer,
+        reader: back_reader,
     };
     let second = End {
-        reader: there_reader,
         writer: back_writer,
+        reader: there_reader,
     };
     Ok((first, second))
 }
@@ -86,7 +100,7 @@ impl End {
         ensures reader { result.0 ≡ reading self }
         ensures writer { result.1 ≡ writing self }
     {
-        let End { reader, writer } = self;
+        let End { writer, reader } = self;
         (reader, writer)
     }
 
@@ -109,11 +123,11 @@ impl End {
     /// Closes both pipes, first the one that it writes into (the order is tested, not proved). The
     /// other end can still read what it has not read yet.
     ///
-    /// Returns: evidence for `meet_finished` of the other end's handles, as `drop` of both handles
+    /// Returns: evidence for `meet_finished` of the other end's handles, as `finish` of both handles
     /// gives it.
     /// Wakes: who waits at the other end. A task that is still registered at this end may also be
-    /// woken, as by `Reader::drop` and `Writer::drop`.
-    pub fn drop(self) -> (FinishedReader, FinishedWriter)
+    /// woken, as by `Reader::finish` and `Writer::finish`.
+    pub fn finish(self) -> (FinishedReader, FinishedWriter)
         ensures ring { (result.0.mark.consumed.names ≡ (ring (reading self)).names)
             × (result.1.mark.names ≡ (of_writer.ring (writing self)).names) }
         ensures taken { result.0.mark.consumed.count ≡ length (taken (reading self)) }
@@ -121,9 +135,9 @@ impl End {
         ensures woken { ReaderWokeLast (reading self) result.0
             × WriterWokeLast (writing self) result.1 }
     {
-        let End { reader, writer } = self;
-        let left = writer.drop();
-        (reader.drop(), left)
+        let End { writer, reader } = self;
+        let left = writer.finish();
+        (reader.finish(), left)
     }
 }
 

@@ -4,8 +4,6 @@
 
 mod end;
 mod engine;
-mod owned;
 
-pub use end::{End, duplex};
+pub use end::{End, duplex, duplex_with_seed};
 pub use engine::{Echoed, Ended, LineEcho, echo};
-pub use owned::{OwnedEnd, owned_duplex};

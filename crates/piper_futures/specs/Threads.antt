@@ -9,8 +9,8 @@ use Rattle.piper.specs.declared.error.PipeError.{PipeError}
 use Rattle.piper.specs.declared.error.PipeError.TheVariants.{Io}
 use Rattle.piper.specs.declared.io.copy.Copied.{Copied}
 use Rattle.piper.specs.declared.io.copy.Copied.TheVariants.{ToTheEnd, UntilClosed}
-use Rattle.piper.specs.declared.owned.OwnedReader.{OwnedReader}
-use Rattle.piper.specs.declared.owned.OwnedWriter.{OwnedWriter}
+use Rattle.piper.specs.declared.handles.Reader.{Reader}
+use Rattle.piper.specs.declared.handles.Writer.{Writer}
 use Rattle.piper_lines.specs.AtEnd.{AtEnd}
 use Rattle.piper_futures.specs.Draining.{DrainsOn, StartsDraining}
 use Rattle.piper_futures.specs.Filling.{FillsOn, StartsFilling}
@@ -69,7 +69,7 @@ IsOfWait other = ⊥
 module _ {S : Type 0} (remaining : S → Option (List ℕ)) where
   -- the writer's last mark reports the front of what the source gave, after what was published
   -- before, and all of it unless the pipe was seen closed
-  pub record FilledTo (w : OwnedWriter) (s : S) (left : Filled S) : Type 0 where
+  pub record FilledTo (w : Writer) (s : S) (left : Filled S) : Type 0 where
     pub saw : Bool
     pub seen : HadSeen left.mark saw
     pub moved :
@@ -79,13 +79,13 @@ module _ {S : Type 0} (remaining : S → Option (List ℕ)) where
 
   -- by what is left: the thread's own wait failed; or its fill did, for want of memory for a waker,
   -- or with an error of std
-  abbrev pub LeftByFill : OwnedWriter → S → Option (Filled S) → PipeError → Type 0
+  abbrev pub LeftByFill : Writer → S → Option (Filled S) → PipeError → Type 0
   LeftByFill w s None e = IsOfWait e
   LeftByFill w s (Some left) e = FilledTo w s left × (IsOfWaker StartsFilling w s e ⊎ IsIo e)
 
   -- all was moved into the pipe; or the writer wanted memory, or the source failed, and what it
   -- gave before was moved
-  abbrev pub FilledAndClosed : OwnedWriter → S
+  abbrev pub FilledAndClosed : Writer → S
       → Result (Filled S × Copied) (Failed (Option (Filled S))) → Type 0
   FilledAndClosed w s (Ok done) =
       (to : FilledTo w s done.0) × WhyFilled to.saw (remaining done.0.source) done.1
@@ -93,21 +93,21 @@ module _ {S : Type 0} (remaining : S → Option (List ℕ)) where
 
 module _ {D : Type 0} (contents : D → Option (List ℕ)) where
   -- all that was taken since was written, in order
-  pub record DrainedTo (r : OwnedReader) (d : D) (left : Drained D) : Type 0 where
+  pub record DrainedTo (r : Reader) (d : D) (left : Drained D) : Type 0 where
     pub moved : List ℕ
     pub count : left.mark.consumed.count ≡ length (r.side.end.taken ++ moved)
     pub written : Appends (contents d) (contents left.dest) moved
 
   -- likewise
-  abbrev pub LeftByDrain : OwnedReader → D → Option (Drained D) → PipeError → Type 0
+  abbrev pub LeftByDrain : Reader → D → Option (Drained D) → PipeError → Type 0
   LeftByDrain r d None e = IsOfWait e
   LeftByDrain r d (Some left) e =
       DrainedTo r d left × (IsOfWaker StartsDraining r d e ⊎ IsOfWrite e)
 
   -- all was moved out of the pipe, up to its end; or the reader or the writer of std failed, and
   -- what was taken before was written
-  abbrev pub DrainedOrClosed : OwnedReader → D
-      → Result (OwnedReader × D) (Failed (Option (Drained D))) → Type 0
+  abbrev pub DrainedOrClosed : Reader → D
+      → Result (Reader × D) (Failed (Option (Drained D))) → Type 0
   DrainedOrClosed r d (Ok done) =
       DrainsOn r.side.end.taken done.0.side.end.taken (contents d) (contents done.1)
       × AtEnd done.0.side.end.known done.0.side.end.saw

@@ -18,7 +18,7 @@ use crate::failed::Failed;
 use futures::Future;
 use futures::task::{Context, Poll};
 use piper::io::{AsyncWrite, Copied};
-use piper::{OwnedWriter, PipeError, Writer};
+use piper::{PipeError, Writer};
 use std::fmt::{self, Debug, Formatter};
 use std::io::Read;
 
@@ -97,28 +97,6 @@ fn why_none(writer: &mut Writer, cx: &mut Context<'_>) -> Copied
     match writer.poll(cx) {
         Poll::Ready(Ok(false)) => Copied::UntilClosed,
         _ => Copied::ToTheEnd,
-    }
-}
-
-impl AsyncFill for OwnedWriter {
-    fn poll_fill_from<S: Read>(
-        &mut self,
-        cx: &mut Context<'_>,
-        source: &mut S,
-    ) -> Poll<Result<Copied, PipeError>>
-        ensures fills { FillsOn (S.remaining source.old) (S.remaining source.new)
-            (sent self.old) (sent self.new) (saw self.old) (saw self.new) }
-        ensures ended { (result ≡ Poll.Ready (Ok Copied.ToTheEnd) →
-            IsAtEnd (S.remaining source.new))
-            × (result ≡ Poll.Ready (Ok Copied.UntilClosed) → saw self.new ≡ true) }
-        ensures error { IfReadyErr result (λ e. WantsWaker cx.new e ⊎ IsIo e) }
-        ensures pending { OnPending result (Covers cx.new (λ s. s ≡ write_source self.new)
-            × FillWaits sent saw WriterIsWaiting self.old self.new cx.new) }
-        ensures handle { FillsHandle result self.old self.new cx.old cx.new }
-        ensures woken { NotifiesReader self.old → NotifiesReader self.new }
-        ensures kept { Keeps cx.old cx.new }
-    {
-        self.get_mut().poll_fill_from(cx, source)
     }
 }
 

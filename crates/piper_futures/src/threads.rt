@@ -12,7 +12,7 @@ use crate::fill::fill_from;
 use futures::Future;
 use futures::executor::block_on;
 use piper::io::Copied;
-use piper::{LastReadMark, OwnedReader, OwnedWriter, PipeError, WriteMark};
+use piper::{LastReadMark, PipeError, Reader, WriteMark, Writer};
 use piper_protocol::reported::reported;
 use std::alloc::AllocGlobal;
 use std::io::{Read, Write};
@@ -44,7 +44,7 @@ pub struct Drained<D> {
 /// What the thread of [`spawn_fill`] promises of its result.
 #[derive(Drop)]
 pub struct Fills<S> {
-    writer: Snapshot<OwnedWriter>,
+    writer: Snapshot<Writer>,
     source: Snapshot<S>,
 }
 
@@ -56,11 +56,11 @@ impl<S: Read> Promise<Result<(Filled<S>, Copied), Failed<Option<Filled<S>>>>> fo
 /// What the thread of [`spawn_drain`] promises of its result.
 #[derive(Drop)]
 pub struct Drains<D> {
-    reader: Snapshot<OwnedReader>,
+    reader: Snapshot<Reader>,
     dest: Snapshot<D>,
 }
 
-impl<D: Write> Promise<Result<(OwnedReader, D), Failed<Option<Drained<D>>>>> for Drains<D> {
+impl<D: Write> Promise<Result<(Reader, D), Failed<Option<Drained<D>>>>> for Drains<D> {
     ghost kept_by = { λ promise drained.
         DrainedOrClosed D.contents promise.reader.value promise.dest.value drained };
 }
@@ -76,7 +76,7 @@ impl<D: Write> Promise<Result<(OwnedReader, D), Failed<Option<Drained<D>>>>> for
 /// Errors: no thread can be made. The writer and `source` are dropped.
 pub fn spawn_fill<H, S>(
     rt: &H,
-    writer: OwnedWriter,
+    writer: Writer,
     source: S,
 ) -> io::Result<PromisedHandle<Result<(Filled<S>, Copied), Failed<Option<Filled<S>>>>, Fills<S>>>
 where
@@ -103,9 +103,9 @@ where
 /// Errors: no thread can be made. The reader and `dest` are dropped.
 pub fn spawn_drain<H, D>(
     rt: &H,
-    reader: OwnedReader,
+    reader: Reader,
     dest: D,
-) -> io::Result<PromisedHandle<Result<(OwnedReader, D), Failed<Option<Drained<D>>>>, Drains<D>>>
+) -> io::Result<PromisedHandle<Result<(Reader, D), Failed<Option<Drained<D>>>>, Drains<D>>>
 where
     H: Threads + Wait + RandomSource + AllocGlobal + Clone + Drop + Send + Sync + 'static,
     D: Write + Drop + Send + 'static,
@@ -139,7 +139,7 @@ where
 /// Moves all that `source` gives into the pipe, and drops the writer.
 fn fill_and_close<H, S>(
     rt: &H,
-    writer: OwnedWriter,
+    writer: Writer,
     source: S,
 ) -> Result<(Filled<S>, Copied), Failed<Option<Filled<S>>>>
 where
@@ -162,22 +162,22 @@ where
     }
 }
 
-fn closed_by_writer<S>(writer: OwnedWriter, source: S) -> Filled<S>
+fn closed_by_writer<S>(writer: Writer, source: S) -> Filled<S>
     ensures source { result.source ≡ source }
     ensures bytes { result.mark.bytes ≡ sent writer }
     ensures shut { result.mark.shut ≡ true }
     ensures seen { HadSeen result.mark (saw writer) }
 {
-    let mark = writer.into_inner().drop().mark;
+    let mark = writer.finish().mark;
     Filled { source, mark }
 }
 
 /// Moves all bytes of the pipe into `dest`, or drops the reader.
 fn drain_or_close<H, D>(
     rt: &H,
-    reader: OwnedReader,
+    reader: Reader,
     dest: D,
-) -> Result<(OwnedReader, D), Failed<Option<Drained<D>>>>
+) -> Result<(Reader, D), Failed<Option<Drained<D>>>>
 where
     H: Wait + RandomSource + AllocGlobal,
     D: Write + Drop,
@@ -198,10 +198,10 @@ where
     }
 }
 
-fn closed_by_reader<D>(reader: OwnedReader, dest: D) -> Drained<D>
+fn closed_by_reader<D>(reader: Reader, dest: D) -> Drained<D>
     ensures dest { result.dest ≡ dest }
     ensures count { result.mark.consumed.count ≡ length (taken reader) }
 {
-    let mark = reader.into_inner().drop().mark;
+    let mark = reader.finish().mark;
     Drained { dest, mark }
 }

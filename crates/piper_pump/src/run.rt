@@ -133,7 +133,6 @@ where
         outlet.progress = begin_watch(rt, outcome, watched, front);
     }
     if let Err(ended) = begin_all(rt, &mut part.0, skip, &mut outlet) {
-        ready.drop();
         outlet.report_last();
         return Err(ended);
     }

@@ -5,7 +5,7 @@ use crate::plan::Plan;
 use crate::sides::{Reading, Writing};
 use crate::sleeping::play_side;
 use crate::watch::{Fault, Watch};
-use piper::{OwnedReader, OwnedWriter, pipe};
+use piper::{Reader, Writer, pipe_with_seed};
 use std::alloc::{AllocGlobal, Global};
 use std::marker::Send;
 use std::random::RandomSource;
@@ -31,10 +31,9 @@ where
     };
     let (readers_watch, writers_watch) = (Arc::try_clone(&watch)?, Arc::try_clone(&watch)?);
     let (readers_rt, writers_rt) = (rt.clone()?, rt.clone()?);
-    let Ok((reader, writer)) = pipe(rt.alloc(), plan.capacity, plan.seed) else {
+    let Ok((reader, writer)) = pipe_with_seed(rt.alloc(), plan.capacity, plan.seed) else {
         return Err(Halt::Memory);
     };
-    let (mut reader, mut writer) = (OwnedReader::new(reader), OwnedWriter::new(writer));
     let reading = thread::spawn(rt, move || {
         let took = read(&readers_rt, reader, &readers_watch, plan);
         readers_watch.end_side();
@@ -58,21 +57,18 @@ where
     Ok(gave.and(took))
 }
 
-fn read<R>(rt: &R, mut reader: OwnedReader, watch: &Watch, plan: Plan) -> Result<u64, Fault>
+fn read<R>(rt: &R, mut reader: Reader, watch: &Watch, plan: Plan) -> Result<u64, Fault>
 where
     R: Wait + RandomSource + AllocGlobal,
 {
-    play_side(
-        rt,
-        &mut Reading::new(reader.get_mut(), rt.alloc(), watch, plan),
-    )
+    play_side(rt, &mut Reading::new(&mut reader, rt.alloc(), watch, plan))
 }
 
-fn write<R>(rt: &R, mut writer: OwnedWriter, watch: &Watch, plan: Plan) -> Result<u64, Fault>
+fn write<R>(rt: &R, mut writer: Writer, watch: &Watch, plan: Plan) -> Result<u64, Fault>
 where
     R: Wait + RandomSource + AllocGlobal,
 {
-    play_side(rt, &mut Writing::new(writer.get_mut(), watch, plan))
+    play_side(rt, &mut Writing::new(&mut writer, watch, plan))
 }
 
 // Waits until both sides have ended. The answer is `false` where they stall.

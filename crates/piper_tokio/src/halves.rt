@@ -12,18 +12,12 @@ use piper::{Reader, Writer};
 ///
 /// In clauses, `handle_of` is its handle, and `shown_by` are the bytes that `buffer` shows. `reads
 /// a xs b` says that the handle `a` took the bytes `xs`, in this order, and is `b` now (`Took`).
+#[derive(Drop)]
 pub struct CompatReader {
     reader: Reader,
     // `tokio` asks that `buffer` shows what is left of one piece and no more, until the next fill.
     shown: usize,
     ghost within: { shown ≤ in_one_piece reader.side.end },
-}
-
-impl Drop for CompatReader {
-    fn drop(self) {
-        let CompatReader { reader, shown: _ } = self;
-        reader.drop();
-    }
 }
 
 /// The writing side of a pipe, as a writer of `tokio`.
@@ -32,13 +26,7 @@ impl Drop for CompatReader {
 ///
 /// In clauses, `writing` is its handle. `writes a xs b` says that a front of `xs` was published,
 /// and all of it unless the pipe was seen closed (`Gave`).
+#[derive(Drop)]
 pub struct CompatWriter {
     writer: Writer,
-}
-
-impl Drop for CompatWriter {
-    fn drop(self) {
-        let CompatWriter { writer } = self;
-        writer.drop();
-    }
 }

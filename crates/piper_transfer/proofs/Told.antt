@@ -3,9 +3,9 @@ use Rattle.std.proofs.Common.{◌≡◌, Result, Ok, Err, sym, subst}
 use Rattle.std.specs.Prelude.{IfErr, OnOk}
 use Rattle.std.specs.Result.{result_and}
 use Rattle.std.specs.declared.io.Error.{Error}
-use Rattle.piper_transfer.specs.Transfer.{IsOfDestination, IsOfInput, IsOfMemory, IsOfSide, IsOfSource, WritesAll}
+use Rattle.piper_transfer.specs.Transfer.{IsOfDestination, IsOfInput, IsOfMemory, IsOfSide, WritesAll}
 use Rattle.piper_transfer.specs.declared.error.TransferError.{TransferError}
-use Rattle.piper_transfer.specs.declared.error.TransferError.TheVariants.{Read, Write, Full, Memory, Turns}
+use Rattle.piper_transfer.specs.declared.error.TransferError.TheVariants.{Read, Memory, Turns}
 
 -- the output's side reports no failure of the input
 pub not_of_input : (fails : Error → Type 0) (full : Type 0) (e : TransferError) → IsOfDestination fails full e → ¬ IsOfInput e
@@ -22,19 +22,6 @@ of_memory s d full Memory reported = tt
 of_memory s d full (Turns x) reported = tt
 of_memory s d full e reported = absurd reported
 
-pub of_destination : (s d : Error → Type 0) (full : Type 0) (e : TransferError) → IsOfDestination d full e → IsOfSide s d full e
-of_destination s d full (Read x) reported = absurd reported
-of_destination s d full Memory reported = tt
-of_destination s d full (Turns x) reported = tt
-of_destination s d full e reported = reported
-
-of_source : (s d : Error → Type 0) (full : Type 0) (e : TransferError) → IsOfSource s e → IsOfSide s d full e
-of_source s d full (Write x) reported = absurd reported
-of_source s d full Full reported = absurd reported
-of_source s d full Memory reported = tt
-of_source s d full (Turns x) reported = tt
-of_source s d full e reported = reported
-
 -- a pipe that was refused: nothing is written
 pub refused_writes_none : (r : Result Unit TransferError) → OnOk r ⊥ → IfErr r IsOfMemory → ¬ WritesAll r
 refused_writes_none (Ok u) never memory = λ _. never
@@ -44,19 +31,6 @@ pub refused_is_told : (r : Result Unit TransferError) (s d : Error → Type 0) (
 refused_is_told (Ok u) s d full memory = tt
 refused_is_told (Err e) s d full memory = of_memory s d full e memory
 
--- a flush, and then the answer of the input's side: where that wrote all, the flush has succeeded
-pub flushed_first : (flush filled r : Result Unit TransferError) (fails : Error → Type 0) (full done : Type 0) → r ≡ result_and flush filled
-    → OnOk flush done → IfErr flush (IsOfDestination fails full) → WritesAll r → done
-flushed_first (Ok u) filled r fails full done is flushed reported writes = flushed
-flushed_first (Err e) filled r fails full done is flushed reported writes =
-    absurd (not_of_input fails full e reported (subst WritesAll is writes))
-
-pub flush_is_told : (flush filled r : Result Unit TransferError) (s d : Error → Type 0) (full : Type 0) → r ≡ result_and flush filled
-    → IfErr flush (IsOfDestination d full) → IfErr filled (IsOfSource s) → IfErr r (IsOfSide s d full)
-flush_is_told (Ok u) (Ok v) r s d full is reported fills = subst (λ x. IfErr x (IsOfSide s d full)) (sym is) tt
-flush_is_told (Ok u) (Err e) r s d full is reported fills = subst (λ x. IfErr x (IsOfSide s d full)) (sym is) (of_source s d full e fills)
-flush_is_told (Err e) filled r s d full is reported fills = subst (λ x. IfErr x (IsOfSide s d full)) (sym is) (of_destination s d full e reported)
-
 -- it ends well only where the input's side does
 pub ends_with_both : (flush filled r : Result Unit TransferError) (ended : Type 0) → r ≡ result_and flush filled → OnOk filled ended → OnOk r ended
 ends_with_both (Ok u) filled r ended is fills = subst (λ x. OnOk x ended) (sym is) fills
@@ -65,6 +39,3 @@ ends_with_both (Err e) filled r ended is fills = subst (λ x. OnOk x ended) (sym
 -- an output that failed
 pub failed_writes_not : (r : Result Unit TransferError) (e : TransferError) (fails : Error → Type 0) (full : Type 0) → r ≡ Err e → IsOfDestination fails full e → ¬ WritesAll r
 failed_writes_not r e fails full is reported = λ writes. not_of_input fails full e reported (subst WritesAll is writes)
-
-pub failure_is_told : (r : Result Unit TransferError) (e : TransferError) (s d : Error → Type 0) (full : Type 0) → r ≡ Err e → IsOfDestination d full e → IfErr r (IsOfSide s d full)
-failure_is_told r e s d full is reported = subst (λ x. IfErr x (IsOfSide s d full)) (sym is) (of_destination s d full e reported)

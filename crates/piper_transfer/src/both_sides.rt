@@ -27,7 +27,8 @@ use std::sync::Wait;
 use std::thread::{Threads, join_mut};
 use std::time::Clock;
 
-/// A transfer that has its memory, and has not begun. It is spent by `transfer` or by `drop`.
+/// A transfer that has its memory, and has not begun.
+#[derive(Drop)]
 pub struct Ready {
     sizes: Sizes,
     input: Input,
@@ -114,42 +115,11 @@ impl Ready {
         } = self;
         let chunk = sizes.chunk.min(sizes.capacity);
         let both = run_sides(rt, source, &mut input, &mut output, dest, chunk, meter);
-        let Input {
-            turns: _,
-            mut writer,
-        } = input;
-        let Output {
-            turns: _,
-            mut reader,
-            level: _,
-        } = output;
         // Now that both handles are held by one thread, what is left where the output failed is
         // known; else nothing is.
-        reader.meet(&mut writer);
-        let ended = match both {
-            Ok(filled) => flush(rt, dest).and(filled),
-            Err(error) => Err(error),
-        };
-        reader.drop();
-        writer.drop();
-        ended
-    }
-
-    /// Gives the memory back.
-    pub fn drop(self) {
-        let Ready {
-            sizes: _,
-            input,
-            output,
-        } = self;
-        let Input { turns: _, writer } = input;
-        let Output {
-            turns: _,
-            reader,
-            level: _,
-        } = output;
-        reader.drop();
-        writer.drop();
+        output.reader.meet(&mut input.writer);
+        let filled = both?;
+        flush(rt, dest).and(filled)
     }
 }
 
@@ -166,7 +136,7 @@ where
 {
     let input_turns = Turns::new(rt).map_err(TransferError::Turns)?;
     let output_turns = Turns::new(rt).map_err(TransferError::Turns)?;
-    let (reader, writer) = match pipe(rt.alloc(), sizes.capacity, 1) {
+    let (reader, writer) = match pipe(rt.alloc(), sizes.capacity) {
         Ok(handles) => handles,
         Err(_) => return Err(TransferError::Memory),
     };

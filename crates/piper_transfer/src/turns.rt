@@ -27,12 +27,14 @@ impl Turns {
 }
 
 /// What the thread has that reads the input.
+#[derive(Drop)]
 pub(crate) struct Input {
     pub(crate) turns: Turns,
     pub(crate) writer: Writer,
 }
 
 /// What the thread has that writes the output.
+#[derive(Drop)]
 pub(crate) struct Output {
     pub(crate) turns: Turns,
     pub(crate) reader: Reader,

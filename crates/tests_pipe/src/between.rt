@@ -1,7 +1,7 @@
 //! What an end of a copy does, or sees, between two of the copy's steps.
 use crate::compare::same_of as same;
 use crate::ends::byte_at;
-use crate::polls::{Moved, copied, granted, owned_at_last, task_at_last};
+use crate::polls::{Moved, copied, granted, pipe_at_last, task_at_last};
 use futures::test::MockTask;
 use std::alloc::AllocGlobal;
 use std::io;
@@ -108,11 +108,11 @@ fn drops_the_reader<H>(rt: &H, at: usize)
 where
     H: Abort + RandomSource + AllocGlobal,
 {
-    let (reader, mut writer) = owned_at_last(rt, 8);
+    let (reader, mut writer) = pipe_at_last(rt, 8);
     let other = Some(reader);
     let mut source = Steps::new(Drops { at, other }, 8);
     let task = task_at_last(rt);
-    let moved = task.enter(|cx| writer.get_mut().poll_fill(cx, &mut source));
+    let moved = task.enter(|cx| writer.poll_fill(cx, &mut source));
     same(rt, &"fill", copied(moved), Moved::Done(at));
     same(rt, &"calls", source.calls, at);
     same(rt, &"closed", writer.is_closed(), true);
@@ -130,14 +130,14 @@ fn drops_the_writer<H>(rt: &H, at: usize)
 where
     H: Abort + RandomSource + AllocGlobal,
 {
-    let (mut reader, mut writer) = owned_at_last(rt, 8);
+    let (mut reader, mut writer) = pipe_at_last(rt, 8);
     same(rt, &"sent", writer.try_fill(b"abcd"), 4);
     let other = Some(writer);
     let mut dest = Steps::new(Drops { at, other }, 8);
     let task = task_at_last(rt);
-    let moved = task.enter(|cx| reader.get_mut().poll_drain(cx, &mut dest));
+    let moved = task.enter(|cx| reader.poll_drain(cx, &mut dest));
     same(rt, &"drain", copied(moved), Moved::Done(4));
-    let found = task.enter(|cx| reader.get_mut().poll(cx));
+    let found = task.enter(|cx| reader.poll(cx));
     same(rt, &"end", granted(rt, found), Some(false));
 }
 
@@ -151,12 +151,12 @@ fn a_destination_that_drops_the_writer_gets_all_bytes(rt: HostRuntime) {
 /// Each round of a fill wakes the reader, before the source is called again.
 #[test]
 fn a_source_sees_the_reader_woken_at_its_second_call(rt: HostRuntime) {
-    let (mut reader, mut writer) = owned_at_last(&rt, 8);
+    let (mut reader, mut writer) = pipe_at_last(&rt, 8);
     let (reading, writing) = (task_at_last(&rt), task_at_last(&rt));
-    let found = reading.enter(|cx| reader.get_mut().poll(cx));
+    let found = reading.enter(|cx| reader.poll(cx));
     same(&rt, &"pending", granted(&rt, found), None);
     let mut source = Steps::new(Asks::new(&reading), 3);
-    let moved = writing.enter(|cx| writer.get_mut().poll_fill(cx, &mut source));
+    let moved = writing.enter(|cx| writer.poll_fill(cx, &mut source));
     same(&rt, &"fill", copied(moved), Moved::Done(3));
     same(&rt, &"woken", source.between.woken_at, Some(2));
 }
@@ -164,13 +164,13 @@ fn a_source_sees_the_reader_woken_at_its_second_call(rt: HostRuntime) {
 /// Each round of a drain wakes the writer, before the destination is called again.
 #[test]
 fn a_destination_sees_the_writer_woken_at_its_second_call(rt: HostRuntime) {
-    let (mut reader, mut writer) = owned_at_last(&rt, 4);
+    let (mut reader, mut writer) = pipe_at_last(&rt, 4);
     let (reading, writing) = (task_at_last(&rt), task_at_last(&rt));
     same(&rt, &"sent", writer.try_fill(b"abcd"), 4);
-    let found = writing.enter(|cx| writer.get_mut().poll(cx));
+    let found = writing.enter(|cx| writer.poll(cx));
     same(&rt, &"pending", granted(&rt, found), None);
     let mut dest = Steps::new(Asks::new(&writing), 3);
-    let moved = reading.enter(|cx| reader.get_mut().poll_drain(cx, &mut dest));
+    let moved = reading.enter(|cx| reader.poll_drain(cx, &mut dest));
     same(&rt, &"drain", copied(moved), Moved::Done(3));
     same(&rt, &"woken", dest.between.woken_at, Some(2));
 }

@@ -2,7 +2,7 @@
 //! such an end fails, and on how long slices they call it.
 use crate::compare::same_of as same;
 use crate::ends::End;
-use crate::polls::{Moved, copied, owned_at_last, task_at_last};
+use crate::polls::{Moved, copied, pipe_at_last, task_at_last};
 use std::alloc::AllocGlobal;
 use std::io::ErrorKind;
 use std::process::Abort;
@@ -26,7 +26,7 @@ fn fill_reports<H>(rt: &H, kind: ErrorKind)
 where
     H: Abort + RandomSource + AllocGlobal,
 {
-    let (mut reader, mut writer) = owned_at_last(rt, 4);
+    let (mut reader, mut writer) = pipe_at_last(rt, 4);
     let mut source = End::new(1, 2, Some(kind));
     let filled = task_at_last(rt).enter(|cx| writer.poll_fill(cx, &mut source));
     same(rt, &kind, copied(filled), Moved::Failed(kind));
@@ -42,7 +42,7 @@ fn drain_reports<H>(rt: &H, kind: ErrorKind)
 where
     H: Abort + RandomSource + AllocGlobal,
 {
-    let (mut reader, mut writer) = owned_at_last(rt, 4);
+    let (mut reader, mut writer) = pipe_at_last(rt, 4);
     same(rt, &kind, writer.try_fill(&[0, 1, 2]), 3);
     let mut dest = End::new(1, 2, Some(kind));
     let drained = task_at_last(rt).enter(|cx| reader.poll_drain(cx, &mut dest));
@@ -64,7 +64,7 @@ fn an_error_of_std_is_reported_as_it_is(rt: HostRuntime) {
 /// Both copies call the ends on slices as long as they can be.
 #[test]
 fn a_copy_moves_whole_slices(rt: HostRuntime) {
-    let (mut reader, mut writer) = owned_at_last(&rt, 200_000);
+    let (mut reader, mut writer) = pipe_at_last(&rt, 200_000);
     let (mut source, mut dest) = (End::willing(), End::willing());
     let task = task_at_last(&rt);
     let filled = task.enter(|cx| writer.poll_fill(cx, &mut source));

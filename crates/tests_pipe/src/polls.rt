@@ -5,7 +5,7 @@ ghost use Rattle.piper.specs.Handles.{ArePair};
 
 use futures::task::Poll;
 use futures::test::MockTask;
-use piper::{OutOfMemory, OwnedReader, OwnedWriter, PipeError, Reader, Writer, pipe};
+use piper::{OutOfMemory, PipeError, Reader, Writer, pipe};
 use std::alloc::AllocGlobal;
 use std::fmt::Debug;
 use std::io::ErrorKind;
@@ -28,21 +28,10 @@ pub(crate) fn pipe_at_last(rt: &(impl Abort + AllocGlobal), capacity: usize) -> 
     requires { (0 < capacity) × (2 * capacity < 2 ^ 64) }
     ensures { ArePair result.0 result.1 }
 {
-    match pipe(rt.alloc(), capacity, 1) {
+    match pipe(rt.alloc(), capacity) {
         Ok(handles) => handles,
-        Err(OutOfMemory) => pipe(rt.alloc(), capacity, 1).expect(rt, "a pipe"),
+        Err(OutOfMemory) => pipe(rt.alloc(), capacity).expect(rt, "a pipe"),
     }
-}
-
-/// Both sides of a pipe, owned.
-pub(crate) fn owned_at_last(
-    rt: &(impl Abort + AllocGlobal),
-    capacity: usize,
-) -> (OwnedReader, OwnedWriter)
-    requires { (0 < capacity) × (2 * capacity < 2 ^ 64) }
-{
-    let (reader, writer) = pipe_at_last(rt, capacity);
-    (OwnedReader::new(reader), OwnedWriter::new(writer))
 }
 
 /// A task.

@@ -7,7 +7,7 @@ use crate::polls::{pipe_at_last, task_at_last};
 use futures::task::{Context, Poll};
 use futures::test::MockTask;
 use piper::io::{AsyncBufRead, AsyncRead, AsyncWrite};
-use piper::{OwnedReader, OwnedWriter, Reader, Writer};
+use piper::{Reader, Writer};
 use std::alloc::AllocGlobal;
 use std::marker::{Send, Sync};
 use std::process::Abort;
@@ -122,21 +122,20 @@ fn reader_waits<H>(rt: &H, by: By, meanwhile: Meanwhile)
 where
     H: Abort + Threads + Wait + RandomSource + AllocGlobal + Send + Sync,
 {
-    let (reader, writer) = pipe_at_last(rt, 1);
-    let mut reader = OwnedReader::new(reader);
-    let mut writer = Some(OwnedWriter::new(writer));
+    let (mut reader, writer) = pipe_at_last(rt, 1);
+    let mut writer = Some(writer);
     let mut tasks = Tasks::new(rt);
     let (_, has_waited) = thread::join(
         rt,
         || match meanwhile {
             Meanwhile::IsDropped => writer = None,
             Meanwhile::Moves => {
-                if let Some(owned) = &mut writer {
-                    owned.get_mut().try_fill(b"a");
+                if let Some(writer) = &mut writer {
+                    writer.try_fill(b"a");
                 }
             }
         },
-        || reads_on(rt, reader.get_mut(), &mut tasks, by),
+        || reads_on(rt, &mut reader, &mut tasks, by),
     );
     if has_waited {
         same(rt, &(by, meanwhile), tasks.is_woken(), true);
@@ -147,22 +146,21 @@ fn writer_waits<H>(rt: &H, by: By, meanwhile: Meanwhile)
 where
     H: Abort + Threads + Wait + RandomSource + AllocGlobal + Send + Sync,
 {
-    let (reader, writer) = pipe_at_last(rt, 1);
-    let mut reader = Some(OwnedReader::new(reader));
-    let mut writer = OwnedWriter::new(writer);
-    writer.get_mut().try_fill(b"a");
+    let (reader, mut writer) = pipe_at_last(rt, 1);
+    let mut reader = Some(reader);
+    writer.try_fill(b"a");
     let mut tasks = Tasks::new(rt);
     let (_, has_waited) = thread::join(
         rt,
         || match meanwhile {
             Meanwhile::IsDropped => reader = None,
             Meanwhile::Moves => {
-                if let Some(owned) = &mut reader {
-                    owned.get_mut().try_drain(&mut [0; 1]);
+                if let Some(reader) = &mut reader {
+                    reader.try_drain(&mut [0; 1]);
                 }
             }
         },
-        || writes_on(rt, writer.get_mut(), &mut tasks, by),
+        || writes_on(rt, &mut writer, &mut tasks, by),
     );
     if has_waited {
         same(rt, &(by, meanwhile), tasks.is_woken(), true);
@@ -187,6 +185,6 @@ fn no_waker_leaks_where_bytes_or_room_come(rt: HostRuntime) {
 }
 
 #[test]
-fn whoever_registers_while_an_owner_is_dropped_is_woken(rt: HostRuntime) {
+fn whoever_registers_while_a_handle_is_dropped_is_woken(rt: HostRuntime) {
     waits(&rt, Meanwhile::IsDropped);
 }

@@ -10,14 +10,32 @@ use rand_core::SeedableRng;
 use rand_pcg::Pcg32;
 use std::alloc::Global;
 
+/// The seed of pipes for which no seed is chosen.
+pub const DEFAULT_SEED: u64 = 0;
+
 /// Creates a pipe of `cap` bytes between one reader and one writer.
 ///
 /// Requires: `cap` is at least 1 and less than 2^63.
+/// Returns: both handles. Their random generators begin as those of `pipe_with_seed` with
+/// `DEFAULT_SEED`.
+/// Errors: `OutOfMemory` if memory is refused. Then nothing stays allocated (not proved).
+pub fn pipe(alloc: Global, cap: usize) -> Result<(Reader, Writer), OutOfMemory>
+    requires { (0 < cap) × (2 * cap < 2 ^ 64) }
+    ensures fresh { IfOk result (λ (reader, writer). ArePair reader writer
+        × AreFresh cap reader writer × DrawFrom 0 reader writer) }
+    ensures refused { IfErr result HasFailed }
+{
+    pipe_with_seed(alloc, cap, DEFAULT_SEED)
+}
+
+/// Creates a pipe whose random generators begin at a seed.
+///
+/// Requires: as `pipe`.
 /// Returns: both handles. The reader's random generator begins at `seed`, the writer's at `seed`
 /// with its lowest bit flipped.
-/// Errors: `OutOfMemory` if memory is refused. Then nothing stays allocated (not proved).
+/// Errors: as `pipe`.
 #[tactic(auto, unfolding(crate::specs::Handles::LogsAreNew, piper_ring::specs::Log::is_at_rest))]
-pub fn pipe(alloc: Global, cap: usize, seed: u64) -> Result<(Reader, Writer), OutOfMemory>
+pub fn pipe_with_seed(alloc: Global, cap: usize, seed: u64) -> Result<(Reader, Writer), OutOfMemory>
     requires { (0 < cap) × (2 * cap < 2 ^ 64) }
     ensures fresh { IfOk result (λ (reader, writer). ArePair reader writer
         × AreFresh cap reader writer × DrawFrom seed reader writer) }

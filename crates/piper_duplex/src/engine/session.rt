@@ -10,7 +10,7 @@ use crate::engine::printing::print_line;
 use crate::engine::waiting::EchoAll;
 use futures::executor::block_on;
 use piper::like::{StdReader, StdWriter};
-use piper::{OwnedReader, OwnedWriter, Reader, Writer};
+use piper::{Reader, Writer};
 use piper_protocol::reported::reported;
 use std::alloc::{AllocGlobal, Global};
 use std::io::Write;
@@ -114,16 +114,10 @@ where
         (StdWriteHasFailed output.new)) }
 {
     let (theirs, first, second) = prepare(rt, alloc)?;
-    let child = match start(rt, alloc, theirs, second) {
-        Ok(child) => child,
-        Err(ended) => {
-            first.drop();
-            return Err(ended);
-        }
-    };
+    let child = start(rt, alloc, theirs, second)?;
     let (mut reader, writer) = first.into_halves();
     let printed = exchange(rt, &mut reader, writer, input, output);
-    reader.drop();
+    drop(reader);
     child.join(rt);
     printed
 }
@@ -133,7 +127,7 @@ fn prepare<R: Clone + Drop>(rt: &R, alloc: Global) -> Result<(R, End, End), Ende
     ensures { IfErr result LacksMemory }
 {
     let theirs = wanted(rt.clone())?;
-    let (first, second) = wanted(duplex(alloc, CAPACITY, CAPACITY, 1))?;
+    let (first, second) = wanted(duplex(alloc, CAPACITY, CAPACITY))?;
     Ok((theirs, first, second))
 }
 
@@ -144,7 +138,7 @@ where
     ensures { IfErr result LacksThread }
 {
     let (reader, writer) = end.into_halves();
-    let echo = EchoAll::new(alloc, OwnedReader::new(reader), OwnedWriter::new(writer));
+    let echo = EchoAll::new(alloc, reader, writer);
     let spawned = thread::spawn(rt, move || {
         let _ = block_on(&theirs, echo);
     });
@@ -174,6 +168,6 @@ where
         (WriteHasFailed O.fails O.full output.new)) }
 {
     let sent = talk(rt, reader, &mut writer, input, output);
-    writer.drop();
+    drop(writer);
     print_line(rt, reader, sent?, output)
 }

@@ -3,14 +3,14 @@ use crate::compare::{confirm, same};
 use crate::polls::{new_task, next_woken};
 use futures::task::{Doorbell, Queue};
 use piper::io::{AsyncRead, AsyncWrite};
-use piper_duplex::{OwnedEnd, duplex, owned_duplex};
+use piper_duplex::{End, duplex};
 use std::alloc::AllocGlobal;
 use std::process::Abort;
 use std::random::RandomSource;
 use std::sync::Wait;
 
 /// Fills the pipe that this end writes into.
-fn fill<H>(rt: &H, end: &mut OwnedEnd)
+fn fill<H>(rt: &H, end: &mut End)
 where
     H: Abort + RandomSource + AllocGlobal,
 {
@@ -20,7 +20,7 @@ where
 }
 
 /// A queue of two tasks: task 0 waits to read from this end, and task 1 to write to it.
-fn two_waiting<H>(rt: &H, end: &mut OwnedEnd) -> Queue
+fn two_waiting<H>(rt: &H, end: &mut End) -> Queue
 where
     H: Abort + Wait + RandomSource + AllocGlobal,
 {
@@ -47,17 +47,12 @@ fn reader_was_first(rt: &(impl Abort + Wait), queue: &Queue) {
 
 #[test]
 fn a_dropped_end_closes_first_what_it_writes_into(rt: HostRuntime) {
-    let (first, second) = duplex(rt.alloc(), 4, 4, 1).expect(&rt, "memory");
-    let mut other = OwnedEnd::new(second);
-    let queue = two_waiting(&rt, &mut other);
-    first.drop();
-    reader_was_first(&rt, &queue);
-}
-
-#[test]
-fn a_dropped_owned_end_closes_first_what_it_writes_into(rt: HostRuntime) {
-    let (first, mut other) = owned_duplex(rt.alloc(), 4, 4).expect(&rt, "memory");
+    let (first, mut other) = duplex(rt.alloc(), 4, 4).expect(&rt, "memory");
     let queue = two_waiting(&rt, &mut other);
     drop(first);
+    reader_was_first(&rt, &queue);
+    let (first, mut other) = duplex(rt.alloc(), 4, 4).expect(&rt, "memory");
+    let queue = two_waiting(&rt, &mut other);
+    first.finish();
     reader_was_first(&rt, &queue);
 }

@@ -4,7 +4,7 @@ use crate::compare::same;
 use crate::futures_and_streams::running::kept;
 use futures::test::MockTask;
 use futures::{Future, StreamExt};
-use piper::owned_pipe;
+use piper::pipe;
 use piper_futures::{AsyncBufReadExt, AsyncReadExt, AsyncWriteExt, FrameStream, copy};
 use std::alloc::AllocGlobal;
 use std::process::Abort;
@@ -28,7 +28,7 @@ fn reads_sleep<R>(rt: &R)
 where
     R: Abort + RandomSource + AllocGlobal,
 {
-    let (mut reader, _writer) = owned_pipe(rt.alloc(), 8).expect(rt, "memory");
+    let (mut reader, _writer) = pipe(rt.alloc(), 8).expect(rt, "memory");
     sleeps(rt, "read", (&mut reader).read(kept(rt, rt.alloc(), b"..")));
     sleeps(
         rt,
@@ -51,7 +51,7 @@ fn streams_sleep<R>(rt: &R)
 where
     R: Abort + RandomSource + AllocGlobal,
 {
-    let (mut reader, _writer) = owned_pipe(rt.alloc(), 8).expect(rt, "memory");
+    let (mut reader, _writer) = pipe(rt.alloc(), 8).expect(rt, "memory");
     sleeps(rt, "lines", (&mut reader).lines(rt.alloc(), 8).next());
     sleeps(
         rt,
@@ -64,8 +64,8 @@ fn copies_sleep<R>(rt: &R)
 where
     R: Abort + RandomSource + AllocGlobal,
 {
-    let (mut reader, _writer) = owned_pipe(rt.alloc(), 8).expect(rt, "memory");
-    let (_drained, mut full) = owned_pipe(rt.alloc(), 1).expect(rt, "memory");
+    let (mut reader, _writer) = pipe(rt.alloc(), 8).expect(rt, "memory");
+    let (_drained, mut full) = pipe(rt.alloc(), 1).expect(rt, "memory");
     full.try_fill(b".");
     sleeps(
         rt,
@@ -84,7 +84,7 @@ fn a_reader_with_nothing_to_read_sleeps(rt: HostRuntime) {
 
 #[test]
 fn a_writer_with_no_room_sleeps(rt: HostRuntime) {
-    let (_reader, mut writer) = owned_pipe(rt.alloc(), 1).expect(&rt, "memory");
+    let (_reader, mut writer) = pipe(rt.alloc(), 1).expect(&rt, "memory");
     writer.try_fill(b".");
     let source: &[u8] = b"more";
     sleeps(&rt, "write_all", (&mut writer).write_all(b"more"));

@@ -5,7 +5,7 @@ ghost use Rattle.std.specs.Prelude.{◌<◌, ◌*◌, ◌^◌};
 use crate::compare::same_bytes;
 use crate::futures_and_streams::running::{ends, kept};
 use piper::io::Copied;
-use piper::{OwnedReader, OwnedWriter, owned_pipe};
+use piper::{Reader, Writer, pipe};
 use piper_futures::{
     AsyncReadExt, close, copy, drain_into, fill_from, read_exact, read_until, write_all,
 };
@@ -52,11 +52,10 @@ fn bytes_to_cross() -> [u8; TOTAL] {
 }
 
 /// Gives all of this, one after another, and lets the writer go.
-fn gives<H>(rt: &H, owned: OwnedWriter, given: &[Give<'_>])
+fn gives<H>(rt: &H, mut writer: Writer, given: &[Give<'_>])
 where
     H: Abort + Wait + RandomSource + AllocGlobal,
 {
-    let mut writer = owned;
     for give in given {
         writer = match *give {
             Give::Fill(bytes) => ends(rt, fill_from(writer, bytes)).0,
@@ -67,11 +66,10 @@ where
 }
 
 /// Takes what is wanted, one after another, and lets the reader go.
-fn takes<H>(rt: &H, owned: OwnedReader, wanted: &[Take<'_>])
+fn takes<H>(rt: &H, mut reader: Reader, wanted: &[Take<'_>])
 where
     H: Abort + Wait + RandomSource + AllocGlobal,
 {
-    let mut reader = owned;
     for take in wanted {
         let came = Vec::new(rt.alloc());
         let ((next, bytes), want) = match *take {
@@ -98,7 +96,7 @@ where
     H: Abort + Threads + Wait + RandomSource + AllocGlobal + Send + Sync,
     requires { (0 < capacity) × (2 * capacity < 2 ^ 64) }
 {
-    let (reader, writer) = owned_pipe(rt.alloc(), capacity).expect(rt, "a pipe");
+    let (reader, writer) = pipe(rt.alloc(), capacity).expect(rt, "a pipe");
     thread::join(
         rt,
         move || takes(rt, reader, wanted),
@@ -152,7 +150,7 @@ fn dropping_writer_does_not_lose_writes(rt: HostRuntime) {
 }
 
 /// Gives all bytes to the first pipe, on a thread beside the one that drains the second.
-fn gives_and_drains<H>(rt: &H, first: OwnedWriter, last: OwnedReader, bytes: &[u8])
+fn gives_and_drains<H>(rt: &H, first: Writer, last: Reader, bytes: &[u8])
 where
     H: Abort + Threads + Wait + RandomSource + AllocGlobal + Send + Sync,
 {
@@ -168,8 +166,8 @@ fn cross_two_pipes<H>(rt: &H, bytes: &[u8])
 where
     H: Abort + Threads + Wait + RandomSource + AllocGlobal + Send + Sync,
 {
-    let (from, first) = owned_pipe(rt.alloc(), 20).expect(rt, "a pipe");
-    let (last, to) = owned_pipe(rt.alloc(), 7).expect(rt, "a pipe");
+    let (from, first) = pipe(rt.alloc(), 20).expect(rt, "a pipe");
+    let (last, to) = pipe(rt.alloc(), 7).expect(rt, "a pipe");
     let (copied, _) = thread::join(
         rt,
         move || ends(rt, copy(from, to)).2,

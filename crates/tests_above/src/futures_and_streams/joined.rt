@@ -8,14 +8,14 @@ use futures::future::join;
 use futures::task::{Context, Poll};
 use futures::{StreamExt, TryStreamExt, stream};
 use piper::io::AsyncWrite;
-use piper::{OwnedReader, OwnedWriter, PipeError, owned_pipe};
+use piper::{PipeError, Reader, Writer, pipe};
 use piper_futures::{FrameSink, FrameStream, read_to_end, write_all_and_close};
 use std::alloc::AllocGlobal;
 use std::process::Abort;
 
 /// A pipe of 16 bytes.
-fn small<R: Abort + AllocGlobal>(rt: &R) -> (OwnedReader, OwnedWriter) {
-    owned_pipe(rt.alloc(), 16).expect(rt, "a pipe")
+fn small<R: Abort + AllocGlobal>(rt: &R) -> (Reader, Writer) {
+    pipe(rt.alloc(), 16).expect(rt, "a pipe")
 }
 
 #[test]
@@ -41,7 +41,7 @@ fn bytes_that_nobody_reads_are_not_counted(rt: HostRuntime) {
 /// A writer that always fails. Its pipe is closed where it is dropped.
 #[derive(Drop)]
 struct Failing {
-    _below: OwnedWriter,
+    _below: Writer,
 }
 
 impl AsyncWrite for Failing {

@@ -1,12 +1,12 @@
-//! The futures, as calls on owners.
+//! The futures, as calls on handles.
 use crate::compare::same_bytes;
 use crate::futures_and_streams::running::{ends, kept};
-use piper::owned_pipe;
+use piper::pipe;
 use piper_futures::{AsyncBufReadExt, AsyncReadExt, AsyncWriteExt};
 
 #[test]
-fn each_future_is_a_call_of_its_owner(rt: HostRuntime) {
-    let (mut reader, writer) = owned_pipe(rt.alloc(), 64).expect(&rt, "memory");
+fn each_future_is_a_call_of_its_handle(rt: HostRuntime) {
+    let (mut reader, writer) = pipe(rt.alloc(), 64).expect(&rt, "memory");
     let (writer, _count) = ends(&rt, writer.write_all(b"ab\ncdefgh"));
     let writer = ends(&rt, writer.flush());
     let source: &[u8] = b"ij";

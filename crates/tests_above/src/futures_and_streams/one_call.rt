@@ -5,7 +5,7 @@ use crate::futures_and_streams::running::ends;
 use futures::task::{Context, Poll};
 use futures::test::MockTask;
 use piper::io::{AsyncRead, AsyncWrite};
-use piper::{OwnedReader, OwnedWriter, owned_pipe};
+use piper::{Reader, Writer, pipe};
 use piper_futures::{drain_into, fill_from};
 use piper_lines::{Written, poll_write_all};
 use std::alloc::AllocGlobal;
@@ -13,8 +13,8 @@ use std::io;
 use std::process::Abort;
 
 /// A pipe with room for more than any of these tests sends.
-fn wide<R: Abort + AllocGlobal>(rt: &R) -> (OwnedReader, OwnedWriter) {
-    owned_pipe(rt.alloc(), 1_024).expect(rt, "a pipe")
+fn wide<R: Abort + AllocGlobal>(rt: &R) -> (Reader, Writer) {
+    pipe(rt.alloc(), 1_024).expect(rt, "a pipe")
 }
 
 /// A reader or a writer of std that moves all that it can, and counts its calls.

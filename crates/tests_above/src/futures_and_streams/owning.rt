@@ -8,7 +8,7 @@ use futures::StreamExt;
 use futures::executor::block_on;
 use futures::task::Poll;
 use futures::test::MockTask;
-use piper::{OwnedReader, OwnedWriter, PipeError, owned_pipe};
+use piper::{PipeError, Reader, Writer, pipe};
 use piper_futures::{
     FrameSink, FrameStream, LineSink, LineStream, WriteSink, close, drain_into, read_to_end,
     write_all,
@@ -21,13 +21,13 @@ use std::random::RandomSource;
 use std::sync::Wait;
 
 /// A new pipe of so many bytes, with these in it.
-fn holding<H>(rt: &H, capacity: usize, bytes: &[u8]) -> (OwnedReader, OwnedWriter)
+fn holding<H>(rt: &H, capacity: usize, bytes: &[u8]) -> (Reader, Writer)
 where
     H: Abort + Wait + AllocGlobal,
     requires { (0 < capacity) × (2 * capacity < 2 ^ 64) }
     ensures { ArePair result.0 result.1 }
 {
-    let (reader, mut writer) = owned_pipe(rt.alloc(), capacity).expect(rt, "a pipe");
+    let (reader, mut writer) = pipe(rt.alloc(), capacity).expect(rt, "a pipe");
     same(rt, writer.try_fill(bytes), bytes.len());
     (reader, writer)
 }
@@ -63,7 +63,7 @@ fn kind_of(item: Option<Result<Vec<u8>, PipeError>>) -> Option<ErrorKind> {
 }
 
 /// The frame that was too long is kept, and comes where its bytes are within the limit.
-fn takes_with_another_limit<H>(rt: &H, below: Frames<OwnedReader>, wanted: &[u8])
+fn takes_with_another_limit<H>(rt: &H, below: Frames<Reader>, wanted: &[u8])
 where
     H: Abort + RandomSource + AllocGlobal,
 {
@@ -151,10 +151,10 @@ fn what_is_printed_has_ends_and_counts_and_no_byte(rt: HostRuntime) {
     let alloc = rt.alloc();
     let (reader, writer) = holding(&rt, 8, b"ab");
     let printed = format!(in alloc; "{:?}", read_to_end(reader, kept(&rt, alloc, b"xyz")));
-    let wanted = b"ReadToEnd(OwnedReader(Reader { capacity: 8, known: 0, closed: false }), 3)";
+    let wanted = b"ReadToEnd(Reader { capacity: 8, known: 0, closed: false }, 3)";
     same_bytes(&rt, printed.expect(&rt, "memory").as_bytes(), wanted);
     let printed = format!(in alloc; "{:?}", WriteSink::new(alloc, writer));
     let wanted =
-        b"PieceSink { writer: OwnedWriter(Writer { capacity: 8, room: 6, closed: true }), framing: AsItIs, written: 0, of: 0 }";
+        b"PieceSink { writer: Writer { capacity: 8, room: 6, closed: true }, framing: AsItIs, written: 0, of: 0 }";
     same_bytes(&rt, printed.expect(&rt, "memory").as_bytes(), wanted);
 }

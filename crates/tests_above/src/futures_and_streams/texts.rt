@@ -1,6 +1,6 @@
 //! What errors say, and what streams and futures show of themselves.
 use crate::compare::same;
-use piper::{OutOfMemory, PipeError, owned_pipe};
+use piper::{OutOfMemory, PipeError, pipe};
 use piper_futures::{
     Failed, FrameStream, LineStream, copy, drain_into, fill_from, read, read_exact, read_until,
     write_all, write_all_and_close,
@@ -36,9 +36,9 @@ fn errors_say_what_went_wrong(rt: HostRuntime) {
     says(&rt, &BodyTooLong, wanted);
 }
 
-const READER: &str = "OwnedReader(Reader { capacity: 8, known: 0, closed: false })";
+const READER: &str = "Reader { capacity: 8, known: 0, closed: false }";
 
-const WRITER: &str = "OwnedWriter(Writer { capacity: 8, room: 8, closed: false })";
+const WRITER: &str = "Writer { capacity: 8, room: 8, closed: false }";
 
 /// Compares what `{:?}` prints with these pieces, one after another.
 fn shows<H, T>(rt: &H, shown: T, wanted: &[&str])
@@ -57,7 +57,7 @@ where
 #[test]
 fn streams_and_futures_show_their_ends_and_counts(rt: HostRuntime) {
     let alloc = rt.alloc();
-    let (mut reader, mut writer) = owned_pipe(alloc, 8).expect(&rt, "a pipe");
+    let (mut reader, mut writer) = pipe(alloc, 8).expect(&rt, "a pipe");
     let (r, w) = (&mut reader, &mut writer);
     let lines = LineStream::new(alloc, &mut *r, 9);
     let wanted = [

@@ -1,7 +1,7 @@
 //! Threads that fill a pipe or drain one, and what comes with their join.
 use crate::compare::{confirm, same, same_bytes};
 use piper::io::Copied;
-use piper::{PipeError, owned_pipe};
+use piper::{PipeError, pipe};
 use piper_futures::{spawn_drain, spawn_fill};
 use std::io;
 use std::process::Abort;
@@ -10,7 +10,7 @@ use std::thread::Threads;
 #[test]
 fn all_that_a_thread_is_given_comes_out_by_another(rt: HostRuntime) {
     let bytes: &'static [u8] = b"more than fits at once";
-    let (reader, writer) = owned_pipe(rt.alloc(), 4).expect(&rt, "memory");
+    let (reader, writer) = pipe(rt.alloc(), 4).expect(&rt, "memory");
     let filling = spawn_fill(&rt, writer, bytes).expect(&rt, "a thread");
     let draining = spawn_drain(&rt, reader, Vec::new(rt.alloc())).expect(&rt, "a thread");
     let Ok((filled, copied)) = filling.join(&rt) else {
@@ -27,7 +27,7 @@ fn all_that_a_thread_is_given_comes_out_by_another(rt: HostRuntime) {
 #[test]
 fn a_drop_of_the_reader_ends_the_thread_that_fills(rt: HostRuntime) {
     let bytes: &'static [u8] = b"abcdef";
-    let (reader, writer) = owned_pipe(rt.alloc(), 4).expect(&rt, "memory");
+    let (reader, writer) = pipe(rt.alloc(), 4).expect(&rt, "memory");
     drop(reader);
     let filling = spawn_fill(&rt, writer, bytes).expect(&rt, "a thread");
     let Ok((filled, copied)) = filling.join(&rt) else {
@@ -64,7 +64,7 @@ fn is_broken(error: &PipeError) -> bool {
 
 #[test]
 fn a_failure_in_a_thread_comes_with_its_join_and_closes_the_pipe(rt: HostRuntime) {
-    let (reader, writer) = owned_pipe(rt.alloc(), 4).expect(&rt, "memory");
+    let (reader, writer) = pipe(rt.alloc(), 4).expect(&rt, "memory");
     let filling = spawn_fill(&rt, writer, Broken).expect(&rt, "a thread");
     let Err(failed) = filling.join(&rt) else {
         rt.panic("the source fails")
@@ -72,7 +72,7 @@ fn a_failure_in_a_thread_comes_with_its_join_and_closes_the_pipe(rt: HostRuntime
     confirm(&rt, is_broken(&failed.error) && failed.left.is_some());
     confirm(&rt, reader.is_closed());
 
-    let (reader, mut writer) = owned_pipe(rt.alloc(), 4).expect(&rt, "memory");
+    let (reader, mut writer) = pipe(rt.alloc(), 4).expect(&rt, "memory");
     same(&rt, writer.try_fill(b"abc"), 3);
     let draining = spawn_drain(&rt, reader, Broken).expect(&rt, "a thread");
     let Err(failed) = draining.join(&rt) else {

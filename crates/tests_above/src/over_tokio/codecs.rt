@@ -34,7 +34,7 @@ where
 
 #[test]
 fn lines_pass_between_two_tasks(rt: HostRuntime) {
-    let (reader, writer) = pipe(rt.alloc(), 5, 1).expect(&rt, "memory");
+    let (reader, writer) = pipe(rt.alloc(), 5).expect(&rt, "memory");
     let (input, output) = (CompatReader::new(reader), CompatWriter::new(writer));
     pass_line(&rt, input, output, "a line of more than five bytes");
 }
@@ -66,7 +66,7 @@ where
 
 #[test]
 fn frames_pass_both_ways_between_two_threads(rt: HostRuntime) {
-    let (near, far) = duplex(rt.alloc(), 5, 3, 1).expect(&rt, "memory");
+    let (near, far) = duplex(rt.alloc(), 5, 3).expect(&rt, "memory");
     let theirs = rt.clone().expect(&rt, "memory");
     let (near, far) = (CompatEnd::new(near), CompatEnd::new(far));
     let child = thread::spawn(&rt, move || echo(&theirs, far));

@@ -23,7 +23,7 @@ where
     I: AsyncRead + Send + 'static,
     requires { (0 < capacity) × (2 * capacity < 2 ^ 64) }
 {
-    let (reader, writer) = pipe(rt.alloc(), capacity, 1).expect(rt, "memory");
+    let (reader, writer) = pipe(rt.alloc(), capacity).expect(rt, "memory");
     let theirs = rt.clone().expect(rt, "memory");
     let copying = copy(rt.alloc(), input, CompatWriter::new(writer)).expect(rt, "memory");
     let child = thread::spawn(rt, move || {
@@ -101,7 +101,7 @@ where
 
 #[test]
 fn a_copy_into_a_closed_pipe_fails(rt: HostRuntime) {
-    let (reader, writer) = pipe(rt.alloc(), 7, 1).expect(&rt, "memory");
-    reader.drop();
+    let (reader, writer) = pipe(rt.alloc(), 7).expect(&rt, "memory");
+    drop(reader);
     confirm(&rt, finds_full(&rt, CompatWriter::new(writer)));
 }

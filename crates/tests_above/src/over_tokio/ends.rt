@@ -42,7 +42,7 @@ where
 
 #[test]
 fn a_dropped_end_closes_first_what_it_writes_into(rt: HostRuntime) {
-    let (near, far) = duplex(rt.alloc(), 4, 4, 1).expect(&rt, "memory");
+    let (near, far) = duplex(rt.alloc(), 4, 4).expect(&rt, "memory");
     let near = CompatEnd::new(near);
     let mut far = CompatEnd::new(far);
     let queue = two_waiting(&rt, &mut far);

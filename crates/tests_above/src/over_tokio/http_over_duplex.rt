@@ -80,7 +80,7 @@ where
     R: Abort + Wait + Threads + RandomSource + AllocGlobal + Clone + Drop + Send + Sync + 'static,
 {
     // Each request has a stream of its own, as it would have a connection of its own to a server.
-    let (near, far) = duplex(rt.alloc(), 64, 64, 1).expect(rt, "memory");
+    let (near, far) = duplex(rt.alloc(), 64, 64).expect(rt, "memory");
     let (near, far) = (CompatEnd::new(near), CompatEnd::new(far));
     let theirs = rt.clone().expect(rt, "memory");
     // The service owns its end: where it returns, the end is dropped, which closes both pipes and

@@ -2,8 +2,8 @@
 use crate::compare::{confirm, ready, same, same_bytes};
 use futures::test::MockTask;
 use piper::io::AsyncRead;
-use piper::{OwnedReader, OwnedWriter, owned_pipe};
-use piper_duplex::{Echoed, Ended, LineEcho, OwnedEnd, duplex, echo, owned_duplex};
+use piper::{Reader, Writer, pipe};
+use piper_duplex::{Echoed, End, Ended, LineEcho, duplex, duplex_with_seed, echo};
 use piper_lines::Lines;
 use std::alloc::AllocGlobal;
 use std::process::Abort;
@@ -11,7 +11,7 @@ use std::random::RandomSource;
 use std::test::Fail;
 
 /// What the one end writes the other reads.
-fn halves(rt: &impl Abort, mut reader: OwnedReader, mut writer: OwnedWriter) {
+fn halves(rt: &impl Abort, mut reader: Reader, mut writer: Writer) {
     let mut place = [0; 4];
     writer.try_fill(b"ab");
     same(rt, reader.try_drain(&mut place), 2);
@@ -21,30 +21,28 @@ fn halves(rt: &impl Abort, mut reader: OwnedReader, mut writer: OwnedWriter) {
 #[test]
 fn bytes_go_both_ways(rt: HostRuntime) -> Result<(), Fail> {
     let alloc = rt.alloc();
-    let (mut near, mut far) = duplex(alloc, 8, 8, 1)?;
+    let (mut near, mut far) = duplex_with_seed(alloc, 8, 8, 1)?;
     same(&rt, near.reader().len(), 0);
     same(&rt, near.writer().capacity(), 8);
     near.meet(&mut far);
     let (reader, back) = far.into_halves();
     let (answers, writer) = near.into_halves();
-    halves(&rt, OwnedReader::new(reader), OwnedWriter::new(writer));
-    back.drop();
-    answers.drop();
-    let (near, far) = duplex(alloc, 8, 8, 1)?;
-    near.drop();
-    far.drop();
+    halves(&rt, reader, writer);
+    let (near, mut far) = duplex(alloc, 8, 8)?;
+    near.finish();
+    same(&rt, far.writer().is_closed(), true);
     Ok(())
 }
 
 /// An end that was dropped closes both ways.
-fn closes_both_ways(rt: &impl Abort, near: OwnedEnd, far: OwnedEnd) {
+fn closes_both_ways(rt: &impl Abort, near: End, far: End) {
     drop(near);
     confirm(rt, far.reader().is_closed());
     confirm(rt, far.writer().is_closed());
 }
 
-/// An owner goes into a closure, and what it wrote can be read after it was dropped.
-fn sends_and_goes(rt: &impl Abort, task: &MockTask, near: OwnedEnd, mut far: OwnedEnd) {
+/// An end goes into a closure, and what it wrote can be read after it was dropped.
+fn sends_and_goes(rt: &impl Abort, task: &MockTask, near: End, mut far: End) {
     let send = move || {
         let (_, mut writer) = near.into_halves();
         writer.try_fill(b"ab")
@@ -57,17 +55,17 @@ fn sends_and_goes(rt: &impl Abort, task: &MockTask, near: OwnedEnd, mut far: Own
 }
 
 #[test]
-fn an_owned_end_moves_and_closes_where_it_is_dropped(rt: HostRuntime) -> Result<(), Fail> {
-    let (near, far) = owned_duplex(rt.alloc(), 8, 8)?;
+fn an_end_moves_and_closes_where_it_is_dropped(rt: HostRuntime) -> Result<(), Fail> {
+    let (near, far) = duplex(rt.alloc(), 8, 8)?;
     closes_both_ways(&rt, near, far);
     let task = MockTask::new(&rt)?;
-    let (near, far) = owned_duplex(rt.alloc(), 8, 8)?;
+    let (near, far) = duplex(rt.alloc(), 8, 8)?;
     sends_and_goes(&rt, &task, near, far);
     Ok(())
 }
 
 /// Each line of the reader goes to the writer as it came.
-fn echo_lines<H>(rt: &H, reader: OwnedReader, mut writer: OwnedWriter) -> Result<(), Fail>
+fn echo_lines<H>(rt: &H, reader: Reader, mut writer: Writer) -> Result<(), Fail>
 where
     H: Abort + RandomSource + AllocGlobal,
 {
@@ -81,8 +79,8 @@ where
 
 #[test]
 fn lines_go_back_as_they_came(rt: HostRuntime) -> Result<(), Fail> {
-    let (reader, mut writer) = owned_pipe(rt.alloc(), 8)?;
-    let (mut last, second) = owned_pipe(rt.alloc(), 8)?;
+    let (reader, mut writer) = pipe(rt.alloc(), 8)?;
+    let (mut last, second) = pipe(rt.alloc(), 8)?;
     writer.try_fill(b"a\nb");
     drop(writer);
     echo_lines(&rt, reader, second)?;

@@ -4,7 +4,7 @@ ghost use Rattle.piper.specs.Handles.{ArePair};
 use crate::compare::{confirm, same};
 use futures::task::Context;
 use futures::test::MockTask;
-use piper::{OwnedReader, OwnedWriter, Reader, Writer, pipe};
+use piper::{Reader, Writer, pipe, pipe_with_seed};
 use std::process::Abort;
 use std::test::Fail;
 
@@ -28,35 +28,20 @@ fn mark_and_meet(rt: &impl Abort, mut reader: Reader, mut writer: Writer)
     reader.observe(&published);
     same(rt, reader.end().known_len(), 2);
     same(rt, writer.end().capacity(), 4);
-    let last = reader.drop();
+    let last = reader.finish();
     writer.observe_last(&last.mark);
     confirm(rt, writer.is_closed());
-    writer.drop();
-}
-
-/// An owner lets its handle go by itself.
-fn owners(rt: &impl Abort, reader: Reader, writer: Writer) {
-    let (mut reader, mut writer) = (OwnedReader::new(reader), OwnedWriter::new(writer));
-    writer.get_mut().try_fill(b"ab");
-    reader.get_mut().try_drain(&mut [0; 1]);
-    same(rt, reader.get_ref().len(), 1);
-    same(rt, writer.get_ref().len(), 1);
-    reader.into_inner().drop();
-    confirm(rt, writer.is_closed());
-    writer.into_inner().drop();
 }
 
 #[test]
 fn how_pipes_begin_and_end(rt: HostRuntime) -> Result<(), Fail> {
     let alloc = rt.alloc();
     let task = MockTask::new(&rt)?;
-    let (mut reader, mut writer) = pipe(alloc, 4, 1)?;
+    let (mut reader, mut writer) = pipe(alloc, 4)?;
     task.enter(|cx| poll_close(&rt, cx, &mut reader, &mut writer));
-    reader.drop();
-    writer.drop();
-    let (reader, writer) = pipe(alloc, 4, 1)?;
+    drop(reader);
+    confirm(&rt, writer.is_closed());
+    let (reader, writer) = pipe_with_seed(alloc, 4, 1)?;
     mark_and_meet(&rt, reader, writer);
-    let (reader, writer) = pipe(alloc, 4, 1)?;
-    owners(&rt, reader, writer);
     Ok(())
 }

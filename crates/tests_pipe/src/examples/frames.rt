@@ -3,7 +3,7 @@ use crate::compare::{confirm, ready, same, same_bytes};
 use futures::task::{Context, Poll};
 use futures::test::MockTask;
 use piper::io::{AsyncBufRead, AsyncWrite};
-use piper::owned_pipe;
+use piper::pipe;
 use piper_lines::{
     BodyTooLong, ByteOrder, Collected, FrameAnswer, FrameHeader, Frames, WriteFrame, Written,
     poll_frames,
@@ -63,7 +63,7 @@ fn poll_all<R: AsyncBufRead>(
 fn frames_are_written_and_read(rt: HostRuntime) -> Result<(), Fail> {
     let alloc = rt.alloc();
     let task = MockTask::new(&rt)?;
-    let (reader, mut writer) = owned_pipe(rt.alloc(), 32)?;
+    let (reader, mut writer) = pipe(rt.alloc(), 32)?;
     encode(&rt);
     task.enter(|cx| write_frame(&rt, cx, &mut writer));
     let mut frames = Frames::new(alloc, reader);

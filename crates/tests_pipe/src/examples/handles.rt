@@ -1,10 +1,10 @@
-//! What both handles of a pipe do. An owner, as `owned_pipe` gives it, has the same calls. Each
+//! What both handles of a pipe do. Each
 //! example leaves the pipe empty.
 use crate::compare::{confirm, ready, same, same_bytes};
 use futures::task::Context;
 use futures::test::MockTask;
 use piper::like::{ReadBytes, ReadLike, WriteBytes, WriteLike};
-use piper::{Reader, Writer, owned_pipe};
+use piper::{Reader, Writer, pipe};
 use std::process::Abort;
 use std::test::Fail;
 
@@ -114,8 +114,8 @@ fn read_and_write(rt: &impl Abort) {
 
 #[test]
 fn what_both_handles_do(rt: HostRuntime) -> Result<(), Fail> {
-    let (mut reader, mut writer) = owned_pipe(rt.alloc(), 4)?;
-    let (reader, writer) = (reader.get_mut(), writer.get_mut());
+    let (mut reader, mut writer) = pipe(rt.alloc(), 4)?;
+    let (reader, writer) = (&mut reader, &mut writer);
     let task = MockTask::new(&rt)?;
     task.enter(|cx| poll(&rt, cx, reader, writer));
     try_fill_and_try_drain(&rt, reader, writer);

@@ -3,7 +3,7 @@ use crate::compare::{confirm, ready, same, same_bytes};
 use futures::task::{Context, Poll};
 use futures::test::MockTask;
 use piper::io::{AsyncBufRead, AsyncWrite};
-use piper::owned_pipe;
+use piper::pipe;
 use piper_lines::{
     LineAnswer, Lines, WriteLine, Written, fill_up, into_line_text, is_one_line, lacks, line_text,
     poll_lines, poll_write_all,
@@ -62,7 +62,7 @@ where
 fn lines_are_written_and_read(rt: HostRuntime) -> Result<(), Fail> {
     let alloc = rt.alloc();
     let task = MockTask::new(&rt)?;
-    let (reader, mut writer) = owned_pipe(rt.alloc(), 32)?;
+    let (reader, mut writer) = pipe(rt.alloc(), 32)?;
     let mut line = Vec::new(alloc);
     task.enter(|cx| write_line(&rt, cx, &mut writer));
     let mut lines = Lines::new(alloc, reader);

@@ -4,7 +4,7 @@ use futures::task::{Context, Poll};
 use futures::test::MockTask;
 use piper::io::{AsyncBufRead, AsyncRead, AsyncWrite, Copied, poll_copy};
 use piper::like::{ReadLike, StdRead, StdWrite, WriteLike};
-use piper::owned_pipe;
+use piper::pipe;
 use std::process::Abort;
 use std::test::Fail;
 
@@ -67,8 +67,8 @@ fn of_std(rt: &impl Abort) {
 
 #[test]
 fn what_readers_and_writers_do(rt: HostRuntime) -> Result<(), Fail> {
-    let (mut reader, mut writer) = owned_pipe(rt.alloc(), 128)?;
-    let (mut last, mut second) = owned_pipe(rt.alloc(), 128)?;
+    let (mut reader, mut writer) = pipe(rt.alloc(), 128)?;
+    let (mut last, mut second) = pipe(rt.alloc(), 128)?;
     let task = MockTask::new(&rt)?;
     task.enter(|cx| {
         poll_write_and_poll_read(&rt, cx, &mut reader, &mut writer);

@@ -1,23 +1,20 @@
-//! The calls of both handles, except copies (copies/) and those that their end of the ring answers
-//! (handles/ends.rt).
+//! The calls of both handles, except copies (copies/), those that their end of the ring answers
+//! (handles/ends.rt) and their end (handles.rt).
 /* ghost use Rattle.std.specs.Prelude.{◌≡◌, ◌-◌, ◌<◌, ◌≤◌, ◌++◌, length, take, drop, true}; */
-/* ghost use Rattle.piper.specs.Runs.{ReaderRan, ReaderRanLast, WriterRan, WriterRanLast, poll_answer, reader_looks, writer_looks}; */
+/* ghost use Rattle.piper.specs.Runs.{ReaderRan, WriterRan, poll_answer, reader_looks, writer_looks}; */
 
-use crate::proved::piper::handles::waiting::{call, let_left_go, take_own, wake_other, wake_own, wake_waiting};
+use crate::proved::piper::handles::waiting::{take_own, wake_other, wake_own, wake_waiting};
 use crate::proved::piper::handles::{Reader, Writer};
 use crate::shim::futures::task::{Context, Poll};
 use crate::proved::piper_protocol::answer::Answer;
 use crate::proved::piper_protocol::table::{AfterRead, AfterWrite, Point, Purpose, ReadPoint, WritePoint};
-use crate::proved::piper_ring::{
-    Finished, FinishedReader, FinishedWriter, LastReadMark, Look, OutOfMemory, ReadMark, WriteMark,
-};
+use crate::proved::piper_ring::{LastReadMark, Look, OutOfMemory, ReadMark, WriteMark};
 
 impl Reader {
     /* ghost use Rattle.piper.specs.Counts.{ReaderCompares}; */
     /* ghost use Rattle.piper.specs.OfReader.{ring, capacity, taken, known, end_of, front}; */
     /* ghost use Rattle.piper.specs.ReaderCalls.{ReaderFindsClosed, ReaderMayHave, ReaderPolled}; */
     /* ghost use Rattle.piper.specs.Traits.{Consumes}; */
-    /* ghost use Rattle.piper.specs.Waits.{ReaderWokeLast}; */
 
     /// How many bytes are unread now.
     ///
@@ -126,44 +123,12 @@ impl Reader {
     {
         self.end().mark()
     }
-
-    /// Closes the pipe, and frees its memory if the writer was dropped before (tested, not proved).
-    /// Unread bytes are lost.
-    ///
-    /// Returns: evidence for the writer's `meet_finished`: how many bytes were ever taken, and that
-    /// the writer's slot was checked after the close.
-    /// Wakes: the writer, if it waits. A task that is still registered at this reader may also be
-    /// woken: later by the writer, or by this call if the writer was dropped before.
-    #[inline] pub fn drop(self) -> FinishedReader
-        /* ensures ran { ReaderRanLast self result }
-        ensures mark { (result.mark.consumed.names ≡ (ring self).names)
-            × (result.mark.consumed.count ≡ length (taken self)) }
-        ensures woken { ReaderWokeLast self result } */
-    {
-        let Reader {
-            mut side,
-            source: _,
-            rng: _,
-        } = self;
-        side.begin_drop();
-        // Closed is stored and the slot emptied in one, since between these two steps there is no
-        // handle. When the waker is called the memory may be freed.
-        let Finished { side, taken, left } = side.finish();
-        let_left_go(left);
-        let mut side = side;
-        if let Some(waker) = taken {
-            call(waker);
-            side.log.woke();
-        }
-        side
-    }
 }
 
 impl Writer {
     /* ghost use Rattle.piper.specs.Counts.{WriterCompares}; */
     /* ghost use Rattle.piper.specs.OfWriter.{ring, capacity, end_of, sent, room, lent, shut}; */
     /* ghost use Rattle.piper.specs.Traits.{Closes}; */
-    /* ghost use Rattle.piper.specs.Waits.{WriterWokeLast}; */
     /* ghost use Rattle.piper.specs.WriterCalls.{Produces, WriterFindsClosed, WriterMayHave, WriterPolled}; */
 
     /// How many bytes are unread now.
@@ -289,35 +254,5 @@ impl Writer {
             × (result.shut ≡ shut self.now) } */
     {
         self.end().mark()
-    }
-
-    /// Closes the pipe, and frees its memory if the reader was dropped before (tested, not proved).
-    /// Unread bytes can still be read; what is lent is not published.
-    ///
-    /// Returns: evidence for the reader's `meet_finished`: which bytes were ever published, and
-    /// that the reader's slot was checked after the close.
-    /// Wakes: the reader, if it waits. A task that is still registered at this writer may also be
-    /// woken: later by the reader, or by this call if the reader was dropped before.
-    #[inline] pub fn drop(self) -> FinishedWriter
-        /* ensures ran { WriterRanLast self result }
-        ensures mark { (result.mark.names ≡ (ring self).names)
-            × (result.mark.bytes ≡ sent self) × (result.mark.shut ≡ true) }
-        ensures woken { WriterWokeLast self result } */
-    {
-        let Writer {
-            mut side,
-            source: _,
-            rng: _,
-        } = self;
-        side.begin_close(AfterWrite::Drop);
-        // As the reader's.
-        let Finished { side, taken, left } = side.finish();
-        let_left_go(left);
-        let mut side = side;
-        if let Some(waker) = taken {
-            call(waker);
-            side.log.woke();
-        }
-        side
     }
 }

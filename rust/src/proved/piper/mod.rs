@@ -9,11 +9,9 @@ mod handles;
 /* pub mod io; */
 pub mod like;
 mod looks;
-/* mod owned; */
 
 pub use error::{CopyError, PipeError, PipeResult};
-pub use handles::{Reader, Writer, pipe};
-/* pub use owned::{DEFAULT_SEED, OwnedReader, OwnedWriter, owned_pipe}; */
+pub use handles::{DEFAULT_SEED, Reader, Writer, pipe, pipe_with_seed};
 pub use crate::proved::piper_ring::{
     FinishedReader, FinishedWriter, LastReadMark, Logged, OutOfMemory, ReadEnd, ReadMark, WriteEnd,
     WriteMark, open_ring,

@@ -24,15 +24,15 @@ returns g c =
     elim c.match-next.branch [
       | in-None w ↦ record {
         ring = search rules;
-        front = (was.front.0, c.drop.ensures.mark.1 ∙ ap (λ writer. writer.side.end.sent) w.writer-is ∙ was.front.1);
-        closed = c.drop.ensures.mark.2;
+        front = (was.front.0, c.finish.ensures.mark.1 ∙ ap (λ writer. writer.side.end.sent) w.writer-is ∙ was.front.1);
+        closed = c.finish.ensures.mark.2;
       }
       | in-Some+then-given-bytes w ↦
           let fill = w.try_fill-given.ensures.tried in
           let front = front_grows c.args.bytes.now c.loop.writer.side.end.sent w.try_fill-given.new.self.side.end.sent c.loop.given w.try_fill-given.result c.loop.writer.side.end.saw was.within was.front was.all fill.over fill.filled.front in
           record {
             ring = search rules;
-            front = (front.0, c.drop.ensures.mark.1 ∙ ap (λ writer. writer.side.end.sent) w.writer-is ∙ front.1);
-            closed = c.drop.ensures.mark.2;
+            front = (front.0, c.finish.ensures.mark.1 ∙ ap (λ writer. writer.side.end.sent) w.writer-is ∙ front.1);
+            closed = c.finish.ensures.mark.2;
           }
     ]

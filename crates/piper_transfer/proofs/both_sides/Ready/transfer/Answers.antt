@@ -1,63 +1,45 @@
-use Rattle.std.proofs.Common.{rules, ◌≡◌, [], OnOk, IfErr, ap, ◌∙◌}
-use Rattle.std.specs.Result.{result_and}
+use Rattle.std.proofs.Common.{rules, ◌≡◌, Err, OnOk, ap, ◌∙◌}
 use Rattle.std.specs.Io.KnownBytes.{IsAtEnd}
 use Rattle.piper.specs.WriteView.{WriteView}
-use Rattle.piper_transfer.specs.Transfer.{IsDrained, IsOfDestination, IsOfSource, PouredAll, WritesAll}
 use Rattle.piper_transfer.proofs.Sides.{met_same, poured_kept, poured_same}
-use Rattle.piper_transfer.proofs.Told.{flushed_first, flush_is_told, ends_with_both, failed_writes_not, failure_is_told}
+use Rattle.piper_transfer.proofs.Told.{ends_with_both, failed_writes_not}
 use Rattle.piper_transfer.proofs.Whole.{none_known, whole}
-use Rattle.piper_transfer.proofs.both_sides.Ready.transfer.Goals.{in-Ok, in-Err}
 use Rattle.piper_transfer.proofs.both_sides.Ready.transfer.Goals as goal
 
-pub returns : goal.returns
-returns g c =
-    let remaining = g.S.Source.remaining in
+pub returns-in_err-filled-clause-moved : goal.returns-in_err-filled-clause-moved
+returns-in_err-filled-clause-moved g c =
     let contents = g.D.Destination.contents in
+    let took = g.D.Destination.took in
     let both = c.run_sides-both in
-    let w0 = c.args.self.input.writer.side.end in
-    let w1 = both.new.input.writer.side.end in
-    let r0 = c.args.self.output.reader.side.end in
+    let told = c.in_err-filled.ensures in
+    let met = c.meet.ensures.met in
     let r1 = both.new.output.reader.side.end in
     let r2 = c.meet.new.self.side.end in
-    let i = remaining c.args.source.now in
-    let j = remaining both.new.source in
-    let took = g.D.Destination.took in
-    let o = c.args.dest.now in
     let p = both.new.dest in
-    let s = g.S.Source.fails both.new.source in
-    let new_writer = c.requires.ready.input.sent in
-    let new_reader = c.requires.ready.output.taken in
-    let met : r2 ≡ record r1 { known = r2.known; all = r2.all } = c.meet.ensures.met.reader in
-    let sent : c.meet.new.other.side.end.sent ≡ w1.sent = ap (λ (v : WriteView). v.sent) c.meet.ensures.met.writer in
-    let fifo = c.meet.ensures.met.fifo ∙ sent in
-    let poured : PouredAll contents took o p r0 r2 = poured_same contents took o p r0 r1 r2 both.ensures.poured (met_same r1 r2 met) in
-    elim c.match-both.branch [
-      | in-Ok w ↦
-          let q = w.flush.new.dest in
-          let flushed : PouredAll contents took o q r0 r2 = poured_kept contents took o p q r0 r2 poured w.flush.ensures.kept w.flush.ensures.taken in
-          let filled = w.in-Ok.filled in
-          let drained : IsDrained r1 w1 = rw w.in-Ok.is at both.ensures.drained in
-          let input_ended : OnOk filled (IsAtEnd j) = rw w.in-Ok.is at both.ensures.input_ended in
-          let input_told : IfErr filled (IsOfSource s) = rw w.in-Ok.is at both.ensures.input_told in
-          let none : r2.known ≡ [] = none_known r1 r2 w1 c.meet.new.other.side.end drained met c.meet.ensures.met.fifo sent c.meet.ensures.met.all c.meet.ensures.met.kept in
-          let same : c.match-both.ended ≡ result_and w.flush.result filled = search rules in
-          let ended = ends_with_both w.flush.result filled c.match-both.ended (IsAtEnd j) same input_ended in
-          let d = g.D.Destination.fails w.flush.new.dest in
-          let full = g.D.Destination.full w.flush.new.dest in
-          rw w.dest-is (record {
-            moved = whole contents took o q c.match-both.ended i j w0 w1 r0 r2 new_writer new_reader both.ensures.fed flushed fifo (λ _. none) ended;
-            flushed = flushed_first w.flush.result filled c.match-both.ended d full _ same w.flush.ensures.flushed w.flush.ensures.reported;
-            reported = flush_is_told w.flush.result filled c.match-both.ended s d full same w.flush.ensures.reported input_told;
-          })
-      | in-Err w ↦
-          let d = g.D.Destination.fails both.new.dest in
-          let full = g.D.Destination.full both.new.dest in
-          let reported : IsOfDestination d full w.in-Err.error = search rules in
-          let failed : ¬ WritesAll c.match-both.ended = failed_writes_not c.match-both.ended w.in-Err.error d full w.ended-is reported in
-          let ended : OnOk c.match-both.ended (IsAtEnd j) = rw w.ended-is tt in
-          rw w.dest-is (record {
-            moved = whole contents took o p c.match-both.ended i j w0 w1 r0 r2 new_writer new_reader both.ensures.fed poured fifo (λ writes. absurd (failed writes)) ended;
-            flushed = λ writes. absurd (failed writes);
-            reported = failure_is_told c.match-both.ended w.in-Err.error s d full w.ended-is reported;
-          })
-    ]
+    let e = c.in_err-filled.field-0.0 in
+    let is : c.from_residual.result ≡ Err e = search rules in
+    let failed = failed_writes_not c.from_residual.result e (g.D.Destination.fails p) (g.D.Destination.full p) is told.reported in
+    let ended : OnOk c.from_residual.result (IsAtEnd (g.S.Source.remaining both.new.source)) = rw is tt in
+    let poured = poured_same contents took _ p _ r1 r2 told.poured (met_same r1 r2 met.reader) in
+    let fifo = met.fifo ∙ ap (λ (v : WriteView). v.sent) met.writer in
+    whole contents took _ p _ _ _ _ _ _ _ c.requires.ready.input.sent c.requires.ready.output.taken told.fed poured fifo (λ writes. absurd (failed writes)) ended
+
+pub returns-clause-moved : goal.returns-clause-moved
+returns-clause-moved g c =
+    let contents = g.D.Destination.contents in
+    let took = g.D.Destination.took in
+    let both = c.run_sides-both in
+    let told = c.in_ok-filled.ensures in
+    let met = c.meet.ensures.met in
+    let w1 = both.new.input.writer.side.end in
+    let w2 = c.meet.new.other.side.end in
+    let r1 = both.new.output.reader.side.end in
+    let r2 = c.meet.new.self.side.end in
+    let p = both.new.dest in
+    let q = c.flush.new.dest in
+    let sent : w2.sent ≡ w1.sent = ap (λ (v : WriteView). v.sent) met.writer in
+    let poured = poured_same contents took _ p _ r1 r2 told.poured (met_same r1 r2 met.reader) in
+    let flushed = poured_kept contents took _ p q _ r2 poured c.flush.ensures.kept c.flush.ensures.taken in
+    let none = none_known r1 r2 w1 w2 told.drained met.reader met.fifo sent met.all met.kept in
+    let ended = ends_with_both c.flush.result c.in_ok-filled.filled c.and.result (IsAtEnd (g.S.Source.remaining both.new.source)) (search rules) told.input_ended in
+    whole contents took _ q _ _ _ _ _ _ _ c.requires.ready.input.sent c.requires.ready.output.taken told.fed flushed (met.fifo ∙ sent) (λ _. none) ended

@@ -1,10 +1,10 @@
 -- Whoever came out of a place was called, or dropped.
 use Rattle.std.proofs.Common.{rules, ◌≡◌, ap, IfSome}
 use Rattle.piper.specs.Called.{WasCalled}
-use Rattle.piper.specs.Waits.{ReaderHasDropped}
+use Rattle.piper.specs.Waits.{WriterHasDropped}
 use Rattle.piper.proofs.Calling.{calls_one}
-use Rattle.piper.proofs.handles.Reader.drop.Goals as goal
-use Rattle.piper.proofs.handles.Reader.drop.Goals.{in-Some, in_default}
+use Rattle.piper.proofs.handles.Writer.finish.Goals as goal
+use Rattle.piper.proofs.handles.Writer.finish.Goals.{in-Some, in_default}
 
 is_called : (c : goal.After-result-1) → IfSome c.finish-side.result.taken WasCalled
 is_called c =
@@ -20,24 +20,25 @@ same_slots c =
       | in_default w ↦ ap (λ side. side.1.0) w.side-is
     ]
 
-dropped : (c : goal.After-result-1) → ReaderHasDropped c.args.self
+dropped : (c : goal.After-result-1) → WriterHasDropped c.args.self
+unfolding WriterHasDropped
 dropped c = record {
   taken = c.finish-side.result.taken;
   after = c.finish-side.result.side.log;
-  leaves = rw c.begin_drop.ensures.log at c.finish-side.ensures.leaves;
+  leaves = rw c.begin_close.ensures.log at c.finish-side.ensures.leaves;
   called = is_called c;
   left = c.finish-side.result.left;
-  gets = rw c.begin_drop.ensures.end at c.finish-side.ensures.left;
+  gets = rw c.begin_close.ensures.end at c.finish-side.ensures.left;
   reader = c.let_left_go.ensures.reader;
   writer = c.let_left_go.ensures.writer;
 }
 
 pub returns-clause-woken : goal.returns-clause-woken
 returns-clause-woken c =
-    let took = rw c.begin_drop.ensures.slots at c.finish-side.ensures.ticket.waker in
-    let none = rw c.begin_drop.ensures.slots at c.finish-side.ensures.ticket.none in record {
-      count = search rules;
-      over = search rules;
+    let took = rw c.begin_close.ensures.slots at c.finish-side.ensures.ticket.waker in
+    let none = rw c.begin_close.ensures.slots at c.finish-side.ensures.ticket.none in record {
+      bytes = search rules;
+      shut = search rules;
       called = rw (same_slots c) (calls_one _ _ _ _ took none (is_called c));
       dropped = dropped c;
     }
