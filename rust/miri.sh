@@ -12,7 +12,7 @@ cd "$here"
 cargo miri --version > /dev/null 2>&1 || { echo 'miri: not tried'; exit 2; }
 export PIPER_TEST_CALLS=3000 PIPER_TEST_SHARE=500
 for flags in '' -Zmiri-tree-borrows; do
-    for file in calls copies panics wakes unwinding threads; do
+    for file in calls copies panics unwinding threads; do
         # A test asks the environment how much it does, and the clock whether it hangs.
         MIRIFLAGS="-Zmiri-disable-isolation $flags" holds "$file $flags" cargo miri test --test "$file"
     done

@@ -57,30 +57,26 @@ fn a_claim_of_too_many_bytes_moves_none() {
     assert_eq!(reader.len(), 3);
 }
 
-#[test]
-fn a_copy_goes_on_as_long_as_something_is_known() {
-    let (mut reader, mut writer) = pipe(300_000);
-    let bytes = common::bytes_from(0, 300_000);
-    let wrote = block_on(poll_fn(|cx| writer.poll_fill(cx, &bytes[..]))).unwrap();
-    assert_eq!(wrote, 300_000);
-    let mut all = Vec::new();
-    let read = block_on(poll_fn(|cx| reader.poll_drain(cx, &mut all))).unwrap();
-    assert_eq!(read, 300_000);
-    assert!(all == bytes);
+/// Notes how many bytes it moves. Each call but the first finds that the other side's task was woken.
+fn moves_all<'a>(lengths: &'a mut Vec<usize>, other: &'a Counter) -> Says<impl FnMut(usize) -> io::Result<usize> + 'a> {
+    Says(move |length| {
+        assert_eq!(other.wakes(), lengths.len().min(1));
+        lengths.push(length);
+        Ok(length)
+    })
 }
 
 #[test]
 fn a_copy_wakes_the_other_side_after_131_072_bytes_at_most() {
     let (mut reader, mut writer) = pipe(1_000_000);
-    let longest = |of: &mut usize, length: usize| {
-        *of = length.max(*of);
-        Ok(length)
-    };
-    let (mut room, mut shown) = (0, 0);
-    let wrote = block_on(poll_fn(|cx| writer.poll_fill(cx, Says(|length| longest(&mut room, length))))).unwrap();
-    let read = block_on(poll_fn(|cx| reader.poll_drain(cx, Says(|length| longest(&mut shown, length))))).unwrap();
-    assert_eq!((wrote, room), (1_000_000, 131_072));
-    assert_eq!((read, shown), (1_000_000, 131_072));
+    let (of_reader, of_writer) = (Counter::new(), Counter::new());
+    let (mut rooms, mut shown) = (Vec::new(), Vec::new());
+    assert!(of_reader.with(|cx| reader.poll(cx)).is_pending());
+    let wrote = block_on(poll_fn(|cx| writer.poll_fill(cx, moves_all(&mut rooms, &of_reader)))).unwrap();
+    assert_eq!((wrote, rooms.into_iter().max()), (1_000_000, Some(131_072)));
+    assert!(of_writer.with(|cx| writer.poll(cx)).is_pending());
+    let read = block_on(poll_fn(|cx| reader.poll_drain(cx, moves_all(&mut shown, &of_writer)))).unwrap();
+    assert_eq!((read, shown.into_iter().max()), (1_000_000, Some(131_072)));
 }
 
 #[test]
