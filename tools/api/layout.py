@@ -61,6 +61,6 @@ WHOLE = {
     "CompatWriter": ("crates/tests_above/src/over_tokio/codecs.rt", "pass_line", "lines_pass_between_two_tasks"),
     "CompatEnd": ("crates/tests_above/src/over_tokio/codecs.rt", "echo", "ask", "frames_pass_both_ways_between_two_threads"),
     "ReadEnd": ("crates/tests_pipe/src/ring/acts.rt", "ring_of", "receive_due"),
-    "WriteEnd": ("crates/tests_pipe/src/ring/acts.rt", "ring_of", "send"),
+    "WriteEnd": ("crates/tests_pipe/src/ring/acts.rt", "ring_of", "send_due"),
     "Ready": ("crates/piper_transfer/src/both_sides.rt", "transfer"),
 }

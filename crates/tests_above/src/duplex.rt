@@ -2,4 +2,3 @@
 mod ends;
 mod failing;
 mod flushed;
-mod texts;

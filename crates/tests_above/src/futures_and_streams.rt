@@ -1,5 +1,4 @@
 //! The futures, streams and sinks over the pipe.
-mod asleep;
 mod crossing;
 mod joined;
 mod methods;

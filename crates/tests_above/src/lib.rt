@@ -14,9 +14,7 @@ mod flushed;
 #[cfg(test)]
 mod futures_and_streams;
 #[cfg(test)]
-mod going_on;
-#[cfg(test)]
-mod halting;
+mod lending;
 #[cfg(test)]
 mod over_tokio;
 #[cfg(test)]

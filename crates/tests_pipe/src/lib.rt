@@ -3,15 +3,7 @@
 #![tactic(auto)]
 
 #[cfg(test)]
-mod between;
-#[cfg(test)]
-mod carries;
-#[cfg(test)]
 mod compare;
-#[cfg(test)]
-mod copies;
-#[cfg(test)]
-mod ends;
 #[cfg(test)]
 mod examples;
 #[cfg(test)]

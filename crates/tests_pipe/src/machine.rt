@@ -1,23 +1,21 @@
-//! The machine, and its callers: what no contract says, that memory is granted, that want of memory
-//! changes nothing, and that a list of steps is accepted.
+//! The machine: what no contract says, that memory is granted, and that want of memory changes
+//! nothing.
 ghost use Rattle.std.specs.Prelude.{◌≡◌};
 ghost use Rattle.piper_protocol.specs.Index.{IsCapacity};
 ghost use Rattle.piper_machine.specs.Pipe.{fresh};
 
 use crate::compare::same;
+use piper_machine::Side;
 use piper_machine::bytes::Bytes;
-use piper_machine::calls::{Call, SideState, Step};
+use piper_machine::calls::{Call, Step};
 use piper_machine::events::{Event, Log};
-use piper_machine::examples::{len_alone, made_by_the_laws, through};
 use piper_machine::machine::{Machine, run};
 use piper_machine::polling::Luck;
 use piper_machine::refusals::{RunRefusal, StepRefusal};
 use piper_machine::scripted::{ActList, SourceAct};
-use piper_machine::{Query, Side};
 use piper_protocol::memory::OutOfMemory;
 use std::alloc::Global;
 use std::process::Abort;
-use std::test::Fail;
 
 /// Every clone is granted.
 const GRANTED: Luck = Luck {
@@ -172,44 +170,4 @@ fn a_step_refused_for_want_of_memory_can_be_made_again(rt: HostRuntime) {
         run.made_at_last(&rt, step);
     }
     run.has_consumed(&rt);
-}
-
-#[test]
-fn a_lent_place_is_written_and_published(rt: HostRuntime) {
-    let mut pipe = pipe_of(&rt, rt.alloc(), 4);
-    let lent = pipe.w_write_buf(1);
-    same(&rt, lent, 1);
-    if lent == 1 {
-        pipe.w_put(0, 7);
-        pipe.w_produced(1);
-    }
-    holds(&rt, &pipe, &[7]);
-}
-
-#[test]
-fn bytes_come_out_as_they_went_in(rt: HostRuntime) -> Result<(), Fail> {
-    let mut dest = [0; 3];
-    same(&rt, through(rt.alloc(), b"abc", &mut dest)?, 3);
-    same(&rt, dest.as_slice(), b"abc".as_slice());
-    Ok(())
-}
-
-#[test]
-fn steps_of_both_sides_are_made(rt: HostRuntime) -> Result<(), Fail> {
-    let steps = [
-        Step::Begin(Call::WriteBuf(2)),
-        Step::Begin(Call::Query(Side::Reader, Query::Len)),
-        Step::Begin(Call::Produced(2)),
-        Step::Go(Side::Reader),
-        Step::Go(Side::Writer),
-        Step::Go(Side::Reader),
-    ];
-    let Ok((mut machine, log)) = made_by_the_laws(rt.alloc(), 4, &steps) else {
-        assert!(rt; false, "the steps are refused");
-        return Ok(());
-    };
-    same(&rt, log.events().len(), 8);
-    assert!(rt; machine.r_state() == SideState::Idle);
-    same(&rt, len_alone(&mut machine), 2);
-    Ok(())
 }

@@ -1,5 +1,4 @@
 //! The ring's two ends over their public calls, and the places below it.
 mod acts;
 mod one_thread;
-mod place;
 mod two_threads;

@@ -63,18 +63,3 @@ fn a_failing_output_ends_the_echo(rt: HostRuntime) {
     // The other thread then waits for room, since neither pipe holds such a line.
     output_fails_at(&rt, &[b'x'; 1_000], 7);
 }
-
-/// A rest that goes through the stream in many pieces comes back whole, though some reads give less
-/// than they could.
-#[test]
-fn a_long_rest_comes_back_whole(rt: HostRuntime) {
-    for before in 1..8 {
-        let mut text = [b'x'; 60_000];
-        text[before] = b'\n';
-        let mut input = text.as_slice();
-        let mut output = Vec::new(rt.alloc());
-        let ended = echo(&rt, rt.alloc(), &[], &mut input, &mut output);
-        same(&rt, ended, Ended::DONE);
-        same(&rt, output.as_slice() == text.as_slice(), true);
-    }
-}

@@ -2,12 +2,13 @@
 //! writer is called, so that a body which moves a byte a call would be proved.
 use crate::compare::same;
 use crate::futures_and_streams::running::ends;
+use crate::lending::Lending;
 use futures::task::{Context, Poll};
 use futures::test::MockTask;
 use piper::io::{AsyncRead, AsyncWrite};
 use piper::{Reader, Writer, pipe};
 use piper_futures::{drain_into, fill_from};
-use piper_lines::{Written, poll_write_all};
+use piper_lines::{Frames, Lines, Written, poll_write_all};
 use std::alloc::AllocGlobal;
 use std::io;
 use std::process::Abort;
@@ -104,4 +105,18 @@ fn many_bytes_are_written_by_few_calls(rt: HostRuntime) {
     let text = [b'x'; 1_000];
     let is_written = task.enter(|cx| is_written_at_once(&mut writer, cx, &text));
     same(&rt, is_written, true);
+}
+
+#[test]
+fn a_line_is_taken_at_once_and_a_frame_after_its_header(rt: HostRuntime) {
+    let task = MockTask::new(&rt).expect(&rt, "memory");
+    let mut lines = Lines::new(rt.alloc(), Lending::new(b"a line\n"));
+    let mut line = Vec::new(rt.alloc());
+    let is_ready = task.enter(|cx| lines.poll_line(cx, &mut line, 9).is_ready());
+    same(&rt, (is_ready, lines.into_reader().takes()), (true, 1));
+    let bytes = [0, 0, 0, 3, 7, 8, 9];
+    let mut frames = Frames::new(rt.alloc(), Lending::new(&bytes));
+    let mut body = Vec::new(rt.alloc());
+    let is_ready = task.enter(|cx| frames.poll_frame(cx, &mut body, 9).is_ready());
+    same(&rt, (is_ready, frames.into_reader().takes()), (true, 2));
 }

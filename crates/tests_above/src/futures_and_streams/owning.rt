@@ -10,8 +10,8 @@ use futures::task::Poll;
 use futures::test::MockTask;
 use piper::{PipeError, Reader, Writer, pipe};
 use piper_futures::{
-    FrameSink, FrameStream, LineSink, LineStream, WriteSink, close, drain_into, read_to_end,
-    write_all,
+    AsyncBufReadExt, FrameSink, FrameStream, LineSink, LineStream, WriteSink, close, drain_into,
+    read_to_end, write_all,
 };
 use piper_lines::{ByteOrder, FrameAnswer, FrameHeader, Frames, into_line_text};
 use std::alloc::AllocGlobal;
@@ -114,7 +114,7 @@ fn texts_come_without_what_ends_their_lines(rt: HostRuntime) {
     let (reader, writer) = holding(&rt, 64, b"one\r\ntwo\n");
     let sink = LineSink::ended_by(rt.alloc(), writer, b';');
     drop(sends(&rt, sink, &[b"three"]));
-    let lines = LineStream::new(rt.alloc(), reader, 10);
+    let lines = reader.lines(rt.alloc(), 10);
     let mut texts = lines.map(|line| line.map(|line| into_line_text(line)));
     come(&rt, &mut texts, &[b"one", b"two", b"three;"]);
 }

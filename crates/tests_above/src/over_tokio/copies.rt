@@ -12,7 +12,7 @@ use std::random::RandomSource;
 use std::sync::Wait;
 use std::thread::{JoinHandle, Threads};
 use std::{io, thread};
-use tokio::io::{AsyncBufRead, AsyncRead, AsyncWrite, copy, read_until};
+use tokio::io::{AsyncRead, AsyncWrite, copy};
 
 const TEXT: &[u8] = b"one\ntwo and three\n\nfour, without an end of line";
 
@@ -57,51 +57,4 @@ fn copies_on_both_sides_move_all_bytes_in_order(rt: HostRuntime) {
     let (count, output) = copied(&rt, 7, TEXT, Vec::new(rt.alloc()));
     same_bytes(&rt, &output, TEXT);
     confirm(&rt, count == TEXT.len() as u64);
-}
-
-/// Reads a line, and gives the reader back.
-fn read_line<R, I>(rt: &R, reader: I, wanted: &[u8]) -> I
-where
-    R: Abort + Wait + RandomSource + AllocGlobal,
-    I: AsyncBufRead,
-{
-    let reading = read_until(reader, b'\n', Vec::new(rt.alloc()));
-    let (reader, line) = block_on(rt, reading).expect(rt, "runs").expect(rt, "reads");
-    same_bytes(rt, &line, wanted);
-    reader
-}
-
-#[test]
-fn lines_are_read_whole_though_they_go_round_the_ring(rt: HostRuntime) {
-    let (reader, child) = told(&rt, 7, TEXT);
-    let mut reader = CompatReader::new(reader);
-    let lines = [
-        b"one\n".as_slice(),
-        b"two and three\n",
-        b"\n",
-        b"four, without an end of line",
-        b"",
-    ];
-    for wanted in lines {
-        reader = read_line(&rt, reader, wanted);
-    }
-    child.join(&rt).expect(&rt, "copies");
-}
-
-/// Whether a copy of the text fails, since the output takes nothing.
-fn finds_full<R, O>(rt: &R, output: O) -> bool
-where
-    R: Abort + Wait + RandomSource + AllocGlobal,
-    O: AsyncWrite,
-{
-    let copying = copy(rt.alloc(), TEXT, output).expect(rt, "memory");
-    let copied = block_on(rt, copying).expect(rt, "runs");
-    matches!(copied, Err(error) if error.kind() == io::ErrorKind::WriteZero)
-}
-
-#[test]
-fn a_copy_into_a_closed_pipe_fails(rt: HostRuntime) {
-    let (reader, writer) = pipe(rt.alloc(), 7).expect(&rt, "memory");
-    drop(reader);
-    confirm(&rt, finds_full(&rt, CompatWriter::new(writer)));
 }

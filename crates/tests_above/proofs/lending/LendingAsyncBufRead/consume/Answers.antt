@@ -1,7 +1,7 @@
 use Rattle.std.proofs.Common.{◌≡◌, ◌+◌, ◌-◌, ℕ, List, ◌++◌, take, drop, ap, ◌∙◌, sym, take-take, arith}
 use Rattle.std.proofs.lemmas.List.{drop-take, drop-drop}
 use Rattle.std.proofs.Math.Seq.{take-add}
-use Rattle.tests_above.proofs.halting.HaltingAsyncBufRead.consume.Goals as goal
+use Rattle.tests_above.proofs.lending.LendingAsyncBufRead.consume.Goals as goal
 
 pub returns-clause-known : goal.returns-clause-known
 returns-clause-known c =
