@@ -11,7 +11,7 @@ here=$(cd "$(dirname "$0")" && pwd)
 . "$here/trying.bash"
 room=$(mktemp -d)
 trap 'rm -rf "$room"' EXIT
-programs='piper_pump piper_stress piper_compare duplex_echo example_order'
+programs='piper_pump piper_compare duplex_echo example_order'
 for program in $programs piper_replay; do
     cp "${1:-$here/../crates/$program/out}/$program" "$room/" || exit 2
     chmod 755 "$room/$program"
@@ -229,10 +229,6 @@ try 'an echo' 10 0 '' './duplex_echo < short | cmp - short'
 try_silent 'an echo of a word: as promised, nothing is told' 10 1 './duplex_echo x < short'
 try 'an echo without a thread' 10 2 'no thread is granted' '$alone prlimit --nproc=1 ./duplex_echo < short'
 try 'an echo to a full output' 10 2 'write failed' './duplex_echo < short > /dev/full'
-try 'a hunt' 20 0 'games' './piper_stress 1 1 100'
-try 'a hunt to a full output' 20 3 'standard output: No space left' './piper_stress 1 1 3 > /dev/full'
-try 'a hunt to a closed output' 20 3 'standard output: Bad file' './piper_stress 1 1 3 >&-'
-try 'a hunt without a thread' 20 4 'no thread is granted' '$alone prlimit --nproc=1 ./piper_stress 1 1 3'
 try 'a word that is no text, to a comparison' 10 2 '^usage' './piper_compare $'"'\\xff'"
 try 'a word that is no text, to a replay' 10 1 '^usage' './piper_replay $'"'\\xff'"
 export steps='pipe 2\nbegin lend 2\ngo w\n' both='pipe 4\nfill 1\nbegin len r\nbegin len w\n'
