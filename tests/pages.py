@@ -1,7 +1,6 @@
 #!/usr/bin/env python3
 """Tries what README.md, CONTRIBUTING.md, the pages of docs and the examples of docs/api have their readers
-type or read, and the links of every page; that the sources have each name which a page says; and that the
-lines of use in docs/api are of a tested crate, and use what they stand below.
+type or read, and the links of every page, and that the sources have each name which a page says.
 
     tests/pages.py [WORD]
 
@@ -16,7 +15,7 @@ Each block of code on these pages is fenced, and its first word says what become
 - `text`: not run, since it takes an hour, or root. `mermaid`: a picture.
 
 Of docs/api only the sections that begin with "Example" are tried: `tools/write_api.py --check` compares
-the rest with the sources.
+the rest with the sources, as it does the line of each clause that a page links.
 
 The gate's own proofs are not made again: of `rt run` the stored output of the crate is compared. A
 section that begins with "From" needs no `rt`, and finds one that fails. `~` is a new folder. The section SETUP of the guide
@@ -36,9 +35,6 @@ from functools import cache
 from pathlib import Path
 
 TOP = Path(__file__).resolve().parent.parent
-sys.dont_write_bytecode = True
-sys.path.insert(0, str(TOP / "tools"))
-from api import examples  # noqa: E402
 
 GUIDE = "docs/USING.md"
 EXAMPLES = [f"docs/api/piper_{name}.md" for name in ("futures", "duplex")]
@@ -270,25 +266,8 @@ def anchors(path):
     return found
 
 
-def wrong_clauses(page):
-    """The links to a clause, as [`fifo`](ends.rt#L58 "Reader::meet"), that lead to another line."""
-    for clause, name, line, call in re.findall(r'\[`(\w+)`\]\(([^)\s#]+)#L(\d+) "(\w+::\w+)"\)', page.read_text()):
-        lines = (page.parent / name).read_text().splitlines()[: int(line)]
-        owner, function = call.split("::")
-        above = [text for text in lines if re.match(r"impl\b|\s*(pub )?fn ", text)]
-        owners = [text for text in above if text.startswith("impl")]
-        is_there = (
-            f"ensures {clause} " in lines[-1]
-            and re.search(rf"\bfn {function}\b", above[-1])
-            and re.search(rf"\b{owner}\b", owners[-1])
-        )
-        if not is_there:
-            yield f"{page.relative_to(TOP)}: line {line} of {name} is not clause {clause} of {call}"
-
-
 def wrong_links(page):
     """The links of a page that lead to no file, or to no heading."""
-    yield from wrong_clauses(page)
     text = re.sub(r"^```.*?^```", "", page.read_text(), flags=re.M | re.S)
     for link in re.findall(r"\]\(([^)\s]+)(?: \"[^\"]*\")?\)|<a href=\"([^\"]+)\"", text):
         link = "".join(link)
@@ -336,36 +315,6 @@ def wrong_names(page):
             yield f"{page.relative_to(TOP)}: {name}: the sources don't have this name"
 
 
-def is_used(page, title, head, trait, path, first, last):
-    """Whether these lines of a file use the call or the type of a heading; with a trait, a call of anything that has it."""
-    owner, name = re.fullmatch(r"(?:(\w+)(?:: \w+)?::)?(\w+)", title).groups()
-    trait = owner if re.search(rf"^pub trait {owner}\b", page, re.M) else trait
-    is_static = owner and not re.search(r"[(\s&]self\b", head)
-    ways = [(owner, name, trait, is_static)]
-    ways += [(owner, name, r"\w+Ext")] if not owner and name.islower() else []
-    for _called, start, lines in examples.functions(path):
-        if start <= first < start + len(lines):
-            found = [start + line for way in ways for line in examples.uses(path, lines, *way)]
-            return any(first <= line < last for line in found)
-    return False
-
-
-def wrong_uses(page):
-    """The lines of use of the reference that their file lacks, or that don't use what they stand below."""
-    text = page.read_text()
-    shown = r"^Use(?:, as of any `(\w+)`)?, from \[a tested crate\]\(\.\./\.\./(\S+)#L(\d+)\):\n\n```rust\n(.*?)^```"
-    for use in re.finditer(shown, text, re.M | re.S):
-        path, first, lines = use[2], int(use[3]) - 1, use[4].splitlines()
-        title = re.findall(r"^###+ `(.*)`$", text[:use.start()], re.M)[-1]
-        head = text[text.rindex(f"# `{title}`", 0, use.start()) : use.start()]
-        there = (TOP / path).read_text().splitlines()[first : first + len(lines)]
-        where = f"{page.relative_to(TOP)}: {title}: the lines of {path}#L{first + 1}"
-        if lines not in (there, [line[4:] for line in there]):
-            yield f"{where} are others"
-        elif not is_used(text, title, head, use[1], path, first, first + len(lines)):
-            yield f"{where} don't use it"
-
-
 def main():
     word = sys.argv[1].lower() if len(sys.argv) > 1 else ""
     sections, wrong, blocks = [], [], []
@@ -380,7 +329,6 @@ def main():
     pages = others + sorted((TOP / "docs").glob("*.md")) + sorted((TOP / "docs/api").glob("*.md"))
     wrong += [link for page in pages for link in wrong_links(page)]
     wrong += [name for page in pages if page.name != PAST for name in wrong_names(page)]
-    wrong += [use for page in pages for use in wrong_uses(page)]
     with tempfile.TemporaryDirectory() as scratch:
         went = try_sections(sections, Path(scratch))
     for said in wrong:

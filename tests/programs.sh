@@ -49,7 +49,6 @@ note 'it keeps its bytes' cmp twice file
 timeout 10 bash -c '$pump -i short -o reports --sha256 2>reports'
 note 'an output that reports go into' test $? -eq 4
 mkfifo fifo
-try_silent 'files on their devices' 10 0 '$pump --fsync -i short -o synced && cmp short synced'
 try 'one FIFO that is written twice' 10 4 '^piper_pump: fifo: ' '$pump -i short -o none --tee fifo --tee fifo'
 try_silent 'a device as the input and the output' 10 0 '$pump -i /dev/null -o /dev/null --tee /dev/null'
 
