@@ -4,8 +4,7 @@
 #     bench/pump_speed.sh [PROGRAM [ROUNDS]]
 #
 # PROGRAM is crates/piper_pump/out/piper_pump if it is left out, and ROUNDS is 11. BYTES is how many bytes go through, 1 GiB if
-# it is not set. It prints the median of each in milliseconds, and beside it the ratio to the faster of the two others; and
-# then how long a single line takes from the input to the output.
+# it is not set. It prints the median of each in milliseconds, and beside it the ratio to the faster of the two others.
 set -eu
 here=$(cd "$(dirname "$0")" && pwd)
 program=$(realpath "${1:-$here/../crates/piper_pump/out/piper_pump}")
@@ -35,17 +34,4 @@ medians = {name: statistics.median(times) for name, times in spent.items()}
 best = min(medians["mbuffer -q"], medians["pv -q"])
 for name, median in medians.items():
     print(f"{name:<11} {median:8.0f} ms {median / best:6.2f}  (from {min(spent[name]):.0f} to {max(spent[name]):.0f})")
-
-child = subprocess.Popen([pump], stdin=subprocess.PIPE, stdout=subprocess.PIPE, bufsize=0)
-time.sleep(0.3)
-took = []
-for _ in range(101):
-    begun = time.monotonic()
-    child.stdin.write(b"a line\n")
-    child.stdout.read(7)
-    took.append((time.monotonic() - begun) * 1000)
-    time.sleep(0.005)
-child.stdin.close()
-child.wait()
-print(f"a line      {statistics.median(took):8.2f} ms, at most {max(took):.2f}")
 PYTHON
