@@ -99,7 +99,7 @@ impl Play {
         let count = writer.try_fill(&bytes);
         self.model.lent = 0;
         let wants = match self.model.look_write() {
-            Poll::Ready(true) => self.model.fill(&bytes),
+            Poll::Ready(true) => self.model.fill(&bytes, false),
             _ => 0,
         };
         assert_eq!(count, wants);
@@ -128,28 +128,10 @@ impl Play {
             None => {}
             Some(Poll::Pending) => assert_eq!(found, Poll::Pending),
             Some(Poll::Ready(count)) if found == Poll::Ready(true) => {
-                // A source of std does not say how long it is: more may be lent to it.
-                let wants = match form {
-                    2 => self.fill_from_source(&bytes),
-                    _ => self.model.fill(&bytes),
-                };
-                assert_eq!(count, wants);
+                assert_eq!(count, self.model.fill(&bytes, form == 2));
                 self.written += count;
             }
             Some(Poll::Ready(count)) => assert_eq!(count, 0),
-        }
-    }
-
-    fn fill_from_source(&mut self, bytes: &[u8]) -> usize {
-        let mut count = 0;
-        loop {
-            let n = self.model.lend(128 * 1024).min(bytes.len() - count);
-            if n == 0 {
-                self.model.lent = 0;
-                return count;
-            }
-            self.model.produced(&bytes[count..count + n]);
-            count += n;
         }
     }
 

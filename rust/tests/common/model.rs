@@ -159,11 +159,14 @@ impl Model {
         self.reader.wake();
     }
 
-    /// How many of these bytes a copy publishes after its look.
-    pub fn fill(&mut self, bytes: &[u8]) -> usize {
+    /// How many of these bytes a copy publishes after its look. To a source of std, which doesn't say how long it is, more may be
+    /// lent.
+    pub fn fill(&mut self, bytes: &[u8], is_of_std: bool) -> usize {
         let mut count = 0;
-        while count < bytes.len() {
-            let n = self.lend((bytes.len() - count).min(MOST_A_ROUND));
+        loop {
+            let left = bytes.len() - count;
+            let asked = if is_of_std { MOST_A_ROUND } else { left.min(MOST_A_ROUND) };
+            let n = self.lend(asked).min(left);
             if n == 0 {
                 break;
             }

@@ -39,7 +39,6 @@ struct Seen {
     reads: u32,
     writes: u32,
     metered: (u64, u64),
-    is_flushed: bool,
 }
 
 fn how_it_ended(moved: Result<(), TransferError>) -> Ended {
@@ -84,7 +83,6 @@ where
         reads: input.calls,
         writes: output.calls,
         metered: (meter.input.bytes(), meter.output.bytes()),
-        is_flushed: output.is_flushed,
     }
 }
 
@@ -162,32 +160,4 @@ fn an_output_that_takes_none_ends_the_transfer(rt: HostRuntime) {
         same(&rt, (call, seen.ended), (call, Ended::OutputFull));
         same(&rt, seen.writes, call + 1);
     }
-}
-
-#[test]
-fn the_output_is_flushed_at_the_end(rt: HostRuntime) {
-    let seen = transfers(&rt, NEVER, NEVER);
-    same(&rt, (seen.ended, seen.is_flushed), (Ended::Moved, true));
-    let fault = Fault {
-        call: 7,
-        kind: ErrorKind::Other,
-    };
-    let seen = transfers(&rt, fault, NEVER);
-    same(
-        &rt,
-        (seen.ended, seen.is_flushed),
-        (Ended::InputFailed, true),
-    );
-}
-
-#[test]
-fn a_failed_flush_is_reported(rt: HostRuntime) {
-    let mut output = Output::new(NEVER);
-    output.flush_fails = Some(ErrorKind::Other);
-    let seen = transfers_to(&rt, NEVER, output);
-    same(
-        &rt,
-        (seen.ended, seen.taken),
-        (Ended::OutputFailed, TOTAL as u64),
-    );
 }

@@ -32,13 +32,9 @@ pub struct Output {
     pub fault: Fault,
     /// The number of the write that takes no byte.
     pub takes_none: u32,
-    /// How its flush fails, if it does.
-    pub flush_fails: Option<ErrorKind>,
     pub calls: u32,
     pub taken: u64,
     pub is_right: bool,
-    /// Whether all bytes that it took were flushed.
-    pub is_flushed: bool,
 }
 
 impl Input {
@@ -57,11 +53,9 @@ impl Output {
         Output {
             fault,
             takes_none: u32::MAX,
-            flush_fails: None,
             calls: 0,
             taken: 0,
             is_right: true,
-            is_flushed: true,
         }
     }
 }
@@ -95,7 +89,6 @@ impl Write for Output {
         if call == self.takes_none {
             return Ok(0);
         }
-        self.is_flushed = false;
         let count = buf.len().min(PIECE);
         let mut taken = self.taken;
         let mut is_right = self.is_right;
@@ -109,10 +102,6 @@ impl Write for Output {
     }
 
     fn flush(&mut self) -> io::Result<()> {
-        if let Some(kind) = self.flush_fails {
-            return Err(kind.into());
-        }
-        self.is_flushed = true;
         Ok(())
     }
 }
