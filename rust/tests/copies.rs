@@ -51,6 +51,7 @@ fn a_claim_of_too_many_bytes_moves_none() {
     let lies = |length| Ok(length + 1);
     let (mut reader, mut writer) = pipe(8);
     panics(|| block_on(poll_fn(|cx| writer.poll_fill(cx, Says(lies)))));
+    panics(|| writer.produced(1));
     assert_eq!(writer.len(), 0);
     writer.try_fill(b"abc");
     panics(|| block_on(poll_fn(|cx| reader.poll_drain(cx, Says(lies)))));
