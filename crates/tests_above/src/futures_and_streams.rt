@@ -1,4 +1,5 @@
 //! The futures, streams and sinks over the pipe.
+mod asleep;
 mod crossing;
 mod joined;
 mod methods;

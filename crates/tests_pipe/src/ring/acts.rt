@@ -1,5 +1,5 @@
 //! What tests do with the ends of a ring.
-ghost use Rattle.std.specs.Prelude.{◌≡◌, ◌<◌, ◌*◌, ◌^◌};
+ghost use Rattle.std.specs.Prelude.{◌≡◌, ◌<◌, ◌≤◌, ◌*◌, ◌^◌, length};
 
 use piper_ring::{Logged, ReadEnd, WriteEnd, open_ring};
 use std::alloc::AllocGlobal;
@@ -19,6 +19,24 @@ pub(crate) fn ring_of(
     ensures { result.1.end.ring ≡ result.0.end.ring }
 {
     open_ring(rt.alloc(), capacity).expect(rt, "a ring")
+}
+
+/// Publishes as many of the bytes as there is room for in one piece.
+pub(crate) fn send(writer: &mut Logged<WriteEnd>, bytes: &[u8]) -> usize
+    ensures count { result ≤ length bytes.now }
+    ensures ring { writer.new.end.ring ≡ writer.old.end.ring }
+{
+    writer.end.load_head_if_full(&mut writer.log);
+    let buf = writer.end.write_buf(bytes.len());
+    let n = buf.len();
+    buf.copy_from_slice(&bytes[..n]);
+    writer.end.store_tail(n, &mut writer.log);
+    n
+}
+
+/// Looks for bytes where none is known.
+pub(crate) fn look(reader: &mut Logged<ReadEnd>) {
+    reader.end.load_tail_if_empty(&mut reader.log);
 }
 
 /// Whether the ring is closed.

@@ -2,7 +2,7 @@
 ghost use Rattle.std.specs.Prelude.{◌<◌, ◌^◌};
 
 use crate::compare::same_of as same;
-use crate::ring::acts::{receive_due, ring_of, sees_closed, send_due};
+use crate::ring::acts::{look, receive_due, ring_of, sees_closed, send, send_due};
 use piper_ring::{Logged, ReadEnd, WriteEnd};
 use std::sync::Wait;
 use std::thread;
@@ -59,4 +59,26 @@ fn a_million_bytes_cross_in_order(rt: HostRuntime) {
         );
         same(&rt, &"received in order", received, total);
     }
+}
+
+#[test]
+fn both_ends_leave_at_once(rt: HostRuntime) {
+    for left in 0..200 {
+        let (reader, mut writer) = ring_of(&rt, 4);
+        send(&mut writer, &[1; 4][..left % 5]);
+        thread::join(&rt, move || drop(writer), move || drop(reader));
+    }
+}
+
+#[test]
+fn threads_share_both_ends(rt: HostRuntime) {
+    let (mut reader, mut writer) = ring_of(&rt, 8);
+    send(&mut writer, &[1, 2, 3]);
+    look(&mut reader);
+    let told = thread::join(
+        &rt,
+        || (reader.end.peek_buf().len(), writer.end.is_closed()),
+        || (reader.end.len(), writer.end.len()),
+    );
+    same(&rt, &"told on both threads", told, ((3, false), (3, 3)));
 }
