@@ -11,12 +11,10 @@ use Rattle.piper_machine.specs.Round.{unspent}
 use Rattle.piper_machine.proofs.Rounds.{filled-filled, filled_nothing}
 
 choose : (b : Bool) (x y : Copied (Result ℕ Failed)) → b ≡ false → (if b then x else y) ≡ y
-choose true x y e = absurd (cc)
-choose false x y e = refl
+choose b x y e = grind arith
 
 choose_first : (b : Bool) (x y : Copied (Result ℕ Failed)) → b ≡ true → (if b then x else y) ≡ x
-choose_first true x y e = refl
-choose_first false x y e = absurd (cc)
+choose_first b x y e = grind arith
 
 is_zero_not : (n : ℕ) → (n ≡ 0 → ⊥) → (n == 0) ≡ false
 is_zero_not n some = grind (arith, nat_tests)
@@ -77,12 +75,10 @@ moved-parts sum bytes more fails p within =
     (ap (λ (given : List ℕ). filled given p) moved ∙ sym (filled-filled bytes (take k more) p))
 
 pub given-unspent : (bytes : List ℕ) (acts : List SourceAct) → bytes_given (unspent bytes acts) ≡ bytes ++ bytes_given acts
-given-unspent [] acts = refl
-given-unspent (byte ∷ bytes) acts = refl
+given-unspent bytes acts = grind arith
 
 pub failure-unspent : (bytes : List ℕ) (acts : List SourceAct) → ends_in_failure (unspent bytes acts) ≡ ends_in_failure acts
-failure-unspent [] acts = refl
-failure-unspent (byte ∷ bytes) acts = refl
+failure-unspent bytes acts = grind arith
 
 -- an act some of whose bytes are given: they move first, and then what is left
 pub give-part : (sum n : ℕ) (bytes : List ℕ) (acts : List SourceAct) (p : Pipe) → 1 ≤ n → n ≤ length bytes → n ≤ p.room

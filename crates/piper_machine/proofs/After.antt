@@ -1,6 +1,6 @@
 -- After an end that was found: where the reader can be, what its steps log and answer, and what it
 -- has seen of the close.
-use Rattle.std.proofs.Common.{◌≡◌, inl, inr, ℕ, zero, suc, List, [], length, take, Bool, true, false, Option, None, Some, ◌==◌, is_some, Result, Ok, Err, refl, sym, ◌∙◌}
+use Rattle.std.proofs.Common.{◌≡◌, inl, inr, ℕ, zero, suc, List, [], length, take, Bool, true, false, Option, None, Some, ◌==◌, is_some, Result, Ok, Err, refl, sym, ◌∙◌, arith}
 use Rattle.std.specs.Bool.{⊤}
 use Rattle.piper_machine.specs.Types.{Side, Query, Answer, Event, Context, Failed, Form, Purpose, AfterRead, ReadPoint, Reader, Try, Polling}
 use Rattle.piper_machine.specs.Open.{is_granted, is_yield_granted}
@@ -132,8 +132,7 @@ module _ (saw ended : Bool) (p : Pipe) (closed : saw ≡ true → p.is_closed �
 -- what it has seen of the close
 
 pub unlinked : (load : Option Bool) (saw : Bool) → load ≡ None → IsLinked load saw
-unlinked None saw unloaded = tt
-unlinked (Some flag) saw unloaded = absurd (cc)
+unlinked load saw unloaded = grind arith
 
 abbrev pub Sees : Bool → Pipe → Type 0
 Sees saw p = (saw ≡ true → p.is_closed ≡ true) × IsLinked (loaded p.reader) saw
@@ -174,10 +173,7 @@ module _ (saw ended : Bool) (p : Pipe) where
 
   -- without an unread byte a look finds none
   looks-over : (none : Bool) (l : Purpose) → none ≡ true → is_over (reader_looked none l) ≡ true
-  looks-over true Purpose.Poll empty = refl
-  looks-over true (Purpose.Copy Try) empty = refl
-  looks-over true (Purpose.Copy (Polling is_drawn)) empty = refl
-  looks-over false l empty = absurd (cc)
+  looks-over none l empty = grind arith
 
   abbrev Answers : Option Answer → Type 0
   Answers answer = IsFinalFrom saw ended (answer_event Reader answer) × (ended_from saw ended (answer_event Reader answer) ≡ ended)

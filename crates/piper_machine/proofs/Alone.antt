@@ -27,23 +27,16 @@ abbrev pub reader_rest_at : Next ReadPoint → Pipe → Ended
 reader_rest_at next p = reader_rest next.answer (reader_settled next p)
 
 looks-rest : (none : Bool) (p : Pipe) → reader_looks_alone none Purpose.Poll (record p { reader = ReadPoint.Idle }) ≡ reader_rest_at (goes_on (reader_looked none Purpose.Poll)) p
-looks-rest true p = refl
-looks-rest false p = refl
+looks-rest none p = grind arith
 
 registers-rest : (is_granted : Bool) (p : Pipe) → reader_granted_alone is_granted Purpose.Poll (record p { reader = ReadPoint.Idle }) ≡ reader_rest_at (reader_registered is_granted Purpose.Poll) p
-registers-rest true p = refl
-registers-rest false p = refl
+registers-rest is_granted p = grind arith
 
 again-rest : (none was_closed : Bool) (p : Pipe) → reader_again_alone none Purpose.Poll was_closed (record p { reader = ReadPoint.Idle }) ≡ reader_rest_at (reader_looked_again none Purpose.Poll was_closed) p
-again-rest true was_closed p = refl
-again-rest false was_closed p = refl
+again-rest none was_closed p = grind arith
 
 take-rest : (next : AfterRead) (name : Option ℕ) (p : Pipe) → is_drain_round next ≡ false → reader_done_alone next (record p { reader = ReadPoint.Idle; writer_waker = None; woken = with_waker p.woken name }) ≡ reader_rest_at (writer_taken next (is_some name)) (record p { writer_waker = None; reader_call = record p.reader_call { taken = name } })
-take-rest AfterRead.Answer None p plain = refl
-take-rest AfterRead.Drop None p plain = refl
-take-rest AfterRead.Answer (Some name) p plain = refl
-take-rest AfterRead.Drop (Some name) p plain = refl
-take-rest (AfterRead.Round form sum) name p plain = absurd (cc)
+take-rest next name p plain = grind arith
 
 pub reader-rest : (point : ReadPoint) (p : Pipe) → reader_state point ≡ Busy → is_draining point ≡ false → let s = read_step point p in reader_alone point p ≡ reader_rest s.answer s.pipe
 reader-rest ReadPoint.Idle p busy plain = absurd (cc)
@@ -141,34 +134,22 @@ abbrev pub writer_rest_at : Next WritePoint → Pipe → Ended
 writer_rest_at next p = writer_rest next.answer (writer_settled next p)
 
 open-rest : (is_closed none : Bool) (p : Pipe) → writer_open_alone is_closed none Purpose.Poll (record p { writer = WritePoint.Idle }) ≡ writer_rest_at (writer_is_open is_closed none Purpose.Poll) p
-open-rest true none p = refl
-open-rest false true p = refl
-open-rest false false p = refl
+open-rest is_closed none p = grind arith
 
 loads-rest : (none : Bool) (p : Pipe) → writer_looks_alone none Purpose.Poll (record p { writer = WritePoint.Idle }) ≡ writer_rest_at (goes_on (writer_looked none Purpose.Poll)) p
-loads-rest true p = refl
-loads-rest false p = refl
+loads-rest none p = grind arith
 
 writer_registers-rest : (is_granted : Bool) (p : Pipe) → writer_granted_alone is_granted Purpose.Poll (record p { writer = WritePoint.Idle }) ≡ writer_rest_at (writer_registered is_granted Purpose.Poll) p
-writer_registers-rest true p = refl
-writer_registers-rest false p = refl
+writer_registers-rest is_granted p = grind arith
 
 writer_again-rest : (none : Bool) (p : Pipe) → writer_again_alone none Purpose.Poll (record p { writer = WritePoint.Idle }) ≡ writer_rest_at (goes_on (writer_looked_again none Purpose.Poll)) p
-writer_again-rest true p = refl
-writer_again-rest false p = refl
+writer_again-rest none p = grind arith
 
 reader_take-rest : (next : AfterWrite) (name : Option ℕ) (p : Pipe) → is_fill_round next ≡ false → writer_done_alone next (record p { writer = WritePoint.Idle; reader_waker = None; woken = with_waker p.woken name }) ≡ writer_rest_at (reader_taken next (is_some name)) (record p { reader_waker = None; writer_call = record p.writer_call { taken = name } })
-reader_take-rest AfterWrite.Answer None p plain = refl
-reader_take-rest AfterWrite.Drop None p plain = refl
-reader_take-rest AfterWrite.WakeWriter None p plain = refl
-reader_take-rest AfterWrite.Answer (Some name) p plain = refl
-reader_take-rest AfterWrite.Drop (Some name) p plain = refl
-reader_take-rest AfterWrite.WakeWriter (Some name) p plain = refl
-reader_take-rest (AfterWrite.Round form sum) name p plain = absurd (cc)
+reader_take-rest next name p plain = grind arith
 
 own_take-rest : (name : Option ℕ) (p : Pipe) → writer_ended WritePoint.Idle Done (record p { writer = WritePoint.Idle; writer_waker = None; woken = with_waker p.woken name }) ≡ writer_rest_at (own_taken (is_some name)) (record p { writer_waker = None; writer_call = record p.writer_call { taken = name } })
-own_take-rest None p = refl
-own_take-rest (Some name) p = refl
+own_take-rest name p = grind arith
 
 pub writer-rest : (point : WritePoint) (p : Pipe) → writer_state point ≡ Busy → is_filling point ≡ false → let s = write_step point p in writer_alone point p ≡ writer_rest s.answer s.pipe
 writer-rest WritePoint.Idle p busy plain = absurd (cc)
@@ -198,32 +179,7 @@ writer-rest point p busy plain = absurd (cc)
 
 -- a call that copies nothing lends nothing as it goes
 pub plain-step : (point : WritePoint) (lent : List ℕ) (p : Pipe) → is_filling point ≡ false → stepped lent (Go Writer) (heard Writer (write_action point) (record p { writer = point })) ≡ write_step point p
-plain-step (WritePoint.QueryHead query) lent p plain = refl
-plain-step (WritePoint.QueryTail query count) lent p plain = refl
-plain-step WritePoint.QueryClosed lent p plain = refl
-plain-step (WritePoint.LookClosed Purpose.Poll) lent p plain = refl
-plain-step (WritePoint.LookHead Purpose.Poll) lent p plain = refl
-plain-step (WritePoint.LookRegister Purpose.Poll) lent p plain = refl
-plain-step (WritePoint.LookHeadAgain Purpose.Poll) lent p plain = refl
-plain-step (WritePoint.LookClosedAgain Purpose.Poll) lent p plain = refl
-plain-step (WritePoint.LookTake Purpose.Poll) lent p plain = refl
-plain-step (WritePoint.StoreTail n AfterWrite.Answer) lent p plain = refl
-plain-step (WritePoint.StoreTail n AfterWrite.Drop) lent p plain = refl
-plain-step (WritePoint.StoreTail n AfterWrite.WakeWriter) lent p plain = refl
-plain-step (WritePoint.TakeReader AfterWrite.Answer) lent p plain = refl
-plain-step (WritePoint.TakeReader AfterWrite.Drop) lent p plain = refl
-plain-step (WritePoint.TakeReader AfterWrite.WakeWriter) lent p plain = refl
-plain-step (WritePoint.WakeReader AfterWrite.Answer) lent p plain = refl
-plain-step (WritePoint.WakeReader AfterWrite.Drop) lent p plain = refl
-plain-step (WritePoint.WakeReader AfterWrite.WakeWriter) lent p plain = refl
-plain-step (WritePoint.StoreClosed AfterWrite.Answer) lent p plain = refl
-plain-step (WritePoint.StoreClosed AfterWrite.Drop) lent p plain = refl
-plain-step (WritePoint.StoreClosed AfterWrite.WakeWriter) lent p plain = refl
-plain-step WritePoint.TakeWriter lent p plain = refl
-plain-step WritePoint.WakeWriter lent p plain = refl
-plain-step WritePoint.Idle lent p plain = refl
-plain-step WritePoint.Dropped lent p plain = refl
-plain-step point lent p plain = absurd (cc)
+plain-step point lent p plain = grind arith
 
 -- the waker that it calls is heard, and then it goes
 pub writer-went : (p h r : Pipe) (answer : Option Answer) → is_filling p.writer ≡ false → h ≡ heard Writer (write_action p.writer) p → answer ≡ (stepped r.lent (Go Writer) h).answer → r ≡ (stepped r.lent (Go Writer) h).pipe

@@ -1,6 +1,6 @@
 -- Each step keeps what the log says of both sides' calls, and what they move and answer is right.
 use Rattle.std.proofs.Common.{◌≡◌, ℕ, ◌≤◌, List, [], ◌∷◌, ◌++◌, length, None, Some, ◌==◌, refl, sym, ap, subst, ◌∙◌, arith}
-use Rattle.piper_machine.specs.Types.{AfterWrite, Answer, Purpose, Side, Call, Step, Event, ReadPoint, WritePoint, Reader, Writer, Begin, Go, Put, Began, Try, Polling, Slice, Acts}
+use Rattle.piper_machine.specs.Types.{Answer, Purpose, Side, Call, Step, Event, ReadPoint, WritePoint, Reader, Writer, Begin, Go, Put, Began, Try, Polling, Slice, Acts}
 use Rattle.piper_machine.specs.Call.{kind_of, waker_of}
 use Rattle.piper_machine.specs.Log.{answer_event}
 use Rattle.piper_protocol.specs.Table.{read_action, write_action}
@@ -119,11 +119,7 @@ reader-leaves_fill ReadPoint.Idle p = (refl, refl, refl)
 reader-leaves_fill point p = (refl, refl, refl)
 
 writer-leaves_drain : (point : WritePoint) (p : Pipe) → let q = performed Writer (write_action point) p in (q.reader ≡ p.reader) × (q.destination ≡ p.destination)
-writer-leaves_drain (WritePoint.StoreClosed AfterWrite.Answer) p = (refl, refl)
-writer-leaves_drain (WritePoint.StoreClosed AfterWrite.Drop) p = (refl, refl)
-writer-leaves_drain (WritePoint.StoreClosed AfterWrite.WakeWriter) p = (refl, refl)
-writer-leaves_drain (WritePoint.StoreClosed (AfterWrite.Round form sum)) p = (refl, refl)
-writer-leaves_drain point p = (refl, refl)
+writer-leaves_drain point p = grind arith
 
 step-noted : (side : Side) (lent : List ℕ) (s : Step) (p : Pipe) (steps : List Step) (t : Noted) → IsSound p → MayLend lent s p → refusal_of s p ≡ None → IsNoted p.capacity side p (s ∷ steps) t → Keeps p.capacity side steps (stepped lent s p) t
 step-noted Reader lent (Begin c) p steps t sound may accepted h = begin-reader lent c p steps t h

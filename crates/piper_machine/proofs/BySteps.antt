@@ -91,8 +91,7 @@ read-falls point p true is busy valid goes = drain-falls point p is valid goes
 read-falls point p false is busy valid goes = let nearer = reader-nearer point p busy is goes in nearer.2.steps
 
 reader-rest_of : (answer : Option Answer) (p : Pipe) → reader_rest answer p ≡ rest_of Reader answer p
-reader-rest_of None p = refl
-reader-rest_of (Some answer) p = refl
+reader-rest_of answer p = grind arith
 
 reader_step : (p : Pipe) (names : List ℕ) → state_of Reader p ≡ Busy → IsValid Reader p → let made = stepped [] (Go Reader) (named names p) in IsHeard Reader p names made made.answer
 reader_step p names busy valid =
@@ -143,8 +142,7 @@ write-falls point lent p false is busy valid may =
     subst (λ (s : Stepped). s.answer ≡ None → writes_left s.pipe.writer s.pipe < writes_left point p) (sym (plain-step point lent p is)) (λ goes. (writer-nearer point p busy is goes).2.steps)
 
 writer-rest_of : (answer : Option Answer) (p : Pipe) → writer_rest answer p ≡ rest_of Writer answer p
-writer-rest_of None p = refl
-writer-rest_of (Some answer) p = refl
+writer-rest_of answer p = grind arith
 
 may-unnamed : (point : WritePoint) (lent names : List ℕ) (p : Pipe) → MayOffer point p.source lent (record p { writer = point; woken = names }) → MayOffer point p.source lent (record p { writer = point })
 may-unnamed (WritePoint.CallSource form sum) lent names p may = offers p.source may
@@ -182,8 +180,7 @@ one_step Reader lent p names busy valid may = reader_step p names busy valid
 one_step Writer lent p names busy valid may = writer_step lent p names busy valid may
 
 pub state-named : (side : Side) (names : List ℕ) (p : Pipe) → state_of side (named names p) ≡ state_of side p
-state-named Reader names p = refl
-state-named Writer names p = refl
+state-named side names p = grind arith
 
 -- steps that have returned
 pub record IsFinished (k : ℕ) (side : Side) (p : Pipe) (names : List ℕ) (before : List Event) (q : Pipe) (after : List Event) : Type 0 where

@@ -1,7 +1,7 @@
 -- Who has closed: the reader by its drop; or the writer, by its drop or its close, and then it
 -- publishes nothing more.
-use Rattle.std.proofs.Common.{◌≡◌, ◌⊎◌, inl, inr, ℕ, ◌-◌, List, length, Bool, true, false, ◌==◌, is_some, Result, Ok, Err, refl}
-use Rattle.piper_machine.specs.Types.{Failed, Form, Purpose, AfterRead, AfterWrite, ReadPoint, WritePoint, Reader, Writer, Try, Polling}
+use Rattle.std.proofs.Common.{◌≡◌, ◌⊎◌, inl, inr, ℕ, ◌-◌, List, length, Bool, true, false, ◌==◌, is_some, Result, Ok, Err, refl, arith}
+use Rattle.piper_machine.specs.Types.{Failed, Form, Purpose, AfterRead, AfterWrite, ReadPoint, WritePoint, Reader, Writer}
 use Rattle.piper_machine.specs.Open.{is_granted}
 use Rattle.piper_protocol.specs.Table.{writer_taken, read_done, writer_is_open, writer_looked, writer_looked_again, writer_registered, reader_taken, own_taken, write_done, write_after, writer_moved, writer_rounds, writer_draws}
 use Rattle.piper_machine.specs.Pipe.{Pipe}
@@ -99,67 +99,42 @@ is_ordinary (WritePoint.StoreClosed next) = false
 is_ordinary point = true
 
 pub open-ordinary : (is_closed none : Bool) (l : Purpose) → is_ordinary (writer_is_open is_closed none l).point ≡ true
-open-ordinary true none l = refl
-open-ordinary false true l = refl
-open-ordinary false false Purpose.Poll = refl
-open-ordinary false false (Purpose.Copy Try) = refl
-open-ordinary false false (Purpose.Copy (Polling is_drawn)) = refl
+open-ordinary is_closed none l = grind arith
 
 pub looks-ordinary : (none : Bool) (l : Purpose) → is_ordinary (writer_looked none l) ≡ true
-looks-ordinary true Purpose.Poll = refl
-looks-ordinary false Purpose.Poll = refl
-looks-ordinary true (Purpose.Copy Try) = refl
-looks-ordinary false (Purpose.Copy Try) = refl
-looks-ordinary true (Purpose.Copy (Polling is_drawn)) = refl
-looks-ordinary false (Purpose.Copy (Polling is_drawn)) = refl
+looks-ordinary none l = grind arith
 
 pub registers-ordinary : (granted : Bool) (l : Purpose) → is_ordinary (writer_registered granted l).point ≡ true
-registers-ordinary true l = refl
-registers-ordinary false l = refl
+registers-ordinary granted l = grind arith
 
 pub again-ordinary : (none : Bool) (l : Purpose) → is_ordinary (writer_looked_again none l) ≡ true
-again-ordinary true l = refl
-again-ordinary false Purpose.Poll = refl
-again-ordinary false (Purpose.Copy Try) = refl
-again-ordinary false (Purpose.Copy (Polling is_drawn)) = refl
+again-ordinary none l = grind arith
 
 pub draws-ordinary : (form : Form) → is_ordinary (writer_draws form) ≡ true
-draws-ordinary Try = refl
-draws-ordinary (Polling true) = refl
-draws-ordinary (Polling false) = refl
+draws-ordinary form = grind arith
 
 pub moved-ordinary : (none : Bool) (n : ℕ) (form : Form) (sum : ℕ) → is_ordinary (writer_moved none n form sum).point ≡ true
-moved-ordinary true n form sum = refl
-moved-ordinary false n form sum = refl
+moved-ordinary none n form sum = grind arith
 
 pub round-ordinary : (given : Result ℕ Failed) (capacity room : ℕ) (form : Form) (sum : ℕ) → is_ordinary (write_after capacity room (WritePoint.CallSource form sum) (found_of given)).point ≡ true
 round-ordinary (Ok n) capacity room form sum = moved-ordinary (n == 0) n form sum
 round-ordinary (Err fails) capacity room form sum = refl
 
 pub done-ordinary : (next : AfterWrite) → is_ordinary (write_done next).point ≡ true
-done-ordinary AfterWrite.Answer = refl
-done-ordinary AfterWrite.Drop = refl
-done-ordinary AfterWrite.WakeWriter = refl
-done-ordinary (AfterWrite.Round form sum) = refl
+done-ordinary next = grind arith
 
 pub take-ordinary : (next : AfterWrite) (is_found : Bool) → is_ordinary (reader_taken next is_found).point ≡ true
 take-ordinary next false = done-ordinary next
 take-ordinary next true = refl
 
 pub own-ordinary : (is_found : Bool) → is_ordinary (own_taken is_found).point ≡ true
-own-ordinary false = refl
-own-ordinary true = refl
+own-ordinary is_found = grind arith
 
 ordinary-known : (point : WritePoint) → is_ordinary point ≡ true → is_known point ≡ true
-ordinary-known (WritePoint.StoreClosed AfterWrite.Answer) ordinary = absurd (cc)
-ordinary-known (WritePoint.StoreClosed (AfterWrite.Round form sum)) ordinary = absurd (cc)
-ordinary-known (WritePoint.StoreClosed AfterWrite.Drop) ordinary = refl
-ordinary-known (WritePoint.StoreClosed AfterWrite.WakeWriter) ordinary = refl
-ordinary-known point ordinary = refl
+ordinary-known point ordinary = grind arith
 
 rounds-known : (is_closed : Bool) (n : ℕ) (form : Form) (sum : ℕ) → is_known (writer_rounds is_closed n form sum).point ≡ true
-rounds-known true n form sum = refl
-rounds-known false n form sum = refl
+rounds-known is_closed n form sum = grind arith
 
 pub writer-known : (offered : List ℕ) (point : WritePoint) (p : Pipe) → is_known (writer_after offered point p).writer ≡ true
 writer-known offered (WritePoint.LookClosed l) p = ordinary-known (writer_is_open p.is_closed (p.room == 0) l).point (open-ordinary p.is_closed (p.room == 0) l)

@@ -54,8 +54,7 @@ registration-rests side (Some cx) = granted-rests side cx.luck.register_granted 
     granted-rests side false name = (refl, refl)
 
 wake-rests : (name : Option ℕ) → (consumed_of (wake_of name) ≡ []) × (published_of (wake_of name) ≡ [])
-wake-rests None = (refl, refl)
-wake-rests (Some name) = (refl, refl)
+wake-rests name = grind arith
 
 yield-rests : (context : Option Context) → (consumed_of (yield_of context) ≡ []) × (published_of (yield_of context) ≡ [])
 yield-rests None = (refl, refl)
@@ -113,8 +112,7 @@ action-moves Reader Action.Wake p below known within = quiet _ _ _ below refl re
 action-moves Writer Action.Wake p below known within = quiet _ _ _ below refl refl refl (wake-rests p.writer_call.taken)
 
 answer-rests : (side : Side) (answer : Option Answer) → (consumed_of (answer_event side answer) ≡ []) × (published_of (answer_event side answer) ≡ [])
-answer-rests side None = (refl, refl)
-answer-rests side (Some answer) = (refl, refl)
+answer-rests side answer = grind arith
 
 -- an answer moves nothing, and a point neither
 module _ (old q new : Pipe) (events : List Event) (side : Side) (answer : Option Answer) (m : Moves old q events) (capacity : new.capacity ≡ q.capacity) (unread : new.unread ≡ q.unread) (start : new.start ≡ q.start) where

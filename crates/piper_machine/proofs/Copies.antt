@@ -1,5 +1,5 @@
 -- A step of a copying call leaves what remains of it, and it brings the answer nearer.
-use Rattle.std.proofs.Common.{◌≡◌, ℕ, ◌+◌, ◌-◌, ◌<◌, ◌≤◌, min, List, [], ◌∷◌, ◌++◌, take, drop, length, Bool, true, false, Option, None, Some, ◌==◌, is_some, refl, sym, ap, ◌∙◌, arith, Result, Ok, Err, length-take-le}
+use Rattle.std.proofs.Common.{◌≡◌, ℕ, ◌+◌, ◌-◌, ◌<◌, ◌≤◌, min, List, [], ◌∷◌, ◌++◌, take, drop, length, Bool, true, false, Option, None, ◌==◌, is_some, refl, sym, ap, ◌∙◌, arith, Result, Ok, Err, length-take-le}
 use Rattle.std.proofs.lemmas.Bool.Decides.{nat_tests}
 use Rattle.std.proofs.lemmas.List.{drop-drop, take_at}
 use Rattle.piper_machine.specs.Types.{AfterRead, AfterWrite, Purpose, Failed, DestAct, SourceAct, Form, ReadPoint, WritePoint, Destination, Reader, Writer, Ready, MOST_A_ROUND, Try, Polling, Slice, Acts, Go}
@@ -23,29 +23,20 @@ use Rattle.piper_machine.proofs.Acts.{take-goes_on, take-ends, give-part, give-e
 -- the look of a drain
 
 looks-rest : (none : Bool) (form : Form) (p : Pipe) → reader_looks_alone none (Purpose.Copy form) (record p { reader = ReadPoint.Idle }) ≡ reader_rest_at (goes_on (reader_looked none (Purpose.Copy form))) p
-looks-rest true Try p = refl
-looks-rest true (Polling drawn) p = refl
-looks-rest false Try p = refl
-looks-rest false (Polling drawn) p = refl
+looks-rest none form p = grind arith
 
 registers-rest : (granted : Bool) (form : Form) (p : Pipe) → reader_granted_alone granted (Purpose.Copy form) (record p { reader = ReadPoint.Idle }) ≡ reader_rest_at (reader_registered granted (Purpose.Copy form)) p
-registers-rest true form p = refl
-registers-rest false form p = refl
+registers-rest granted form p = grind arith
 
 again-rest : (none was_closed : Bool) (form : Form) (p : Pipe) → reader_again_alone none (Purpose.Copy form) was_closed (record p { reader = ReadPoint.Idle }) ≡ reader_rest_at (reader_looked_again none (Purpose.Copy form) was_closed) p
-again-rest true was_closed form p = refl
-again-rest false was_closed Try p = refl
-again-rest false was_closed (Polling drawn) p = refl
+again-rest none was_closed form p = grind arith
 
 takes-rest : (form : Form) (p : Pipe) → reader_takes_alone (Purpose.Copy form) (record p { reader = ReadPoint.Idle }) ≡ reader_rest_at (reader_is_true (Purpose.Copy form)) (record p { reader_waker = None; reader_call = record p.reader_call { taken = p.reader_waker } })
-takes-rest Try p = refl
-takes-rest (Polling true) p = refl
-takes-rest (Polling false) p = refl
+takes-rest form p = grind arith
 
 -- the wake of a round
 wakes-rest : (form : Form) (sum : ℕ) (name : Option ℕ) (p : Pipe) → reader_done_alone (AfterRead.Round form sum) (record p { reader = ReadPoint.Idle; writer_waker = None; woken = with_waker p.woken name }) ≡ reader_rest_at (writer_taken (AfterRead.Round form sum) (is_some name)) (record p { writer_waker = None; reader_call = record p.reader_call { taken = name } })
-wakes-rest form sum None p = refl
-wakes-rest form sum (Some name) p = refl
+wakes-rest form sum name p = grind arith
 
 -- a round that moves some bytes wakes the writer
 woken-drained : (n : ℕ) (p : Pipe) → (n == 0) ≡ false → drained n p ≡ writer_woken (consumed n p)
@@ -68,8 +59,7 @@ drained-parts m n p start flat some within =
     cc
 
 count-answer : (form : Form) (sum : ℕ) → moved_answer form (Ready (Ok sum)) ≡ count_answer form sum
-count-answer Try sum = refl
-count-answer (Polling drawn) sum = refl
+count-answer form sum = grind arith
 
 -- one call of the destination
 module _ (form : Form) (sum : ℕ) (p : Pipe) (start : p.start < p.capacity) (known : p.known ≤ p.capacity) where
@@ -144,38 +134,25 @@ abbrev pub fill_rest_at : Next WritePoint → Pipe → Ended
 fill_rest_at next p = writer_rest_at next (record p { lent = filled_out true next.answer p.lent })
 
 open-rest : (is_closed none : Bool) (form : Form) (p : Pipe) → writer_open_alone is_closed none (Purpose.Copy form) (record p { writer = WritePoint.Idle }) ≡ fill_rest_at (writer_is_open is_closed none (Purpose.Copy form)) p
-open-rest true none form p = refl
-open-rest false true form p = refl
-open-rest false false Try p = refl
-open-rest false false (Polling drawn) p = refl
+open-rest is_closed none form p = grind arith
 
 loads-rest : (none : Bool) (form : Form) (p : Pipe) → writer_looks_alone none (Purpose.Copy form) (record p { writer = WritePoint.Idle }) ≡ fill_rest_at (goes_on (writer_looked none (Purpose.Copy form))) p
-loads-rest true Try p = refl
-loads-rest true (Polling drawn) p = refl
-loads-rest false Try p = refl
-loads-rest false (Polling drawn) p = refl
+loads-rest none form p = grind arith
 
 writer_registers-rest : (granted : Bool) (form : Form) (p : Pipe) → writer_granted_alone granted (Purpose.Copy form) (record p { writer = WritePoint.Idle }) ≡ fill_rest_at (writer_registered granted (Purpose.Copy form)) p
-writer_registers-rest true form p = refl
-writer_registers-rest false form p = refl
+writer_registers-rest granted form p = grind arith
 
 writer_again-rest : (none : Bool) (form : Form) (p : Pipe) → writer_again_alone none (Purpose.Copy form) (record p { writer = WritePoint.Idle }) ≡ fill_rest_at (goes_on (writer_looked_again none (Purpose.Copy form))) p
-writer_again-rest true form p = refl
-writer_again-rest false Try p = refl
-writer_again-rest false (Polling drawn) p = refl
+writer_again-rest none form p = grind arith
 
 writer_takes-rest : (form : Form) (p : Pipe) → writer_takes_alone (Purpose.Copy form) (record p { writer = WritePoint.Idle }) ≡ fill_rest_at (writer_is_true (Purpose.Copy form)) (record p { writer_waker = None; writer_call = record p.writer_call { taken = p.writer_waker } })
-writer_takes-rest Try p = refl
-writer_takes-rest (Polling true) p = refl
-writer_takes-rest (Polling false) p = refl
+writer_takes-rest form p = grind arith
 
 reader_wakes-rest : (form : Form) (sum : ℕ) (name : Option ℕ) (p : Pipe) → writer_done_alone (AfterWrite.Round form sum) (record p { writer = WritePoint.Idle; reader_waker = None; woken = with_waker p.woken name }) ≡ writer_rest_at (reader_taken (AfterWrite.Round form sum) (is_some name)) (record p { reader_waker = None; writer_call = record p.writer_call { taken = name } })
-reader_wakes-rest form sum None p = refl
-reader_wakes-rest form sum (Some name) p = refl
+reader_wakes-rest form sum name p = grind arith
 
 rounds-rest : (is_closed : Bool) (n : ℕ) (form : Form) (sum : ℕ) (p : Pipe) → writer_rounds_alone is_closed n form sum (record p { writer = WritePoint.Idle }) ≡ fill_rest_at (writer_rounds is_closed n form sum) p
-rounds-rest true n form sum p = refl
-rounds-rest false n form sum p = refl
+rounds-rest is_closed n form sum p = grind arith
 
 -- a round that moves some bytes wakes the reader
 woken-filled : (n : ℕ) (bytes lent : List ℕ) (p : Pipe) → 1 ≤ n → n ≤ length bytes → p.lent ≡ take n bytes ++ drop n lent → filled (take n bytes) p ≡ unlent (reader_woken (published n p))
@@ -245,8 +222,7 @@ lends_some p n unread start not_shut lendable none =
     omega arith
 
 failed-answer : (form : Form) (p : Pipe) → writer_ended WritePoint.Idle (moved_answer form (Ready (Err (record {})))) p ≡ writer_ended WritePoint.Idle failed_answer p
-failed-answer Try p = refl
-failed-answer (Polling drawn) p = refl
+failed-answer form p = grind arith
 
 source-rest : (form : Form) (sum : ℕ) (acts : List SourceAct) (lent : List ℕ) (p : Pipe) → WriterValid (WritePoint.CallSource form sum) p → let asked = record p { writer = WritePoint.CallSource form sum; source = acts } in MayOffer (WritePoint.CallSource form sum) acts lent asked
     → let s = stepped lent (Go Writer) asked in writer_moves_alone form sum (record p { writer = WritePoint.Idle; source = acts }) ≡ writer_rest s.answer s.pipe

@@ -1,7 +1,7 @@
 -- What each side knows, and how many steps its call has made, and calls of its destination or
 -- source: what one step does to them.
 use Rattle.std.proofs.Common.{◌≡◌, ℕ, ◌+◌, ◌*◌, ◌≤◌, List, ◌++◌, Bool, true, false, Option, None, Some, ◌==◌, refl, sym, subst, ◌∙◌, arith}
-use Rattle.piper_machine.specs.Types.{AfterWrite, Purpose, Side, Call, Step, Answer, Event, Form, ReadPoint, WritePoint, Action, StepRefusal, Reader, Writer, Begin, Go, Put, Try, Polling}
+use Rattle.piper_machine.specs.Types.{Purpose, Side, Call, Step, Answer, Event, Form, ReadPoint, WritePoint, Action, StepRefusal, Reader, Writer, Begin, Go, Put, Try, Polling}
 use Rattle.piper_machine.specs.Log.{answer_event}
 use Rattle.piper_protocol.specs.Table.{read_action, write_action, reader_looks_for}
 use Rattle.piper_machine.specs.Pipe.{Pipe}
@@ -37,19 +37,10 @@ Counts Reader p k t calls = ReaderCounts p.reader p.known k t calls
 Counts Writer p k t calls = WriterCounts p.writer p.room k t calls
 
 read_least-found : (found : ℕ) (point : ReadPoint) → read_least found point ≤ found
-read_least-found found (ReadPoint.LookTail l) = omega arith
-read_least-found found (ReadPoint.LookRegister l) = omega arith
-read_least-found found (ReadPoint.LookClosed l) = omega arith
-read_least-found found (ReadPoint.LookTailAgain l was_closed) = omega arith
-read_least-found found point = omega arith
+read_least-found found point = grind arith
 
 write_least-found : (found : ℕ) (point : WritePoint) → write_least found point ≤ found
-write_least-found found (WritePoint.LookClosed l) = omega arith
-write_least-found found (WritePoint.LookHead l) = omega arith
-write_least-found found (WritePoint.LookRegister l) = omega arith
-write_least-found found (WritePoint.LookHeadAgain l) = omega arith
-write_least-found found (WritePoint.LookClosedAgain l) = omega arith
-write_least-found found point = omega arith
+write_least-found found point = grind arith
 
 pub counts-found : (side : Side) (p : Pipe) (k : Knowledge) (t : Tally) (calls : ℕ) → Counts side p k t calls → (t.made ≤ most_of k.found t.call) × (calls ≤ k.found + 1)
 counts-found Reader p k t calls held = let within = held.within k.found (read_least-found k.found p.reader) in (omega (arith, within.steps), omega (arith, within.calls))
@@ -73,15 +64,10 @@ writer_leaves-reader (Action.Take Writer) p never = (refl, refl, refl)
 writer_leaves-reader action p never = (refl, refl, refl)
 
 pub reader_never-tail : (point : ReadPoint) (n : ℕ) → read_action point ≡ Action.StoreTail n → ⊥
-reader_never-tail ReadPoint.Idle n e = absurd (cc)
-reader_never-tail point n e = absurd (cc)
+reader_never-tail point n e = grind arith
 
 pub writer_never-head : (point : WritePoint) (n : ℕ) → write_action point ≡ Action.StoreHead n → ⊥
-writer_never-head (WritePoint.StoreClosed AfterWrite.Answer) n e = absurd (cc)
-writer_never-head (WritePoint.StoreClosed AfterWrite.Drop) n e = absurd (cc)
-writer_never-head (WritePoint.StoreClosed AfterWrite.WakeWriter) n e = absurd (cc)
-writer_never-head (WritePoint.StoreClosed (AfterWrite.Round form sum)) n e = absurd (cc)
-writer_never-head point n e = absurd (cc)
+writer_never-head point n e = grind arith
 
 -- how a call begins
 
@@ -108,8 +94,7 @@ fills-count : (room : ℕ) (k : Knowledge) (form : Form) (c : Call) → room ≤
 fills-count room k form c enough most = record { sees = (refl, enough); enough = enough; within = λ f least. let is = most f in record { steps = omega arith; calls = omega arith } }
 
 idle_writer : (point : WritePoint) (more : Option StepRefusal) → or_else (cannot_begin (writer_state point)) more ≡ None → point ≡ WritePoint.Idle
-idle_writer WritePoint.Idle more accepted = refl
-idle_writer point more accepted = absurd (cc)
+idle_writer point more accepted = grind arith
 
 lends-count : (point : WritePoint) (room most : ℕ) (k : Knowledge) → point ≡ WritePoint.Idle → room ≤ k.known → WriterCounts point room (opened_with k false) (record { made = 0; call = Some (Call.WriteBuf most) }) 0
 lends-count WritePoint.Idle room most k idle enough = record { sees = tt; enough = enough; within = λ f least. record { steps = omega arith; calls = omega arith } }

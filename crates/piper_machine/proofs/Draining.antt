@@ -4,7 +4,7 @@ use Rattle.std.proofs.Common.{◌≡◌, ℕ, ◌+◌, ◌-◌, ◌<◌, ◌≤�
 use Rattle.std.proofs.lemmas.Bool.Decides.{nat_tests}
 use Rattle.std.proofs.lemmas.List.{drop-drop}
 use borrow.Rule.Slice.PartMut.{put_mid}
-use Rattle.piper_machine.specs.Types.{AfterRead, Purpose, OpenCall, Answer, Context, Action, Form, ReadPoint, Found, Destination, Polled, DestAct, Reader, Busy, Try, Polling, Nothing as nothing, IndexLoaded as index_loaded, Granted as granted, Waker as waker, Slice, Acts, Ready, Pending, Memory}
+use Rattle.piper_machine.specs.Types.{AfterRead, Purpose, OpenCall, Answer, Context, Action, Form, ReadPoint, Found, Destination, Polled, DestAct, Reader, Busy, Nothing as nothing, IndexLoaded as index_loaded, Granted as granted, Waker as waker, Slice, Acts, Ready, Pending, Memory}
 use Rattle.piper_machine.specs.Open.{is_granted}
 use Rattle.piper_protocol.specs.Table.{Next, goes_on, head_store, moved_in, read_action, read_after, reader_is_true, reader_looked, reader_looked_again, reader_looks_for, reader_moved, reader_registered, writer_taken}
 use Rattle.piper_machine.specs.Pipe.{Pipe, begun}
@@ -52,28 +52,20 @@ IsKept woken name next c = next.answer ≡ None → (is_draining next.point ≡ 
 
 module _ (woken : List ℕ) (name : Option ℕ) (c : OpenCall) (one : HasOneWake woken name) where
   looks-kept : (none : Bool) (form : Form) → IsKept woken name (goes_on (reader_looked none (Purpose.Copy form))) c
-  looks-kept true Try goes = (refl, one)
-  looks-kept true (Polling drawn) goes = (refl, one)
-  looks-kept false Try goes = (refl, one)
-  looks-kept false (Polling drawn) goes = (refl, one)
+  looks-kept none form goes = grind arith
 
   registers-kept : (granted : Bool) (form : Form) → IsKept woken name (reader_registered granted (Purpose.Copy form)) c
   registers-kept true form goes = (refl, one)
   registers-kept false form goes = absurd (cc)
 
   again-kept : (none was_closed : Bool) (form : Form) → IsKept woken name (reader_looked_again none (Purpose.Copy form) was_closed) c
-  again-kept true was_closed form goes = absurd (cc)
-  again-kept false was_closed Try goes = (refl, one)
-  again-kept false was_closed (Polling drawn) goes = (refl, one)
+  again-kept none was_closed form goes = grind arith
 
   takes-kept : (form : Form) → IsKept woken name (reader_is_true (Purpose.Copy form)) c
-  takes-kept Try goes = (refl, one)
-  takes-kept (Polling true) goes = (refl, one)
-  takes-kept (Polling false) goes = (refl, one)
+  takes-kept form goes = grind arith
 
   moves-kept : (n : ℕ) (none : Bool) (form : Form) (sum : ℕ) → IsKept woken name (reader_moved none n form sum) c
-  moves-kept n true form sum goes = absurd (cc)
-  moves-kept n false form sum goes = (refl, one)
+  moves-kept n none form sum goes = grind arith
 
   calls-kept : (destination : Destination) (most : ℕ) (form : Form) (sum capacity : ℕ) → IsKept woken name (read_after capacity (ReadPoint.CallDestination form sum) (found_of (taken most destination))) c
   calls-kept (Slice size) most form sum capacity = moves-kept (min size most) (min size most == 0) form sum
@@ -82,8 +74,7 @@ module _ (woken : List ℕ) (name : Option ℕ) (c : OpenCall) (one : HasOneWake
   calls-kept (Acts (DestAct.Take size ∷ acts)) most form sum capacity = moves-kept (min size most) (min size most == 0) form sum
 
 wakes-kept : (name : Option ℕ) (form : Form) (sum : ℕ) (woken : List ℕ) (c : OpenCall) → HasOneWake woken name → IsKept woken None (writer_taken (AfterRead.Round form sum) (is_some name)) (record c { taken = name })
-wakes-kept None form sum woken c one goes = (refl, one)
-wakes-kept (Some name) form sum woken c one goes = (refl, one)
+wakes-kept name form sum woken c one goes = grind arith
 
 drain-kept : (point : ReadPoint) (p : Pipe) → is_draining point ≡ true → WakesOne point p → let s = read_step point p in s.answer ≡ None → (is_draining s.pipe.reader ≡ true) × WakesOne s.pipe.reader s.pipe
 drain-kept (ReadPoint.LookTail (Purpose.Copy form)) p drains one goes = looks-kept p.woken p.writer_waker p.reader_call one (length p.unread == 0) form goes
@@ -193,8 +184,7 @@ pub record IsCalled (point : ReadPoint) (p : Pipe) : Type 0 where
   pub pipe : (read_step point p).pipe ≡ drain_left (found_of (taken (round_count p) p.destination)) (destination_called (record p { reader = point }))
 
 call-step : (point : ReadPoint) (p : Pipe) → read_action point ≡ Action.CallDestination → IsCalled point p
-call-step (ReadPoint.CallDestination form sum) p calls = record { answer = refl; pipe = refl }
-call-step point p calls = absurd (cc)
+call-step point p calls = grind arith
 
 -- what a call of the destination finds leads to r
 pub record IsRound (found : Found) (q : Pipe) (answer : Option Answer) (r : Pipe) : Type 0 where
@@ -221,8 +211,7 @@ no-store : (capacity : ℕ) (point : ReadPoint) (found : Found) → reader_state
 no-store capacity point found busy none = let store = (reads-on capacity point found busy).store in omega arith
 
 pub calls-store : (point : ReadPoint) → read_action point ≡ Action.CallDestination → head_store point ≡ 0
-calls-store (ReadPoint.CallDestination form sum) calls = refl
-calls-store point calls = absurd (cc)
+calls-store point calls = grind arith
 
 -- how many bytes such a step takes in, where a slice has so many places left
 abbrev pub took : Action → ℕ → Pipe → ℕ
@@ -334,24 +323,16 @@ drained-bytes n before after dest so_far known left is =
 
 -- a drain is opened
 looks-drain : (none : Bool) (form : Form) → is_draining (reader_looks_for none (Purpose.Copy form)) ≡ true
-looks-drain true form = refl
-looks-drain false Try = refl
-looks-drain false (Polling drawn) = refl
+looks-drain none form = grind arith
 
 looks-busy : (none : Bool) (form : Form) → reader_state (reader_looks_for none (Purpose.Copy form)) ≡ Busy
-looks-busy true form = refl
-looks-busy false Try = refl
-looks-busy false (Polling drawn) = refl
+looks-busy none form = grind arith
 
 looks-store : (none : Bool) (form : Form) → head_store (reader_looks_for none (Purpose.Copy form)) ≡ 0
-looks-store true form = refl
-looks-store false Try = refl
-looks-store false (Polling drawn) = refl
+looks-store none form = grind arith
 
 looks-errand : (none : Bool) (form : Form) (c : OpenCall) → errand (reader_looks_for none (Purpose.Copy form)) c ≡ None
-looks-errand true form c = refl
-looks-errand false Try c = refl
-looks-errand false (Polling drawn) c = refl
+looks-errand none form c = grind arith
 
 pub opened : (cx : Option Context) (destination : Destination) (p q : Pipe) → IsSound p → p.woken ≡ [] → q ≡ drain_opened cx (Slice 0) p → Draining (drain_opened cx destination p) (placing destination q)
 opened cx destination p q sound unwoken is =
@@ -379,8 +360,7 @@ opened-slice cx size p q sound unwoken is =
 
 -- the acts of a script are spent one after the other
 acts-left : (acts : List DestAct) → left_of_acts acts ≡ drop 1 acts
-acts-left [] = refl
-acts-left (act ∷ acts) = refl
+acts-left acts = grind arith
 
 pub next-act : (spent : ℕ) (acts : List DestAct) → left_of_acts (drop spent acts) ≡ drop (spent + 1) acts
 next-act spent acts = acts-left (drop spent acts) ∙ drop-drop 1 spent acts

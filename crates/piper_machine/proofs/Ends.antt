@@ -1,5 +1,5 @@
 -- An end that was found, kept along a log, and what that says of each moment of the log.
-use Rattle.std.proofs.Common.{◌≡◌, ◌⊎◌, inl, inr, ℕ, zero, suc, List, [], ◌∷◌, ◌++◌, Bool, true, false, refl, ap, subst, ◌∙◌}
+use Rattle.std.proofs.Common.{◌≡◌, ◌⊎◌, inl, inr, ℕ, zero, suc, List, [], ◌∷◌, ◌++◌, Bool, true, false, refl, ap, subst, ◌∙◌, arith}
 use Rattle.std.specs.Bool.{⊤}
 use Rattle.std.specs.List.{All}
 use Rattle.std.proofs.lemmas.List.Elements.{All-nil, All-cons}
@@ -44,9 +44,7 @@ final-append saw ended (e ∷ es) fs first then = (first.0, final-append (saw_cl
 -- what that says of every moment of a log
 
 still-at-tail : (saw : Bool) (unread : ℕ) → found_at_tail saw unread true ≡ true
-still-at-tail true zero = refl
-still-at-tail true (suc unread) = refl
-still-at-tail false unread = refl
+still-at-tail saw unread = grind arith
 
 still-ended : (saw : Bool) (e : Event) → ended_after saw true e ≡ true
 still-ended saw (Looked Reader (Tail unread)) = still-at-tail saw unread
@@ -69,8 +67,7 @@ final-after saw ended (first ∷ before) after e here h = final-after (saw_close
 
 -- a look that finds none after one that saw the pipe closed is such an event
 pub found-here : (saw ended : Bool) → saw ≡ true → ended_after saw ended found_none ≡ true
-found-here true ended seen = refl
-found-here false ended seen = absurd (cc)
+found-here saw ended seen = grind arith
 
 -- a look at the tail finds an end only so
 pub at-tail : (saw : Bool) (unread : ℕ) (ended : Bool) → found_at_tail saw unread ended ≡ true → (ended ≡ true) ⊎ ((saw ≡ true) × (unread ≡ 0))

@@ -19,24 +19,16 @@ abbrev IsFalling : ℕ → ℕ → ℕ → Next ReadPoint → Type 0
 IsFalling before found known next = next.answer ≡ None → read_steps found known next.point < before
 
 looks-fall : (none : Bool) (form : Form) (found known : ℕ) → known ≤ found → IsFalling (5 + drain_steps found) found known (goes_on (reader_looked none (Purpose.Copy form)))
-looks-fall true Try found known within goes = omega arith
-looks-fall true (Polling drawn) found known within goes = omega arith
-looks-fall false Try found known within goes = omega arith
-looks-fall false (Polling drawn) found known within goes = omega arith
+looks-fall none form found known within goes = grind arith
 
 registers-fall : (granted : Bool) (form : Form) (found known : ℕ) → IsFalling (4 + drain_steps found) found known (reader_registered granted (Purpose.Copy form))
-registers-fall true form found known goes = omega arith
-registers-fall false form found known goes = absurd (cc)
+registers-fall granted form found known goes = grind arith
 
 again-fall : (none was_closed : Bool) (form : Form) (found known : ℕ) → known ≤ found → IsFalling (2 + drain_steps found) found known (reader_looked_again none (Purpose.Copy form) was_closed)
-again-fall true was_closed form found known within goes = absurd (cc)
-again-fall false was_closed Try found known within goes = omega arith
-again-fall false was_closed (Polling drawn) found known within goes = omega arith
+again-fall none was_closed form found known within goes = grind arith
 
 takes-fall : (form : Form) (found known : ℕ) → IsFalling (1 + drain_steps known) found known (reader_is_true (Purpose.Copy form))
-takes-fall Try found known goes = omega arith
-takes-fall (Polling true) found known goes = omega arith
-takes-fall (Polling false) found known goes = omega arith
+takes-fall form found known goes = grind arith
 
 moves-fall : (n : ℕ) (none : Bool) (form : Form) (sum found known : ℕ) → (n == 0) ≡ none → n ≤ known → IsFalling (drain_steps known) found known (reader_moved none n form sum)
 moves-fall n true form sum found known test within goes = absurd (cc)
@@ -49,8 +41,7 @@ calls-fall (Acts (DestAct.Fail ∷ acts)) most form sum capacity found known wit
 calls-fall (Acts (DestAct.Take size ∷ acts)) most form sum capacity found known within = moves-fall (min size most) (min size most == 0) form sum found known refl (omega arith)
 
 wakes-fall : (is_found : Bool) (form : Form) (sum found known : ℕ) → IsFalling (2 + drain_steps known) found known (writer_taken (AfterRead.Round form sum) is_found)
-wakes-fall true form sum found known goes = omega arith
-wakes-fall false form sum found known goes = omega arith
+wakes-fall is_found form sum found known goes = grind arith
 
 pub drain-falls : (point : ReadPoint) (p : Pipe) → is_draining point ≡ true → ReaderValid point p → let s = read_step point p in s.answer ≡ None → reads_left s.pipe.reader s.pipe < reads_left point p
 drain-falls (ReadPoint.LookTail (Purpose.Copy form)) p drains valid goes = looks-fall (length p.unread == 0) form (length p.unread) (length p.unread) (omega arith) goes
@@ -66,19 +57,7 @@ drain-falls (ReadPoint.WakeWriter (AfterRead.Round form sum)) p drains valid goe
 drain-falls point p drains valid goes = absurd (cc)
 
 pub reads-some : (point : ReadPoint) (p : Pipe) → reader_state point ≡ Busy → 1 ≤ reads_left point p
-reads-some ReadPoint.Idle p busy = absurd (cc)
-reads-some ReadPoint.Dropped p busy = absurd (cc)
-reads-some (ReadPoint.LookTail Purpose.Poll) p busy = omega arith
-reads-some (ReadPoint.LookTail (Purpose.Copy form)) p busy = omega arith
-reads-some (ReadPoint.LookRegister Purpose.Poll) p busy = omega arith
-reads-some (ReadPoint.LookRegister (Purpose.Copy form)) p busy = omega arith
-reads-some (ReadPoint.LookClosed Purpose.Poll) p busy = omega arith
-reads-some (ReadPoint.LookClosed (Purpose.Copy form)) p busy = omega arith
-reads-some (ReadPoint.LookTailAgain Purpose.Poll was_closed) p busy = omega arith
-reads-some (ReadPoint.LookTailAgain (Purpose.Copy form) was_closed) p busy = omega arith
-reads-some (ReadPoint.LookTake Purpose.Poll) p busy = omega arith
-reads-some (ReadPoint.LookTake (Purpose.Copy form)) p busy = omega arith
-reads-some point p busy = omega arith
+reads-some point p busy = grind arith
 
 -- the writer
 
@@ -97,24 +76,16 @@ open-fall false false (Polling drawn) room free test goes = let is = chosen room
 
 -- a load leaves all free places known
 loads-fall : (none : Bool) (form : Form) (free : ℕ) → IsWriterFalling (4 + fill_steps free) free free (goes_on (writer_looked none (Purpose.Copy form)))
-loads-fall true Try free goes = omega arith
-loads-fall true (Polling drawn) free goes = omega arith
-loads-fall false Try free goes = omega arith
-loads-fall false (Polling drawn) free goes = omega arith
+loads-fall none form free goes = grind arith
 
 writer_registers-fall : (granted : Bool) (form : Form) (room free : ℕ) → IsWriterFalling (3 + fill_steps free) room free (writer_registered granted (Purpose.Copy form))
-writer_registers-fall true form room free goes = omega arith
-writer_registers-fall false form room free goes = absurd (cc)
+writer_registers-fall granted form room free goes = grind arith
 
 writer_again-fall : (none : Bool) (form : Form) (free : ℕ) → IsWriterFalling (2 + fill_steps free) free free (goes_on (writer_looked_again none (Purpose.Copy form)))
-writer_again-fall true form free goes = omega arith
-writer_again-fall false Try free goes = omega arith
-writer_again-fall false (Polling drawn) free goes = omega arith
+writer_again-fall none form free goes = grind arith
 
 writer_takes-fall : (form : Form) (room free : ℕ) → IsWriterFalling (1 + fill_steps room) room free (writer_is_true (Purpose.Copy form))
-writer_takes-fall Try room free goes = omega arith
-writer_takes-fall (Polling true) room free goes = omega arith
-writer_takes-fall (Polling false) room free goes = omega arith
+writer_takes-fall form room free goes = grind arith
 
 writer_moves-fall : (n : ℕ) (none : Bool) (form : Form) (sum room free : ℕ) → (n == 0) ≡ none → n ≤ room → IsWriterFalling (fill_steps room) room free (writer_moved none n form sum)
 writer_moves-fall n true form sum room free test within goes = absurd (cc)
@@ -130,12 +101,10 @@ source-falls (SourceAct.Bytes (byte ∷ bytes) ∷ acts) lent form sum free p ma
     writer_moves-fall n (n == 0) form sum p.room free refl (omega arith) goes
 
 rounds-fall : (is_closed : Bool) (n : ℕ) (form : Form) (sum room free : ℕ) → IsWriterFalling (4 + fill_steps (room - n)) room free (writer_rounds is_closed n form sum)
-rounds-fall true n form sum room free goes = absurd (cc)
-rounds-fall false n form sum room free goes = omega arith
+rounds-fall is_closed n form sum room free goes = grind arith
 
 reader_wakes-fall : (is_found : Bool) (form : Form) (sum room free : ℕ) → IsWriterFalling (2 + fill_steps room) room free (reader_taken (AfterWrite.Round form sum) is_found)
-reader_wakes-fall true form sum room free goes = omega arith
-reader_wakes-fall false form sum room free goes = omega arith
+reader_wakes-fall is_found form sum room free goes = grind arith
 
 pub fill-falls : (point : WritePoint) (lent : List ℕ) (p : Pipe) → is_filling point ≡ true → WriterValid point p → MayOffer point p.source lent (record p { writer = point })
     → let s = fill_step point lent p in s.answer ≡ None → writes_left s.pipe.writer s.pipe < writes_left point p
@@ -155,16 +124,4 @@ fill-falls (WritePoint.StoreClosed (AfterWrite.Round form sum)) lent p fills val
 fill-falls point lent p fills valid may goes = absurd (cc)
 
 pub writes-some : (point : WritePoint) (p : Pipe) → writer_state point ≡ Busy → 1 ≤ writes_left point p
-writes-some WritePoint.Idle p busy = absurd (cc)
-writes-some WritePoint.Dropped p busy = absurd (cc)
-writes-some (WritePoint.LookClosed Purpose.Poll) p busy = omega arith
-writes-some (WritePoint.LookClosed (Purpose.Copy form)) p busy = omega arith
-writes-some (WritePoint.LookHead Purpose.Poll) p busy = omega arith
-writes-some (WritePoint.LookHead (Purpose.Copy form)) p busy = omega arith
-writes-some (WritePoint.LookRegister Purpose.Poll) p busy = omega arith
-writes-some (WritePoint.LookRegister (Purpose.Copy form)) p busy = omega arith
-writes-some (WritePoint.LookHeadAgain Purpose.Poll) p busy = omega arith
-writes-some (WritePoint.LookHeadAgain (Purpose.Copy form)) p busy = omega arith
-writes-some (WritePoint.LookTake Purpose.Poll) p busy = omega arith
-writes-some (WritePoint.LookTake (Purpose.Copy form)) p busy = omega arith
-writes-some point p busy = omega arith
+writes-some point p busy = grind arith

@@ -1,7 +1,7 @@
 -- A fill run whole: its source stays with the caller, and each step is that of a call which holds
 -- this source.
 use Rattle.std.proofs.Common.{◌≡◌, ℕ, ◌-◌, ◌<◌, ◌≤◌, min, List, [], ◌∷◌, take, length, Bool, true, false, Option, None, Some, ◌==◌, is_some, refl, sym, ap, subst, ◌∙◌, arith, Result, Ok, Err, length-append}
-use Rattle.piper_machine.specs.Types.{Action, AfterWrite, Purpose, OpenCall, Answer, Failed, SourceAct, Form, WritePoint, Found, Context, Writer, Go, Busy, MOST_A_ROUND, Try, Polling}
+use Rattle.piper_machine.specs.Types.{Action, AfterWrite, Purpose, OpenCall, Answer, Failed, SourceAct, Form, WritePoint, Found, Context, Writer, Go, Busy, MOST_A_ROUND}
 use Rattle.piper_machine.specs.Open.{is_granted}
 use Rattle.piper_protocol.specs.Table.{Next, goes_on, write_action, write_after, writer_is_open, writer_looked, writer_looked_again, writer_registered, writer_is_true, writer_moved, writer_rounds, reader_taken}
 use Rattle.piper_machine.specs.Pipe.{Pipe}
@@ -49,34 +49,22 @@ IsKept woken waker next c = next.answer ≡ None → (is_filling next.point ≡ 
 
 module _ (woken : List ℕ) (waker : Option ℕ) (c : OpenCall) (one : HasOneWake woken waker) where
   open-kept : (is_closed none : Bool) (form : Form) → IsKept woken waker (writer_is_open is_closed none (Purpose.Copy form)) c
-  open-kept true none form goes = absurd (cc)
-  open-kept false true form goes = (refl, one)
-  open-kept false false Try goes = (refl, one)
-  open-kept false false (Polling drawn) goes = (refl, one)
+  open-kept is_closed none form goes = grind arith
 
   loads-kept : (none : Bool) (form : Form) → IsKept woken waker (goes_on (writer_looked none (Purpose.Copy form))) c
-  loads-kept true Try goes = (refl, one)
-  loads-kept true (Polling drawn) goes = (refl, one)
-  loads-kept false Try goes = (refl, one)
-  loads-kept false (Polling drawn) goes = (refl, one)
+  loads-kept none form goes = grind arith
 
   registers-kept : (granted : Bool) (form : Form) → IsKept woken waker (writer_registered granted (Purpose.Copy form)) c
-  registers-kept true form goes = (refl, one)
-  registers-kept false form goes = absurd (cc)
+  registers-kept granted form goes = grind arith
 
   again-kept : (none : Bool) (form : Form) → IsKept woken waker (goes_on (writer_looked_again none (Purpose.Copy form))) c
-  again-kept true form goes = (refl, one)
-  again-kept false Try goes = (refl, one)
-  again-kept false (Polling drawn) goes = (refl, one)
+  again-kept none form goes = grind arith
 
   takes-kept : (form : Form) → IsKept woken waker (writer_is_true (Purpose.Copy form)) c
-  takes-kept Try goes = (refl, one)
-  takes-kept (Polling true) goes = (refl, one)
-  takes-kept (Polling false) goes = (refl, one)
+  takes-kept form goes = grind arith
 
   moves-kept : (n : ℕ) (none : Bool) (form : Form) (sum : ℕ) → IsKept woken waker (writer_moved none n form sum) c
-  moves-kept n true form sum goes = absurd (cc)
-  moves-kept n false form sum goes = (refl, one)
+  moves-kept n none form sum goes = grind arith
 
   gives-kept : (most : ℕ) (acts : List SourceAct) (form : Form) (sum capacity room : ℕ) → IsKept woken waker (write_after capacity room (WritePoint.CallSource form sum) (found_of (given most acts))) c
   gives-kept most [] form sum capacity room = moves-kept 0 true form sum
@@ -84,12 +72,10 @@ module _ (woken : List ℕ) (waker : Option ℕ) (c : OpenCall) (one : HasOneWak
   gives-kept most (SourceAct.Bytes bytes ∷ acts) form sum capacity room = moves-kept (min most (length bytes)) (min most (length bytes) == 0) form sum
 
   rounds-kept : (is_closed : Bool) (n : ℕ) (form : Form) (sum : ℕ) → IsKept woken waker (writer_rounds is_closed n form sum) c
-  rounds-kept true n form sum goes = absurd (cc)
-  rounds-kept false n form sum goes = (refl, one)
+  rounds-kept is_closed n form sum goes = grind arith
 
 wakes-kept : (name : Option ℕ) (form : Form) (sum : ℕ) (woken : List ℕ) (c : OpenCall) → HasOneWake woken name → IsKept woken None (reader_taken (AfterWrite.Round form sum) (is_some name)) (record c { taken = name })
-wakes-kept None form sum woken c one goes = (refl, one)
-wakes-kept (Some name) form sum woken c one goes = (refl, one)
+wakes-kept name form sum woken c one goes = grind arith
 
 fill-kept : (point : WritePoint) (lent : List ℕ) (p : Pipe) → is_filling point ≡ true → closes_round point ≡ false → WakesOne point p
     → let s = fill_step point lent p in s.answer ≡ None → (is_filling s.pipe.writer ≡ true) × WakesOne s.pipe.writer s.pipe
@@ -219,12 +205,7 @@ pub record IsCalled (point : WritePoint) (lent : List ℕ) (p : Pipe) : Type 0 w
   pub pipe : (fill_step point lent p).pipe ≡ round_left (found_of (given (length lent) p.source)) (source_called (lending lent (record p { writer = point })))
 
 call-step : (point : WritePoint) (lent : List ℕ) (p : Pipe) → write_action point ≡ Action.CallSource → IsCalled point lent p
-call-step (WritePoint.CallSource form sum) lent p calls = record { answer = refl; pipe = refl }
-call-step (WritePoint.StoreClosed AfterWrite.Answer) lent p calls = absurd (cc)
-call-step (WritePoint.StoreClosed AfterWrite.Drop) lent p calls = absurd (cc)
-call-step (WritePoint.StoreClosed AfterWrite.WakeWriter) lent p calls = absurd (cc)
-call-step (WritePoint.StoreClosed (AfterWrite.Round form sum)) lent p calls = absurd (cc)
-call-step point lent p calls = absurd (cc)
+call-step point lent p calls = grind arith
 
 -- what a call of the source finds in w, which was lent to it, leads to r
 pub record IsRound (found : Found) (w : Pipe) (answer : Option Answer) (r : Pipe) : Type 0 where
@@ -254,9 +235,7 @@ gives most n (SourceAct.Fail ∷ acts) works is = absurd (cc)
 gives most n (SourceAct.Bytes bytes ∷ acts) works is = ap Ok is
 
 pub fails : (most : ℕ) (acts : List SourceAct) → is_failing acts ≡ true → Err (record {}) ≡ given most acts
-fails most [] failing = absurd (cc)
-fails most (SourceAct.Fail ∷ acts) failing = refl
-fails most (SourceAct.Bytes bytes ∷ acts) failing = absurd (cc)
+fails most acts failing = grind arith
 
 pub gave : (acts rest : List SourceAct) (n : ℕ) (given_now : Result ℕ Failed) (p q w r : Pipe) (answer : Option Answer) → write_action q.writer ≡ Action.CallSource → Filling p (giving acts q)
     → Lendable MOST_A_ROUND q (length w.lent) → w ≡ lending w.lent q → n ≡ min (length w.lent) (length (bytes_of acts)) → take n w.lent ≡ take n (bytes_of acts) → rest ≡ left_of_source n acts

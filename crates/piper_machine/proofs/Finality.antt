@@ -71,28 +71,16 @@ writer-answers saw ended None = (tt, refl, refl)
 writer-answers saw ended (Some answer) = ((λ t. tt, tt), refl, refl)
 
 writer-publishes : (point : WritePoint) (n : ℕ) → write_action point ≡ Action.StoreTail n → write_leaves point ≡ false
-writer-publishes (WritePoint.StoreTail m next) n e = refl
-writer-publishes (WritePoint.StoreClosed AfterWrite.Answer) n e = absurd (cc)
-writer-publishes (WritePoint.StoreClosed (AfterWrite.Round form sum)) n e = absurd (cc)
-writer-publishes (WritePoint.StoreClosed AfterWrite.Drop) n e = absurd (cc)
-writer-publishes (WritePoint.StoreClosed AfterWrite.WakeWriter) n e = absurd (cc)
-writer-publishes point n e = absurd (cc)
+writer-publishes point n e = grind arith
 
 -- a store publishes what was lent before
 publishes-lent : (point : WritePoint) (n : ℕ) (offered lent : List ℕ) → write_action point ≡ Action.StoreTail n → lent_at point offered lent ≡ lent
-publishes-lent (WritePoint.StoreTail m next) n offered lent e = refl
-publishes-lent (WritePoint.StoreClosed AfterWrite.Answer) n offered lent e = refl
-publishes-lent (WritePoint.StoreClosed (AfterWrite.Round form sum)) n offered lent e = refl
-publishes-lent (WritePoint.StoreClosed AfterWrite.Drop) n offered lent e = refl
-publishes-lent (WritePoint.StoreClosed AfterWrite.WakeWriter) n offered lent e = refl
-publishes-lent (WritePoint.CallSource form sum) n offered lent e = absurd (cc)
-publishes-lent point n offered lent e = refl
+publishes-lent point n offered lent e = grind arith
 
 -- a call is opened outside any other call of its side
 
 opens-over : (none : Bool) (l : Purpose) → none ≡ true → is_over (reader_looks_for none l) ≡ true
-opens-over true l e = refl
-opens-over false l e = absurd (cc)
+opens-over none l e = grind arith
 
 none_known : (p : Pipe) → IsSound p → p.unread ≡ [] → (p.known == 0) ≡ true
 none_known p sound empty = let zero : length p.unread ≡ 0 = ap (λ (xs : List ℕ). length xs) empty in let within = sound.known in grind (arith, nat_tests)
@@ -160,8 +148,7 @@ adds saw ended es fs q first then lasts = (
 )
 
 answers-saw : (saw : Bool) (answer : Option Answer) → saw_closed_from Reader saw (answer_event Reader answer) ≡ saw
-answers-saw saw None = refl
-answers-saw saw (Some answer) = refl
+answers-saw saw answer = grind arith
 
 step-lasts : (lent : List ℕ) (s : Step) (p : Pipe) (saw ended : Bool) → IsSound p → refusal_of s p ≡ None → (saw_close p.reader ≡ true → p.is_closed ≡ true) → Lasts p saw ended → Adds saw ended (stepped lent s p)
 step-lasts lent (Begin c) p saw ended sound accepted seen h = begin-lasts lent c p saw ended sound accepted h

@@ -13,12 +13,10 @@ abbrev no_steps : List Step
 no_steps = []
 
 take_nothing : (i : ℕ) → take i no_steps ≡ no_steps
-take_nothing zero = refl
-take_nothing (suc i) = refl
+take_nothing i = grind arith
 
 drop_nothing : (i : ℕ) → drop i no_steps ≡ no_steps
-drop_nothing zero = refl
-drop_nothing (suc i) = refl
+drop_nothing i = grind arith
 
 -- of one step more, the first i are those of the steps before, or they are all
 record IsBefore (i : ℕ) (ss : List Step) (s : Step) : Type 0 where

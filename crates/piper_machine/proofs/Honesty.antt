@@ -83,12 +83,10 @@ action-shows h Reader Action.Wake p same = quietly h _ p same (wake-quiet h p.re
 action-shows h Writer Action.Wake p same = quietly h _ p same (wake-quiet h p.writer_call.taken)
 
 answer-keeps : (h : History) (side : Side) (answer : Option Answer) → history_from h (answer_event side answer) ≡ h
-answer-keeps h side None = refl
-answer-keeps h side (Some answer) = refl
+answer-keeps h side answer = grind arith
 
 writer-answers : (h : History) (answer : Option Answer) → IsHonestFrom h (answer_event Writer answer)
-writer-answers h None = tt
-writer-answers h (Some answer) = (tt, tt)
+writer-answers h answer = grind arith
 
 -- what the reader loaded of the flag, between this load and its last look
 abbrev pub loaded : ReadPoint → Option Bool
@@ -116,12 +114,10 @@ module _ (h : History) (p : Pipe) where
 
   -- a copy never returns as a poll does
   copy-honest : (k : History) (form : Form) (answer : Polled Bool) → IsHonestFrom k (answer_event Reader (Some (copy_answer form answer)))
-  copy-honest k Try answer = (tt, tt)
-  copy-honest k (Polling is_drawn) answer = (tt, tt)
+  copy-honest k form answer = grind arith
 
   count-honest : (k : History) (form : Form) (count : ℕ) → IsHonestFrom k (answer_event Reader (Some (count_answer form count)))
-  count-honest k Try count = (tt, tt)
-  count-honest k (Polling is_drawn) count = (tt, tt)
+  count-honest k form count = grind arith
 
   registers-honest : (k : History) (l : Purpose) (is_granted : Bool) → IsHonestFrom k (answer_event Reader (reader_registered is_granted l).answer)
   registers-honest k l true = tt
@@ -129,12 +125,10 @@ module _ (h : History) (p : Pipe) where
   registers-honest k (Purpose.Copy form) false = copy-honest k form Memory
 
   true-honest : (k : History) (l : Purpose) → IsHonestFrom k (answer_event Reader (reader_is_true l).answer)
-  true-honest k Purpose.Poll = (tt, tt)
-  true-honest k (Purpose.Copy form) = tt
+  true-honest k l = grind arith
 
   yields-honest : (k : History) (is_granted : Bool) → IsHonestFrom k (answer_event Reader (Some (yield_answer is_granted)))
-  yields-honest k true = (tt, tt)
-  yields-honest k false = (tt, tt)
+  yields-honest k is_granted = grind arith
 
   round-honest : (k : History) (none : Bool) (n : ℕ) (form : Form) (sum : ℕ) → IsHonestFrom k (answer_event Reader (reader_moved none n form sum).answer)
   round-honest k true n form sum = count-honest k form sum
@@ -145,9 +139,7 @@ module _ (h : History) (p : Pipe) where
   moved-honest k (Err fails) form sum = (tt, tt)
 
   done-honest : (k : History) (next : AfterRead) → IsHonestFrom k (answer_event Reader (read_done next).answer)
-  done-honest k AfterRead.Answer = (tt, tt)
-  done-honest k AfterRead.Drop = (tt, tt)
-  done-honest k (AfterRead.Round form sum) = tt
+  done-honest k next = grind arith
 
   take-honest : (k : History) (next : AfterRead) (is_found : Bool) → IsHonestFrom k (answer_event Reader (writer_taken next is_found).answer)
   take-honest k next false = done-honest k next
@@ -185,9 +177,7 @@ module _ (h : History) (p : Pipe) where
 -- where the reader comes to, it has loaded the flag only by the step that loads it
 
 pub found-unloaded : (l : Purpose) → loaded (reader_found l) ≡ None
-found-unloaded Purpose.Poll = refl
-found-unloaded (Purpose.Copy Try) = refl
-found-unloaded (Purpose.Copy (Polling is_drawn)) = refl
+found-unloaded l = grind arith
 
 pub looks-unloaded : (none : Bool) (l : Purpose) → loaded (reader_looked none l) ≡ None
 looks-unloaded true Purpose.Poll = refl
@@ -200,39 +190,31 @@ opens-unloaded true l = refl
 opens-unloaded false l = found-unloaded l
 
 pub registers-unloaded : (is_granted : Bool) (l : Purpose) → loaded (reader_registered is_granted l).point ≡ None
-registers-unloaded true l = refl
-registers-unloaded false l = refl
+registers-unloaded is_granted l = grind arith
 
 pub again-unloaded : (none was_closed : Bool) (l : Purpose) → loaded (reader_looked_again none l was_closed).point ≡ None
 again-unloaded true was_closed l = refl
 again-unloaded false was_closed l = found-unloaded l
 
 pub true-unloaded : (l : Purpose) → loaded (reader_is_true l).point ≡ None
-true-unloaded Purpose.Poll = refl
-true-unloaded (Purpose.Copy Try) = refl
-true-unloaded (Purpose.Copy (Polling true)) = refl
-true-unloaded (Purpose.Copy (Polling false)) = refl
+true-unloaded l = grind arith
 
 pub round-unloaded : (none : Bool) (n : ℕ) (form : Form) (sum : ℕ) → loaded (reader_moved none n form sum).point ≡ None
-round-unloaded true n form sum = refl
-round-unloaded false n form sum = refl
+round-unloaded none n form sum = grind arith
 
 pub moved-unloaded : (capacity : ℕ) (moved : Result ℕ Failed) (form : Form) (sum : ℕ) → loaded (read_after capacity (ReadPoint.CallDestination form sum) (found_of moved)).point ≡ None
 moved-unloaded capacity (Ok n) form sum = round-unloaded (n == 0) n form sum
 moved-unloaded capacity (Err fails) form sum = refl
 
 pub done-unloaded : (next : AfterRead) → loaded (read_done next).point ≡ None
-done-unloaded AfterRead.Answer = refl
-done-unloaded AfterRead.Drop = refl
-done-unloaded (AfterRead.Round form sum) = refl
+done-unloaded next = grind arith
 
 pub take-unloaded : (next : AfterRead) (is_found : Bool) → loaded (writer_taken next is_found).point ≡ None
 take-unloaded next false = done-unloaded next
 take-unloaded next true = refl
 
 unseen : (load : Option Bool) (is_closed : Bool) → load ≡ None → is_set load ≡ true → is_closed ≡ true
-unseen None is_closed unloaded seen = absurd (cc)
-unseen (Some flag) is_closed unloaded seen = absurd (cc)
+unseen load is_closed unloaded seen = grind arith
 
 reader-sees : (point : ReadPoint) (p : Pipe) → let q = (went Reader (record p { reader = point })).pipe in saw_close q.reader ≡ true → q.is_closed ≡ true
 reader-sees ReadPoint.Idle p saw = absurd (cc)
@@ -266,8 +248,7 @@ opened-sees lent (Call.Drop Reader) p seen = (refl, λ saw. absurd (cc))
 opened-sees lent c p seen = (refl, seen)
 
 began-leaves : (h : History) (side : Side) (kind : Kind) (waker : Option ℕ) → (history_after h (Began side kind waker)).is_closed ≡ h.is_closed
-began-leaves h Reader kind waker = refl
-began-leaves h Writer kind waker = refl
+began-leaves h side kind waker = grind arith
 
 began-shows : (h : History) (lent : List ℕ) (c : Call) (p : Pipe) → h.is_closed ≡ p.is_closed → Tells h (stepped lent (Begin c) p).events p.is_closed
 began-shows h lent (Call.WriteBuf most) p same = ((tt, (tt, tt)), same)

@@ -2,7 +2,7 @@
 use Rattle.std.proofs.Common.{◌≡◌, ℕ, ◌-◌, ◌≤◌, List, [], ◌∷◌, ◌++◌, length, take, Bool, true, false, Option, None, Some, refl, ap, arith}
 use Rattle.std.specs.Prelude.{⊤}
 use Rattle.std.proofs.lemmas.List.{length-take, length-take-le}
-use Rattle.piper_machine.specs.Types.{Side, Query, Answer, Polled, Form, Event, Context, Action, Reader, Writer, Answered, Try, Polling}
+use Rattle.piper_machine.specs.Types.{Side, Query, Answer, Polled, Form, Event, Context, Action, Reader, Writer, Answered}
 use Rattle.piper_protocol.specs.declared.answer.Answer.TheVariants.{Poll}
 use Rattle.piper_protocol.specs.Table.{query_answer, copy_answer, count_answer, yield_answer, end_or_pending}
 use Rattle.piper_machine.specs.Ready.{IsReadyAnswer}
@@ -19,28 +19,20 @@ knowledge-append c side k (e ∷ es) fs = knowledge-append c side (knowledge_aft
 -- events that report nothing of the other side's index
 
 pub answer-shows : (c : ℕ) (side actor : Side) (k : Knowledge) (answer : Option Answer) → knowledge_from c side k (answer_event actor answer) ≡ k
-answer-shows c side actor k None = refl
-answer-shows c Reader actor k (Some answer) = refl
-answer-shows c Writer actor k (Some answer) = refl
+answer-shows c side actor k answer = grind arith
 
 registration-shows : (c : ℕ) (side actor : Side) (k : Knowledge) (b : Bool) (name : ℕ) → knowledge_from c side k (registration actor b name) ≡ k
-registration-shows c side actor k false name = refl
-registration-shows c Reader actor k true name = refl
-registration-shows c Writer actor k true name = refl
+registration-shows c side actor k b name = grind arith
 
 context-shows : (c : ℕ) (side actor : Side) (k : Knowledge) (context : Option Context) → knowledge_from c side k (registration_of actor context) ≡ k
 context-shows c side actor k None = refl
 context-shows c side actor k (Some cx) = registration-shows c side actor k cx.luck.register_granted cx.waker
 
 wake-shows : (c : ℕ) (side : Side) (k : Knowledge) (name : Option ℕ) → knowledge_from c side k (wake_of name) ≡ k
-wake-shows c side k None = refl
-wake-shows c Reader k (Some name) = refl
-wake-shows c Writer k (Some name) = refl
+wake-shows c side k name = grind arith
 
 woken-shows : (c : ℕ) (side : Side) (k : Knowledge) (b : Bool) (name : ℕ) → knowledge_from c side k (woken_if b name) ≡ k
-woken-shows c side k false name = refl
-woken-shows c Reader k true name = refl
-woken-shows c Writer k true name = refl
+woken-shows c side k b name = grind arith
 
 yield-shows : (c : ℕ) (side : Side) (k : Knowledge) (context : Option Context) → knowledge_from c side k (yield_of context) ≡ k
 yield-shows c side k None = refl
@@ -136,25 +128,13 @@ query-ready Reader k query capacity count = query-holds (λ (answer : Answer). I
 query-ready Writer k query capacity count = query-holds (λ (answer : Answer). IsReadyNext Writer k (Some answer)) query capacity count tt (λ is. tt)
 
 pub copy-ready : (side : Side) (k : Knowledge) (form : Form) (answer : Polled Bool) → IsReadyNext side k (Some (copy_answer form answer))
-copy-ready Reader k Try answer = tt
-copy-ready Reader k (Polling is_drawn) answer = tt
-copy-ready Writer k Try answer = tt
-copy-ready Writer k (Polling is_drawn) answer = tt
+copy-ready side k form answer = grind arith
 
 pub count-ready : (side : Side) (k : Knowledge) (form : Form) (count : ℕ) → IsReadyNext side k (Some (count_answer form count))
-count-ready Reader k Try count = tt
-count-ready Reader k (Polling is_drawn) count = tt
-count-ready Writer k Try count = tt
-count-ready Writer k (Polling is_drawn) count = tt
+count-ready side k form count = grind arith
 
 pub yield-ready : (side : Side) (k : Knowledge) (is_granted : Bool) → IsReadyNext side k (Some (yield_answer is_granted))
-yield-ready Reader k true = tt
-yield-ready Reader k false = tt
-yield-ready Writer k true = tt
-yield-ready Writer k false = tt
+yield-ready side k is_granted = grind arith
 
 pub end-ready : (side : Side) (k : Knowledge) (was_closed : Bool) → IsReadyNext side k (Some (Poll (end_or_pending was_closed)))
-end-ready Reader k true = tt
-end-ready Reader k false = tt
-end-ready Writer k true = tt
-end-ready Writer k false = tt
+end-ready side k was_closed = grind arith

@@ -28,23 +28,17 @@ ready-append c side k [] fs first then = then
 ready-append c side k (e ∷ es) fs first then = (first.0, ready-append c side (knowledge_after c side k e) es fs first.1 then)
 
 registration-ready : (c : ℕ) (side actor : Side) (k : Knowledge) (b : Bool) (name : ℕ) → IsReadyFrom c side k (registration actor b name)
-registration-ready c side actor k false name = tt
-registration-ready c Reader actor k true name = (tt, tt)
-registration-ready c Writer actor k true name = (tt, tt)
+registration-ready c side actor k b name = grind arith
 
 context-ready : (c : ℕ) (side actor : Side) (k : Knowledge) (context : Option Context) → IsReadyFrom c side k (registration_of actor context)
 context-ready c side actor k None = tt
 context-ready c side actor k (Some cx) = registration-ready c side actor k cx.luck.register_granted cx.waker
 
 wake-ready : (c : ℕ) (side : Side) (k : Knowledge) (name : Option ℕ) → IsReadyFrom c side k (wake_of name)
-wake-ready c side k None = tt
-wake-ready c Reader k (Some name) = (tt, tt)
-wake-ready c Writer k (Some name) = (tt, tt)
+wake-ready c side k name = grind arith
 
 woken-ready : (c : ℕ) (side : Side) (k : Knowledge) (b : Bool) (name : ℕ) → IsReadyFrom c side k (woken_if b name)
-woken-ready c side k false name = tt
-woken-ready c Reader k true name = (tt, tt)
-woken-ready c Writer k true name = (tt, tt)
+woken-ready c side k b name = grind arith
 
 yield-ready : (c : ℕ) (side : Side) (k : Knowledge) (context : Option Context) → IsReadyFrom c side k (yield_of context)
 yield-ready c side k None = tt
@@ -70,18 +64,14 @@ logged-ready c Reader actor k action p = (tt, tt)
 logged-ready c Writer actor k action p = (tt, tt)
 
 writer-answers : (c : ℕ) (k : Knowledge) (answer : Option Answer) → IsReadyFrom c Reader k (answer_event Writer answer)
-writer-answers c k None = tt
-writer-answers c k (Some answer) = (tt, tt)
+writer-answers c k answer = grind arith
 
 reader-answers : (c : ℕ) (k : Knowledge) (answer : Option Answer) → IsReadyFrom c Writer k (answer_event Reader answer)
-reader-answers c k None = tt
-reader-answers c k (Some answer) = (tt, tt)
+reader-answers c k answer = grind arith
 
 -- a call that returns as it is opened lends
 begin-answers : (cap : ℕ) (side : Side) (k : Knowledge) (lent : List ℕ) (c : Call) → IsReadyFrom cap side k (answer_event (side_of c) (answer_at_once lent c))
-begin-answers cap Reader k lent (Call.WriteBuf most) = (tt, tt)
-begin-answers cap Writer k lent (Call.WriteBuf most) = (tt, tt)
-begin-answers cap side k lent c = tt
+begin-answers cap side k lent c = grind arith
 
 own-ready : (c : ℕ) (side : Side) (k : Knowledge) (answer : Option Answer) → IsReadyNext side k answer → IsReadyFrom c side k (answer_event side answer)
 own-ready c side k None ready = tt
@@ -181,8 +171,7 @@ ready-run c ss p events run side = (along c side ss p events run).ready
 -- what the log reports is what is known: a store stays within what there is
 
 reader-stores : (point : ReadPoint) (p : Pipe) → head_store point ≤ peeked_count p → p.known ≤ length p.unread → Stores Reader (read_action point) p
-reader-stores (ReadPoint.StoreHead n next) p store known = omega arith
-reader-stores point p store known = tt
+reader-stores point p store known = grind arith
 
 writer-stores : (point : WritePoint) (lent : List ℕ) (p : Pipe) → tail_store point ≤ length p.lent → Stores Writer (write_action point) (offering lent (record p { writer = point }))
 writer-stores (WritePoint.StoreTail n next) lent p store = store
@@ -208,10 +197,7 @@ began_if false kind k = k
 
 began-shows : (cap : ℕ) (side other : Side) (kind : Kind) (waker : Option ℕ) (k : Knowledge) → knowledge_after cap side k (Began other kind waker) ≡ began_if (is_same side other) kind k
 unfolding began_if
-began-shows cap Reader Reader kind waker k = refl
-began-shows cap Reader Writer kind waker k = refl
-began-shows cap Writer Reader kind waker k = refl
-began-shows cap Writer Writer kind waker k = refl
+began-shows cap side other kind waker k = grind arith
 
 began-known : (side : Side) (b : Bool) (kind : Kind) (p : Pipe) (k : Knowledge) → IsSound p → Known p.capacity side p k → Known p.capacity side p (began_if b kind k)
 unfolding began_if

@@ -98,10 +98,7 @@ answer-of m i p found is = ap (λ (next : Next WritePoint). next.answer) (next-o
 
 -- what is left lent of the bytes where the writer's call has returned
 pub lent-settled : (fills : Bool) (answer : Option Answer) (count : ℕ) (bytes : List ℕ) → take (lent_count_after fills answer count) bytes ≡ filled_out fills answer (take count bytes)
-lent-settled true (Some answer) count bytes = refl
-lent-settled true None count bytes = refl
-lent-settled false (Some answer) count bytes = refl
-lent-settled false None count bytes = refl
+lent-settled fills answer count bytes = grind arith
 
 pub writing-settled : (w : Writing) (fills : Bool) (answer : Option Answer) → IsWriting w → (IsSome answer → tail_store w.point ≡ 0) → IsWriting (record w { lent = lent_count_after fills answer w.lent })
 writing-settled w true (Some answer) writing rests = record {

@@ -12,11 +12,7 @@ pub record ReaderMakes (action : Action) (p : Pipe) : Type 0 where
   pub stays : (performed Reader action p).reader ≡ p.reader
 
 pub reader-makes : (action : Action) (p : Pipe) → ReaderMakes action p
-reader-makes (Action.StoreClosed false) p = record { after = refl; answer_is = refl; stays = refl }
-reader-makes (Action.StoreClosed true) p = record { after = refl; answer_is = refl; stays = refl }
-reader-makes (Action.Take Reader) p = record { after = refl; answer_is = refl; stays = refl }
-reader-makes (Action.Take Writer) p = record { after = refl; answer_is = refl; stays = refl }
-reader-makes action p = record { after = refl; answer_is = refl; stays = refl }
+reader-makes action p = grind arith
 
 pub record WriterMakes (point : WritePoint) (p : Pipe) : Type 0 where
   pub after : (lent : List ℕ) → round_left (found_by Writer (write_action point) p) (performed Writer (write_action point) p) ≡ (went Writer (offering lent p)).pipe

@@ -1,6 +1,6 @@
 -- The opening of a call leaves the bytes, the counts and the closed flag as they are.
-use Rattle.std.proofs.Common.{◌≡◌, ℕ, List, refl}
-use Rattle.piper_machine.specs.Types.{Call, Reader}
+use Rattle.std.proofs.Common.{◌≡◌, ℕ, List, arith}
+use Rattle.piper_machine.specs.Types.{Call}
 use Rattle.piper_machine.specs.Pipe.{Pipe}
 use Rattle.piper_machine.specs.Step.{opened}
 
@@ -14,8 +14,4 @@ pub record LeavesRest (p q : Pipe) : Type 0 where
   pub is_closed : q.is_closed ≡ p.is_closed
 
 pub opened-leaves : (lent : List ℕ) (c : Call) (p : Pipe) → LeavesRest p (opened lent c p)
-opened-leaves lent (Call.Query Reader query) p = record { capacity = refl; unread = refl; start = refl; known = refl; room = refl; is_closed = refl }
-opened-leaves lent (Call.IsClosed Reader) p = record { capacity = refl; unread = refl; start = refl; known = refl; room = refl; is_closed = refl }
-opened-leaves lent (Call.Poll Reader waker luck) p = record { capacity = refl; unread = refl; start = refl; known = refl; room = refl; is_closed = refl }
-opened-leaves lent (Call.Drop Reader) p = record { capacity = refl; unread = refl; start = refl; known = refl; room = refl; is_closed = refl }
-opened-leaves lent c p = record { capacity = refl; unread = refl; start = refl; known = refl; room = refl; is_closed = refl }
+opened-leaves lent c p = grind arith

@@ -1,6 +1,6 @@
 -- Each step keeps both sides remembered: its own side goes on from point to point, and the other is
 -- touched by it.
-use Rattle.std.proofs.Common.{◌≡◌, inl, inr, ℕ, List, [], ◌∷◌, ◌++◌, Bool, true, false, Option, None, Some, ◌==◌, refl, sym, ap, subst, slice_set}
+use Rattle.std.proofs.Common.{◌≡◌, inl, inr, ℕ, List, [], ◌∷◌, ◌++◌, Bool, true, Option, None, Some, ◌==◌, refl, sym, ap, subst, slice_set, arith}
 use Rattle.piper_machine.specs.Types.{AfterRead, AfterWrite, OpenCall, Call, Step, Event, StepRefusal, Action, Context, SourceAct, Purpose, ReadPoint, WritePoint, Destination, Reader, Writer, Begin, Go, Put, Try, Polling, Slice, Acts}
 use Rattle.piper_machine.specs.Open.{called_with}
 use Rattle.piper_protocol.specs.Table.{read_action, write_action, reader_looks_for}
@@ -27,34 +27,21 @@ pub record Keeps (p : Pipe) (reads writes : Wait) : Type 0 where
 -- a side's step leaves where the other is, and what its call holds
 
 pub reader_leaves : (action : Action) (p : Pipe) → let q = performed Reader action p in (q.writer ≡ p.writer) × (q.writer_call ≡ p.writer_call)
-reader_leaves (Action.StoreClosed true) p = (refl, refl)
-reader_leaves (Action.StoreClosed false) p = (refl, refl)
-reader_leaves (Action.Take Reader) p = (refl, refl)
-reader_leaves (Action.Take Writer) p = (refl, refl)
-reader_leaves action p = (refl, refl)
+reader_leaves action p = grind arith
 
 pub writer_leaves : (action : Action) (p : Pipe) → let q = performed Writer action p in (q.reader ≡ p.reader) × (q.reader_call ≡ p.reader_call)
-writer_leaves (Action.StoreClosed true) p = (refl, refl)
-writer_leaves (Action.StoreClosed false) p = (refl, refl)
-writer_leaves (Action.Take Reader) p = (refl, refl)
-writer_leaves (Action.Take Writer) p = (refl, refl)
-writer_leaves action p = (refl, refl)
+writer_leaves action p = grind arith
 
 -- a call is opened outside any other call of its side
 
 pub reader-idle : (point : ReadPoint) (more : Option StepRefusal) → or_else (cannot_begin (reader_state point)) more ≡ None → point ≡ ReadPoint.Idle
-reader-idle ReadPoint.Idle more accepted = refl
-reader-idle point more accepted = absurd (cc)
+reader-idle point more accepted = grind arith
 
 pub writer-idle : (point : WritePoint) (more : Option StepRefusal) → or_else (cannot_begin (writer_state point)) more ≡ None → point ≡ WritePoint.Idle
-writer-idle WritePoint.Idle more accepted = refl
-writer-idle point more accepted = absurd (cc)
+writer-idle point more accepted = grind arith
 
 looks-away : (none : Bool) (l : Purpose) (c : OpenCall) → read_errand (reader_looks_for none l) c ≡ away
-looks-away true l c = refl
-looks-away false Purpose.Poll c = refl
-looks-away false (Purpose.Copy Try) c = refl
-looks-away false (Purpose.Copy (Polling is_drawn)) c = refl
+looks-away none l c = grind arith
 
 module _ (p : Pipe) (reads writes : Wait) (kept : Keeps p reads writes) where
   -- the reader opens a call: it goes to a point away from the writer's slot, and the writer does
@@ -162,20 +149,16 @@ step-keeps lent (Put offset byte) p reads writes sound accepted kept = lends p r
 -- what that says of a side outside any call
 
 wakes-writer : (point : ReadPoint) (c : OpenCall) (taken : Option ℕ) → read_errand point c ≡ wakes taken → (is_waking_writer point ≡ true) × (c.taken ≡ taken)
-wakes-writer (ReadPoint.WakeWriter next) c taken e = (refl, cc)
-wakes-writer point c taken e = absurd (cc)
+wakes-writer point c taken e = grind arith
 
 takes-writers : (point : ReadPoint) (c : OpenCall) → read_errand point c ≡ takes → is_waking_writer point ≡ true
-takes-writers (ReadPoint.TakeWriter next) c e = refl
-takes-writers point c e = absurd (cc)
+takes-writers point c e = grind arith
 
 wakes-reader : (point : WritePoint) (c : OpenCall) (taken : Option ℕ) → write_errand point c ≡ wakes taken → (is_waking_reader point ≡ true) × (c.taken ≡ taken)
-wakes-reader (WritePoint.WakeReader next) c taken e = (refl, cc)
-wakes-reader point c taken e = absurd (cc)
+wakes-reader point c taken e = grind arith
 
 takes-readers : (point : WritePoint) (c : OpenCall) → write_errand point c ≡ takes → is_waking_reader point ≡ true
-takes-readers (WritePoint.TakeReader next) c e = refl
-takes-readers point c e = absurd (cc)
+takes-readers point c e = grind arith
 
 reader-remembered : (p : Pipe) (w : Wait) → Watched w p.reader_waker None (IsBlocked Reader p) (write_errand p.writer p.writer_call) → IsRemembered Reader p w
 reader-remembered p w (woken h) = inl h

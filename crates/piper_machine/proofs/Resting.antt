@@ -1,6 +1,6 @@
 -- What remains of a call that a side between two calls has opened is the call run whole.
-use Rattle.std.proofs.Common.{◌≡◌, ℕ, List, [], ◌∷◌, false, None, Some, refl, sym, subst, ap, ◌∙◌}
-use Rattle.piper_machine.specs.Types.{Side, Context, Polled, DestAct, SourceAct, Reader, Writer, Ready, Pending, Memory, Slice, Acts}
+use Rattle.std.proofs.Common.{◌≡◌, ℕ, List, [], ◌∷◌, false, None, Some, refl, sym, subst, ap, ◌∙◌, arith}
+use Rattle.piper_machine.specs.Types.{Side, Context, Polled, DestAct, SourceAct, Reader, Writer, Slice, Acts}
 use Rattle.piper_machine.specs.Pipe.{Pipe, begun}
 use Rattle.piper_machine.specs.Copy.{try_drain, try_fill, drain, fill}
 use Rattle.piper_machine.specs.Scripted.{drain_to, fill_from, bytes_given, ends_in_failure}
@@ -29,8 +29,7 @@ given-bytes [] = refl
 given-bytes (byte ∷ bytes) = given-slice (byte ∷ bytes)
 
 failure-bytes : (bytes : List ℕ) → ends_in_failure (unspent bytes []) ≡ false
-failure-bytes [] = refl
-failure-bytes (byte ∷ bytes) = refl
+failure-bytes bytes = grind arith
 
 pub try_fills : (bytes : List ℕ) (p q : Pipe) → q ≡ begun p → p ≡ resting Writer p → alone_of Writer (fill_opened None (unspent bytes []) q) ≡ counted_whole (try_fill bytes p)
 try_fills bytes p q begins rests = from-rest Writer (λ v. alone_of Writer (fill_opened None (unspent bytes []) v)) (λ v. counted_whole (try_fill bytes v)) p q begins rests (try_fill-whole (unspent bytes []) bytes (given-bytes bytes) (failure-bytes bytes) p)
@@ -42,6 +41,4 @@ pub fills-from : (cx : Context) (acts : List SourceAct) (p q : Pipe) → q ≡ b
 fills-from cx acts p q begins rests = from-rest Writer (λ v. alone_of Writer (fill_opened (Some cx) acts v)) (λ v. copied_acts (fill_from (Some cx) acts v)) p q begins rests (fill-acts cx acts p)
 
 pub without_failure-unfailing : (answer : Polled ℕ) → without_failure (unfailing answer) ≡ answer
-without_failure-unfailing (Ready n) = refl
-without_failure-unfailing Pending = refl
-without_failure-unfailing Memory = refl
+without_failure-unfailing answer = grind arith

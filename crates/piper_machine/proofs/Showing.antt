@@ -90,9 +90,7 @@ module _ (capacity : ℕ) (t : Noted) where
 
 -- an answer opens no call
 pub coming-answered : (side : Side) (t : Noted) (answer : Option Answer) → (noted_from side t (answer_event side answer)).coming ≡ t.coming
-coming-answered side t None = refl
-coming-answered Reader t (Some answer) = refl
-coming-answered Writer t (Some answer) = refl
+coming-answered side t answer = grind arith
 
 -- the side's own steps open no call
 coming-left : (capacity : ℕ) (side : Side) (t : Noted) (es : List Event) → Leaves capacity side t es → (noted_from side t es).coming ≡ t.coming
@@ -119,8 +117,7 @@ pub record Polls (t : Noted) : Type 0 where
   pub polls : IsPoll poll
 
 poll-right : (capacity : ℕ) (c : Call) (polled : Polled Bool) (looks : List Seen) (moved : List ℕ) → IsPoll c → IsAnswer capacity c looks moved (Answer.Poll polled)
-poll-right capacity (Call.Poll side waker luck) polled looks moved polls = tt
-poll-right capacity c polled looks moved polls = absurd polls
+poll-right capacity c polled looks moved polls = grind arith
 
 pub poll-answers : (capacity : ℕ) (side : Side) (t : Noted) (polled : Polled Bool) → Polls t → AreRightFrom capacity side t (answer_event side (Some (Answer.Poll polled)))
 poll-answers capacity side t polled asked = answers capacity t side asked.poll (Answer.Poll polled) asked.is (poll-right capacity asked.poll polled t.looks t.moved asked.polls)

@@ -18,9 +18,7 @@ unspent_none [] acts none = refl
 unspent_none (byte ∷ bytes) acts none = absurd (omega arith)
 
 pub without_none : (acts : List SourceAct) → without 0 acts ≡ acts
-without_none [] = refl
-without_none (SourceAct.Fail ∷ acts) = refl
-without_none (SourceAct.Bytes bytes ∷ acts) = refl
+without_none acts = grind arith
 
 -- a part of an act
 pub pass_within : (acts : List SourceAct) (before n : ℕ) → n < length (bytes_of acts) - before → without (before + n) acts ≡ left_of_source n (without before acts)
@@ -40,9 +38,7 @@ pass_over (SourceAct.Bytes bytes ∷ acts) before n over =
 
 -- how many bytes a call of the source moves, where it fails or not
 pub moved-given : (most : ℕ) (acts : List SourceAct) → moved_by (given most acts) ≡ min most (length (bytes_of acts))
-moved-given most [] = omega arith
-moved-given most (SourceAct.Fail ∷ acts) = omega arith
-moved-given most (SourceAct.Bytes bytes ∷ acts) = refl
+moved-given most acts = grind arith
 
 -- what the source gave is at the front of what it was lent
 pub source-called : (p q : Pipe) (n : ℕ) (held rest : List SourceAct) → q ≡ lending q.lent (record p { source = held }) → n ≡ min (length q.lent) (length (bytes_of p.source))

@@ -1,6 +1,6 @@
 -- At each step the writer publishes only where its call has not found the
 -- pipe closed.
-use Rattle.std.proofs.Common.{◌≡◌, ℕ, ◌-◌, List, [], ◌∷◌, ◌++◌, length, Bool, true, false, Option, None, Some, ◌==◌, is_some, refl, sym, ap, subst, ◌∙◌}
+use Rattle.std.proofs.Common.{◌≡◌, ℕ, ◌-◌, List, [], ◌∷◌, ◌++◌, length, Bool, true, false, Option, None, Some, ◌==◌, is_some, refl, sym, ap, subst, ◌∙◌, arith}
 use Rattle.std.specs.Bool.{⊤}
 use Rattle.piper_machine.specs.Types.{AfterWrite, Purpose, Side, Call, Step, Answer, Event, Context, Form, ReadPoint, WritePoint, Reader, Writer, Begin, Go, Put, Published}
 use Rattle.piper_machine.specs.Open.{is_granted}
@@ -84,13 +84,11 @@ is_storing (WritePoint.StoreTail n next) = true
 is_storing point = false
 
 unstored : (point : WritePoint) (saw : Bool) → is_ordinary point ≡ true → is_storing point ≡ true → saw ≡ false
-unstored (WritePoint.StoreTail n next) saw ordinary storing = absurd (cc)
-unstored point saw ordinary storing = absurd (cc)
+unstored point saw ordinary storing = grind arith
 
 -- a round publishes only where its look at closed did not find it
 round-stores : (is_closed : Bool) (n : ℕ) (form : Form) (sum : ℕ) → is_storing (writer_rounds is_closed n form sum).point ≡ true → is_closed ≡ false
-round-stores true n form sum storing = absurd (cc)
-round-stores false n form sum storing = refl
+round-stores is_closed n form sum storing = grind arith
 
 abbrev logged : List ℕ → WritePoint → Pipe → List Event
 logged offered point p = logged_of Writer (write_action point) (offering offered (record p { writer = point }))

@@ -1,6 +1,6 @@
 -- What a side that runs alone depends on, and that its steps keep it.
 use Rattle.std.proofs.Common.{◌≡◌, ℕ, ◌+◌, ◌-◌, ◌<◌, ◌≤◌, List, [], ◌∷◌, take, length, Bool, true, false, Option, None, Some, ◌==◌, refl, arith, length-append, length-drop, length-take}
-use Rattle.piper_machine.specs.Types.{AfterRead, AfterWrite, DestAct, SideState, Answer, SourceAct, Form, Purpose, ReadPoint, WritePoint, Found, Destination, Reader, Writer, Busy, Try, Polling, Unread as unread, IndexLoaded as index_loaded, Granted as granted, Waker as waker, Moved as moved, Slice, Acts}
+use Rattle.piper_machine.specs.Types.{AfterRead, AfterWrite, SideState, Answer, SourceAct, Form, Purpose, ReadPoint, WritePoint, Found, Destination, Reader, Writer, Busy, Try, Polling, Unread as unread, IndexLoaded as index_loaded, Granted as granted, Waker as waker, Moved as moved}
 use Rattle.piper_protocol.specs.Index.{offset_of}
 use Rattle.piper_protocol.specs.Table.{Next, head_store, moved_in, read_action, read_after, reader_moved, tail_store, write_action, write_after, writer_is_open, writer_moved}
 use Rattle.piper_protocol.specs.declared.table.Found.TheVariants.{Flag as flag, Failed as failed}
@@ -69,10 +69,7 @@ pub record ReaderValid (point : ReadPoint) (p : Pipe) : Type 0 where
   pub store : head_store point ≤ peeked_count p
 
 pub taken-within : (destination : Destination) (most : ℕ) → moved_in (found_of (taken most destination)) ≤ most
-taken-within (Slice size) most = omega arith
-taken-within (Acts []) most = omega arith
-taken-within (Acts (DestAct.Fail ∷ acts)) most = omega arith
-taken-within (Acts (DestAct.Take size ∷ acts)) most = omega arith
+taken-within destination most = grind arith
 
 pub reader-settled : (point : ReadPoint) (p : Pipe) → reader_state point ≡ Busy → let s = read_step point p in IsSettled s.answer (reader_state s.pipe.reader)
 reader-settled ReadPoint.Idle p busy = absurd (cc)
@@ -125,29 +122,16 @@ writer_moves-on false n form sum = record { settled = refl; store = omega arith;
 
 -- of the first look of a fill: what it finds open is open
 opens-on : (is_closed none : Bool) (l : Purpose) → saw_open (writer_is_open is_closed none l).point ≡ true → is_closed ≡ false
-opens-on true none l saw = absurd (cc)
-opens-on false none l saw = refl
+opens-on is_closed none l saw = grind arith
 
 opens-settled : (is_closed none : Bool) (l : Purpose) → let next = writer_is_open is_closed none l in IsSettled next.answer (writer_state next.point)
-opens-settled true none l = λ none. absurd (cc)
-opens-settled false true l = refl
-opens-settled false false Purpose.Poll = refl
-opens-settled false false (Purpose.Copy Try) = refl
-opens-settled false false (Purpose.Copy (Polling drawn)) = refl
+opens-settled is_closed none l = grind arith
 
 opens-store : (is_closed none : Bool) (l : Purpose) → tail_store (writer_is_open is_closed none l).point ≡ 0
-opens-store true none l = refl
-opens-store false true l = refl
-opens-store false false Purpose.Poll = refl
-opens-store false false (Purpose.Copy Try) = refl
-opens-store false false (Purpose.Copy (Polling drawn)) = refl
+opens-store is_closed none l = grind arith
 
 opens-plain : (is_closed none : Bool) (l : Purpose) → closes_round (writer_is_open is_closed none l).point ≡ false
-opens-plain true none l = refl
-opens-plain false true l = refl
-opens-plain false false Purpose.Poll = refl
-opens-plain false false (Purpose.Copy Try) = refl
-opens-plain false false (Purpose.Copy (Polling drawn)) = refl
+opens-plain is_closed none l = grind arith
 
 writes-on : (capacity room : ℕ) (point : WritePoint) (found : Found) → writer_state point ≡ Busy → is_first point ≡ false → closes_round point ≡ false → IsNextWrite point found (write_after capacity room point found)
 writes-on capacity room (WritePoint.LookClosed l) found busy later plain = absurd (cc)

@@ -3,7 +3,7 @@
 use Rattle.std.proofs.Common.{◌≡◌, ℕ, List, [], ◌∷◌, ◌++◌, Bool, true, false, Option, None, Some, refl, sym, ap, ◌∙◌, arith}
 use Rattle.std.specs.Bool.{⊤}
 use Rattle.std.proofs.lemmas.Bool.Decides.{nat_tests}
-use Rattle.piper_machine.specs.Types.{Side, OpenCall, Query, Answer, Event, Context, Form, Purpose, ReadPoint, WritePoint, Reader, Writer, Memory, Try, Polling}
+use Rattle.piper_machine.specs.Types.{Side, OpenCall, Query, Answer, Event, Context, Form, Purpose, ReadPoint, WritePoint, Memory, Try, Polling}
 use Rattle.piper_machine.specs.Log.{answer_event}
 use Rattle.piper_protocol.specs.Table.{query_answer, look_answer, count_answer}
 use Rattle.piper_machine.specs.Pipe.{Pipe}
@@ -81,12 +81,10 @@ hears-it None w h = absurd (cc)
 hears-it (Some waker) w h = called-it waker w (cc)
 
 pub hears-handed : (name : Option ℕ) (w : Wait) → (hears name w).handed ≡ w.handed
-hears-handed None w = refl
-hears-handed (Some waker) w = refl
+hears-handed name w = grind arith
 
 pub hears-pending : (name : Option ℕ) (w : Wait) → (hears name w).is_pending ≡ w.is_pending
-hears-pending None w = refl
-hears-pending (Some waker) w = refl
+hears-pending name w = grind arith
 
 -- a step of the side itself, or of the other, that touches neither slot nor errand
 pub rewatch : {w v : Wait} {slot slot_after held held_after : Option ℕ} {e : Errand} (calm calm_after : Type 0) → slot_after ≡ slot → held_after ≡ held → v.handed ≡ w.handed
@@ -197,22 +195,16 @@ awaits (Purpose.Copy (Polling is_drawn)) w slot calm e h = h
 
 -- want of memory makes nobody wait
 pub refused-noted : (l : Purpose) (w : Wait) → noted (look_answer l Memory) w ≡ w
-refused-noted Purpose.Poll w = refl
-refused-noted (Purpose.Copy Try) w = refl
-refused-noted (Purpose.Copy (Polling is_drawn)) w = refl
+refused-noted l w = grind arith
 
 -- nor does a count, or a failure
 pub counted-noted : (form : Form) (sum : ℕ) (w : Wait) → noted (count_answer form sum) w ≡ w
-counted-noted Try sum w = refl
-counted-noted (Polling is_drawn) sum w = refl
+counted-noted form sum w = grind arith
 
 -- what one side's events are to the other's wait
 
 passed_by : (side acting : Side) (own w : Wait) → is_same side acting ≡ false → if_same side acting own w ≡ w
-passed_by Reader Writer own w e = refl
-passed_by Writer Reader own w e = refl
-passed_by Reader Reader own w e = absurd (cc)
-passed_by Writer Writer own w e = absurd (cc)
+passed_by side acting own w e = grind arith
 
 pub wait-append : (side : Side) (w : Wait) (es fs : List Event) → wait_from side w (es ++ fs) ≡ wait_from side (wait_from side w es) fs
 wait-append side w [] fs = refl
@@ -235,8 +227,7 @@ registration-passes side acting w None apart = refl
 registration-passes side acting w (Some cx) apart = registered-passes side acting w cx.luck.register_granted cx.waker apart
 
 pub wake-heard : (side : Side) (w : Wait) (name : Option ℕ) → wait_from side w (wake_of name) ≡ hears name w
-wake-heard side w None = refl
-wake-heard side w (Some waker) = refl
+wake-heard side w name = grind arith
 
 -- a yield calls the caller's own waker, if its clone is granted
 abbrev pub named_if : Bool → ℕ → Option ℕ
@@ -248,8 +239,7 @@ yielded None = None
 yielded (Some cx) = named_if cx.luck.yield_granted cx.waker
 
 woken_if-heard : (side : Side) (w : Wait) (granted : Bool) (waker : ℕ) → wait_from side w (woken_if granted waker) ≡ hears (named_if granted waker) w
-woken_if-heard side w false waker = refl
-woken_if-heard side w true waker = refl
+woken_if-heard side w granted waker = grind arith
 
 pub yield-heard : (side : Side) (w : Wait) (context : Option Context) → wait_from side w (yield_of context) ≡ hears (yielded context) w
 yield-heard side w None = refl

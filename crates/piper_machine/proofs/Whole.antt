@@ -134,16 +134,14 @@ module _ (cx : Context) (acts : List SourceAct) (p : Pipe) where
   fill-acts = fills p.is_closed (p.room == 0) (p.capacity - length p.unread == 0) cx.luck.register_granted (cx.luck.draw == 0) cx.luck.yield_granted refl refl refl refl refl refl
 
 unfailing-source : (is_past : Bool) (n : ℕ) → source_answer is_past false n ≡ Ok n
-unfailing-source true n = refl
-unfailing-source false n = refl
+unfailing-source is_past n = grind arith
 
 pub given-slice : (bytes : List ℕ) → bytes_given (SourceAct.Bytes bytes ∷ []) ≡ bytes
 given-slice [] = refl
 given-slice (byte ∷ bytes) = ap (λ (xs : List ℕ). byte ∷ xs) (append-nil bytes)
 
 pub failure-slice : (bytes : List ℕ) → ends_in_failure (SourceAct.Bytes bytes ∷ []) ≡ false
-failure-slice [] = refl
-failure-slice (byte ∷ bytes) = refl
+failure-slice bytes = grind arith
 
 -- acts that give the bytes of a slice, and do not fail
 module _ (acts : List SourceAct) (bytes : List ℕ) (gives : bytes_given acts ≡ bytes) (works : ends_in_failure acts ≡ false) where

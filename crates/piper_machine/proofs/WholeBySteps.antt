@@ -31,12 +31,10 @@ HoldsNothing Reader p = p.reader ≡ ReadPoint.Idle → (p.reader_call ≡ no_ca
 HoldsNothing Writer p = p.writer ≡ WritePoint.Idle → (p.writer_call ≡ no_call) × (p.source ≡ [])
 
 reader-idle : (point : ReadPoint) → cannot_begin (reader_state point) ≡ None → point ≡ ReadPoint.Idle
-reader-idle ReadPoint.Idle none = refl
-reader-idle point none = absurd (cc)
+reader-idle point none = grind arith
 
 writer-idle : (point : WritePoint) → cannot_begin (writer_state point) ≡ None → point ≡ WritePoint.Idle
-writer-idle WritePoint.Idle none = refl
-writer-idle point none = absurd (cc)
+writer-idle point none = grind arith
 
 idle-of : (side : Side) (p : Pipe) → cannot_begin (state_of side p) ≡ None → IsIdle side p
 idle-of Reader p none = reader-idle p.reader none
@@ -65,16 +63,10 @@ pub record IsOpened (c : Call) (lent others : List ℕ) (p : Pipe) : Type 0 wher
   pub few : left_of (side_of c) (opened lent c (begun p)) ≤ most_steps (found_alone (side_of c) p) c
 
 looks-busy : (knows_none : Bool) (l : Purpose) → reader_state (reader_looks_for knows_none l) ≡ Busy
-looks-busy true l = refl
-looks-busy false Purpose.Poll = refl
-looks-busy false (Purpose.Copy Try) = refl
-looks-busy false (Purpose.Copy (Polling drawn)) = refl
+looks-busy knows_none l = grind arith
 
 looks-store : (knows_none : Bool) (l : Purpose) → head_store (reader_looks_for knows_none l) ≡ 0
-looks-store true l = refl
-looks-store false Purpose.Poll = refl
-looks-store false (Purpose.Copy Try) = refl
-looks-store false (Purpose.Copy (Polling drawn)) = refl
+looks-store knows_none l = grind arith
 
 -- the look of a drain, and its rounds
 looks-few : (knows_none : Bool) (form : Form) (unread known : ℕ) → (known == 0) ≡ knows_none → read_steps unread known (reader_looks_for knows_none (Purpose.Copy form)) ≤ 6 + 4 * (if known == 0 then unread else known)
@@ -83,12 +75,10 @@ looks-few false Try unread known test = let is = ap (λ (b : Bool). if b then un
 looks-few false (Polling drawn) unread known test = let is = ap (λ (b : Bool). if b then unread else known) test in omega arith
 
 poll-few : (knows_none : Bool) (capacity known : ℕ) → read_steps capacity known (reader_looks_for knows_none Purpose.Poll) ≤ 5
-poll-few true capacity known = omega arith
-poll-few false capacity known = omega arith
+poll-few knows_none capacity known = grind arith
 
 test-holds : (test : Bool) (r : StepRefusal) → unless test r ≡ None → test ≡ true
-test-holds true r none = refl
-test-holds false r none = absurd (cc)
+test-holds test r none = grind arith
 
 within-of : (n most : ℕ) → nat_le n most ≡ true → n ≤ most
 within-of n most test = grind (arith, nat_tests)
@@ -133,8 +123,7 @@ or_else-second None second none = none
 or_else-second (Some r) second none = absurd (cc)
 
 or_else-first : (first second : Option StepRefusal) → or_else first second ≡ None → first ≡ None
-or_else-first None second none = refl
-or_else-first (Some r) second none = absurd (cc)
+or_else-first first second none = grind arith
 
 -- of a call that is opened: its side is idle, and it asks for no more than there is
 begins-idle : (c : Call) (p : Pipe) → refusal_of (Begin c) p ≡ None → cannot_begin (state_of (side_of c) p) ≡ None
@@ -198,8 +187,7 @@ pub record IsPlainOpened (c : Call) (p q : Pipe) : Type 0 where
   pub rest : alone_of (side_of c) q ≡ whole [] c p
 
 polls-plain : (knows_none : Bool) → (is_draining (reader_looks_for knows_none Purpose.Poll) ≡ false) × (read_wakes (reader_looks_for knows_none Purpose.Poll) ≡ 0)
-polls-plain true = (refl, refl)
-polls-plain false = (refl, refl)
+polls-plain knows_none = grind arith
 
 is-plain : (c : Call) (lent : List ℕ) (p : Pipe) → is_plain c ≡ true → let q = opened lent c p in (is_lending c ≡ false) × (is_copying (side_of c) q ≡ false) × (wakes_of (side_of c) q ≤ 2)
 unfolding is_lending

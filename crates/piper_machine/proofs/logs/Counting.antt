@@ -3,7 +3,7 @@ use Rattle.std.proofs.Common.{◌≡◌, ℕ, ◌+◌, ◌≤◌, List, [], ◌�
 use Rattle.std.proofs.lemmas.List.{take-append-drop, take-append-le}
 use Rattle.std.proofs.Math.Seq.{take-append_seam, drop-append_seam}
 use Rattle.piper_machine.specs.Types.{Reader, Writer}
-use Rattle.piper_machine.specs.logs.Line.{Line, stored_head, stored_tail}
+use Rattle.piper_machine.specs.logs.Line.{Line, stored_head}
 use Rattle.piper_machine.specs.logs.Moved.{consumed, consumed_by, published, published_by}
 use Rattle.piper_machine.specs.logs.OneList.{AreInOrder, AreOrdered, By, by, Finds, FindsCount, Words, did, words_after, words_of}
 use Rattle.piper_machine.specs.logs.OneRun.{AreCountedLogs, IsOneRun}
@@ -25,12 +25,10 @@ head-more : (line : Line) (s : Words) → (words_after line s).head ≡ s.head +
 head-more line s = grind arith
 
 reader-publishes-none : (capacity : ℕ) (line : Line) (r : ReaderAt) → IsReaderNext capacity line r → published_by line ≡ []
-reader-publishes-none capacity (stored_tail bytes) r next = absurd next
-reader-publishes-none capacity line r next = refl
+reader-publishes-none capacity line r next = grind arith
 
 writer-consumes-none : (capacity : ℕ) (line : Line) (w : WriterAt) → IsWriterNext capacity line w → consumed_by line ≡ []
-writer-consumes-none capacity (stored_head bytes) w next = absurd next
-writer-consumes-none capacity line w next = refl
+writer-consumes-none capacity line w next = grind arith
 
 -- what begins a list that goes on from another
 first-of : (xs rest ys zs : List ℕ) → xs ++ rest ≡ ys ++ zs → length xs ≤ length ys → xs ++ drop (length xs) ys ≡ ys

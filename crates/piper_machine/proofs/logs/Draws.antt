@@ -1,5 +1,5 @@
 -- The table goes on in the same way, whatever a copy that has still to draw will draw.
-use Rattle.std.proofs.Common.{◌≡◌, ℕ, ◌≤◌, [], Bool, Option, None, Some, refl, arith}
+use Rattle.std.proofs.Common.{◌≡◌, ℕ, ◌≤◌, [], Bool, Option, None, Some, arith}
 use Rattle.piper_machine.specs.Types.{Action, Answer, Found, ReadPoint, Reader}
 use Rattle.piper_protocol.specs.Table.{Next, read_action, read_after, head_store, moved_in}
 use Rattle.piper_machine.specs.Log.{answer_event}
@@ -11,13 +11,7 @@ abbrev pub reader_next : Option Bool → Bool → Next ReadPoint → Next ReadPo
 reader_next draw b next = record { point = reader_point draw b next.point; answer = next.answer }
 
 pub action-same : (draw : Option Bool) (b : Bool) (point : ReadPoint) → read_action (reader_point draw b point) ≡ read_action point
-action-same (Some fact) b point = refl
-action-same None b (ReadPoint.LookTail l) = refl
-action-same None b (ReadPoint.LookRegister l) = refl
-action-same None b (ReadPoint.LookClosed l) = refl
-action-same None b (ReadPoint.LookTailAgain l was_closed) = refl
-action-same None b (ReadPoint.LookTake l) = refl
-action-same None b point = refl
+action-same draw b point = grind arith
 
 -- the step leads to the same, unless the copy has still to draw
 pub next-same : (capacity : ℕ) (draw : Option Bool) (b : Bool) (point : ReadPoint) (f : Found) → (read_action point ≡ Action.Take Reader → HasDrawn point draw)
@@ -42,5 +36,4 @@ own-same capacity point f g e = grind arith
 
 -- no call returns before it registers
 pub stays : (capacity : ℕ) (point : ReadPoint) (b : Bool) → read_action point ≡ Action.Register → answer_event Reader (read_after capacity point (Found.Waker b)).answer ≡ []
-stays capacity (ReadPoint.LookRegister l) b e = refl
-stays capacity point b e = absurd (cc)
+stays capacity point b e = grind arith

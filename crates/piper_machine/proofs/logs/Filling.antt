@@ -1,24 +1,14 @@
 -- A list of the accesses of both sides, filled up with the lines that are no access.
 use Rattle.std.proofs.Common.{◌≡◌, List, [], ◌∷◌, Bool, true, false, refl, sym, ap, subst, ◌∙◌, arith}
 use Rattle.piper_machine.specs.Types.{Side, Reader, Writer}
-use Rattle.piper_machine.specs.logs.Line.{Line, met_head, met_tail, loaded_head, loaded_tail, loaded_closed, stored_head, stored_tail, stored_closed, loaded_slot, swapped}
+use Rattle.piper_machine.specs.logs.Line.{Line, stored_head}
 use Rattle.piper_machine.specs.logs.OneList.{AreListed, AreOrdered, FindsCount, By, by, AreOneList, Finds, Words, accesses, did, is_access, is_same, kept_if, words_after, words_of}
 
 quiet : (line : Line) (s : Words) → is_access line ≡ false → words_after line s ≡ s
 quiet line s e = grind arith
 
 finds-any : (line : Line) (s : Words) → is_access line ≡ false → Finds line s
-finds-any (loaded_head count) s e = absurd cc
-finds-any (loaded_tail count) s e = absurd cc
-finds-any (met_head count) s e = absurd cc
-finds-any (met_tail count) s e = absurd cc
-finds-any (loaded_closed b) s e = absurd cc
-finds-any (stored_head bytes) s e = absurd cc
-finds-any (stored_tail bytes) s e = absurd cc
-finds-any stored_closed s e = absurd cc
-finds-any (loaded_slot side b) s e = absurd cc
-finds-any (swapped side old left) s e = absurd cc
-finds-any line s e = tt
+finds-any line s e = grind arith
 
 module _ (finds_in : Line → Words → Type 0) (any : (line : Line) (s : Words) → is_access line ≡ false → finds_in line s) (side other : Side) (is_own : is_same side side ≡ true) (is_other : is_same other side ≡ false) where
   -- all lines of this side, among the turns

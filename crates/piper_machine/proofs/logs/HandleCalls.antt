@@ -223,5 +223,4 @@ goes-true (Copy (Polling true)) k c Own h = h.0
 goes-true (Copy (Polling false)) k c Own h = h.1
 
 pub some-is : (draw : Option Bool) → is_some draw ≡ true → IsSome draw
-some-is (Some b) e = refl
-some-is None e = absurd cc
+some-is draw e = grind arith

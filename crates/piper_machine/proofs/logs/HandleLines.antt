@@ -1,5 +1,5 @@
 -- The accesses and the bytes of a handle's log are those of its lines.
-use Rattle.std.proofs.Common.{◌≡◌, ℕ, List, [], ◌∷◌, ◌++◌, Bool, true, false, Option, None, Some, refl, ap, ◌∙◌, append-nil}
+use Rattle.std.proofs.Common.{◌≡◌, ℕ, List, [], ◌∷◌, ◌++◌, Bool, true, false, Option, None, Some, refl, ap, ◌∙◌, append-nil, arith}
 use Rattle.piper_machine.specs.Types.{Action, Found, Side, Reader, Writer}
 use Rattle.piper_protocol.specs.declared.log.Note.{Note}
 use Rattle.piper_protocol.specs.Lines as handle
@@ -14,14 +14,7 @@ use Rattle.piper_machine.specs.logs.Reading.{AreReaderRuns}
 use Rattle.piper_machine.specs.logs.Writing.{AreWriterRuns}
 
 is-one : (a : shared.Access) (rest : List Line) → kept_if (is_access (line_of a)) (line_of a) rest ≡ line_of a ∷ rest
-is-one (shared.loaded_head count) rest = refl
-is-one (shared.loaded_tail count) rest = refl
-is-one (shared.loaded_closed is_closed) rest = refl
-is-one (shared.stored_head bytes) rest = refl
-is-one (shared.stored_tail bytes) rest = refl
-is-one shared.stored_closed rest = refl
-is-one (shared.loaded_slot side is_filled) rest = refl
-is-one (shared.swapped side old left) rest = refl
+is-one a rest = grind arith
 
 -- a step that is no access
 record IsBeside (line : Line) : Type 0 where
@@ -30,14 +23,7 @@ record IsBeside (line : Line) : Type 0 where
   publishes_none : published_by line ≡ []
 
 made-beside : (given : List ℕ) (before : List handle.Line) (action : Action) (found : Found) → IsBeside (line_made given before action found)
-made-beside given before Action.Register found = record { accesses_none = refl; consumes_none = refl; publishes_none = refl }
-made-beside given before Action.Wake found = record { accesses_none = refl; consumes_none = refl; publishes_none = refl }
-made-beside given before Action.Yield found = record { accesses_none = refl; consumes_none = refl; publishes_none = refl }
-made-beside given before Action.CallDestination (Found.Moved n) = record { accesses_none = refl; consumes_none = refl; publishes_none = refl }
-made-beside given before Action.CallDestination found = record { accesses_none = refl; consumes_none = refl; publishes_none = refl }
-made-beside given before Action.CallSource (Found.Moved n) = record { accesses_none = refl; consumes_none = refl; publishes_none = refl }
-made-beside given before Action.CallSource found = record { accesses_none = refl; consumes_none = refl; publishes_none = refl }
-made-beside given before action found = record { accesses_none = refl; consumes_none = refl; publishes_none = refl }
+made-beside given before action found = grind arith
 
 -- a note adds nothing that is shared
 record AddsNone (added : Option Line) : Type 0 where

@@ -35,20 +35,13 @@ stage point = stays
 -- the table leads to these stages
 
 pub stage-found : (l : Purpose) → stage (reader_found l) ≡ found l
-stage-found Poll = refl
-stage-found (Copy Try) = refl
-stage-found (Copy (Polling is_drawn)) = refl
+stage-found l = grind arith
 
 pub stage-none : (l : Purpose) → stage (reader_found_none l) ≡ found_none l
-stage-none Poll = refl
-stage-none (Copy Try) = refl
-stage-none (Copy (Polling is_drawn)) = refl
+stage-none l = grind arith
 
 pub stage-true : (l : Purpose) → stage (reader_is_true l).point ≡ is_true l
-stage-true Poll = refl
-stage-true (Copy Try) = refl
-stage-true (Copy (Polling true)) = refl
-stage-true (Copy (Polling false)) = refl
+stage-true l = grind arith
 
 pub stage-rests : (point : ReadPoint) → read_action point ≡ Action.Rest → stage point ≡ stays
 stage-rests point e = grind arith
@@ -92,8 +85,7 @@ is_store (ReadPoint.StoreHead n next) = true
 is_store point = false
 
 pub stores-none : (capacity : ℕ) (given : List ℕ) (point : ReadPoint) (start : ℕ) (own : List ℕ) → is_store point ≡ false → Stores capacity given point start own
-stores-none capacity given (ReadPoint.StoreHead n next) start own e = absurd cc
-stores-none capacity given point start own e = tt
+stores-none capacity given point start own e = grind arith
 
 abbrev pub row : ReadPoint → Found → Next ReadPoint
 row point f = read_row (goes_on ReadPoint.Idle) point f

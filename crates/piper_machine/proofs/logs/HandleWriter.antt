@@ -39,20 +39,13 @@ stage point = stays
 -- the table leads to these stages
 
 pub stage-found : (l : Purpose) → stage (writer_found l) ≡ found l
-stage-found Poll = refl
-stage-found (Copy Try) = refl
-stage-found (Copy (Polling is_drawn)) = refl
+stage-found l = grind arith
 
 pub stage-none : (l : Purpose) → stage (writer_found_none l) ≡ found_none l
-stage-none Poll = refl
-stage-none (Copy Try) = refl
-stage-none (Copy (Polling is_drawn)) = refl
+stage-none l = grind arith
 
 pub stage-true : (l : Purpose) → stage (writer_is_true l).point ≡ is_true l
-stage-true Poll = refl
-stage-true (Copy Try) = refl
-stage-true (Copy (Polling true)) = refl
-stage-true (Copy (Polling false)) = refl
+stage-true l = grind arith
 
 pub stage-rests : (point : WritePoint) → write_action point ≡ Action.Rest → stage point ≡ stays
 stage-rests point e = grind arith
@@ -108,9 +101,7 @@ is_store (WritePoint.RoundClosed n form sum) = true
 is_store point = false
 
 pub stores-none : (capacity : ℕ) (given : List ℕ) (point : WritePoint) (end : ℕ) (bytes : List ℕ) → is_store point ≡ false → Stores capacity given point end bytes
-stores-none capacity given (WritePoint.StoreTail n next) end bytes e = absurd cc
-stores-none capacity given (WritePoint.RoundClosed n form sum) end bytes e = absurd cc
-stores-none capacity given point end bytes e = tt
+stores-none capacity given point end bytes e = grind arith
 
 -- a round goes on to its store
 abbrev pub is_given : WritePoint → Bool

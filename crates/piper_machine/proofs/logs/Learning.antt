@@ -127,8 +127,7 @@ write-withdraws (WritePoint.LookRegister l) p e w to h = record { waiting = λ p
 write-withdraws point p e w to h = absurd (grind arith)
 
 read-away : (point : ReadPoint) (c : OpenCall) → read_action point ≡ Action.Register → read_errand point c ≡ away
-read-away (ReadPoint.LookRegister l) c to = refl
-read-away point c to = absurd (cc)
+read-away point c to = grind arith
 
 write-away : (point : WritePoint) (c : OpenCall) → write_action point ≡ Action.Register → write_errand point c ≡ away
 write-away (WritePoint.LookRegister l) c to = refl

@@ -1,5 +1,5 @@
 -- One list of accesses is one of lines. Assumes nothing.
-use Rattle.std.proofs.Common.{◌≡◌, Bool, true, false, List, [], ◌∷◌, refl, sym, ap, ◌∙◌, subst}
+use Rattle.std.proofs.Common.{◌≡◌, Bool, List, [], ◌∷◌, refl, sym, ap, ◌∙◌, subst, arith}
 use Rattle.piper_machine.specs.Types.{Side, Reader, Writer}
 use Rattle.piper_protocol.specs.OneList as handle
 use Rattle.piper_machine.specs.logs.Line.{Line}
@@ -11,14 +11,7 @@ lined [] = []
 lined (by side access ∷ before) = by side (line_of access) ∷ lined before
 
 same_after : (a : handle.Access) (s : Words) → words_after (line_of a) s ≡ handle.words_after a s
-same_after (handle.loaded_head count) s = refl
-same_after (handle.loaded_tail count) s = refl
-same_after (handle.loaded_closed is_closed) s = refl
-same_after (handle.stored_head bytes) s = refl
-same_after (handle.stored_tail bytes) s = refl
-same_after handle.stored_closed s = refl
-same_after (handle.loaded_slot side is_filled) s = refl
-same_after (handle.swapped side old left) s = refl
+same_after a s = grind arith
 
 finds : (a : handle.Access) (s : Words) → handle.FindsWords a s → FindsCount (line_of a) s
 finds (handle.loaded_head count) s e = e
@@ -41,8 +34,7 @@ ordered [] o = tt
 ordered (by side a ∷ before) o = (subst (FindsCount (line_of a)) (sym (same_words before)) (finds a (handle.words_of before) o.0), ordered before o.1)
 
 kept : (b : Bool) (a : handle.Access) (rest : List handle.Access) → kept_if b (line_of a) (lines_of rest) ≡ lines_of (kept_if b a rest)
-kept true a rest = refl
-kept false a rest = refl
+kept b a rest = grind arith
 
 did_lines : (side : Side) (turns : List (By handle.Access)) → did side (lined turns) ≡ lines_of (did side turns)
 unfolding lined

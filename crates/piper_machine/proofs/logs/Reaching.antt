@@ -199,8 +199,7 @@ module _ (capacity : ℕ) where
         }
 
   both-false : (a b : Bool) → or a b ≡ false → (a ≡ false) × (b ≡ false)
-  both-false true b e = absurd cc
-  both-false false b e = (refl, e)
+  both-false a b e = grind arith
 
   -- if neither side did such a thing, nothing such was done
   pub none-beyond : (turns : List (By Line)) → goes_beyond Reader capacity (did Reader turns) ≡ false → goes_beyond Writer capacity (did Writer turns) ≡ false → beyond_among turns ≡ false

@@ -19,16 +19,13 @@ module _ (round n : ℕ) (acts : List DestAct) where
   found-taken (Some size) may = ap Found.Moved (sym may)
 
 pub left-failed : (round : ℕ) (acts : List DestAct) (size : Option ℕ) → size ≡ None → left_of_destination round (destination_at size (DestAct.Fail ∷ acts)) ≡ destination_at size acts
-left-failed round acts None e = refl
-left-failed round acts (Some size) e = absurd cc
+left-failed round acts size e = grind arith
 
 pub found-failed : (round : ℕ) (acts : List DestAct) (size : Option ℕ) → size ≡ None → found_of (taken round (destination_at size (DestAct.Fail ∷ acts))) ≡ Found.Failed
-found-failed round acts None e = refl
-found-failed round acts (Some size) e = absurd cc
+found-failed round acts size e = grind arith
 
 pub good-draw : (b : Bool) → nat_lt (number_of b) 100 ≡ true
-good-draw true = refl
-good-draw false = refl
+good-draw b = grind arith
 
 pub idle-same : (draw : Option Bool) (b : Bool) (point : ReadPoint) → point ≡ ReadPoint.Idle → reader_point draw b point ≡ ReadPoint.Idle
 idle-same draw b point e = grind arith
@@ -43,10 +40,7 @@ pub tries-at : (none b : Bool) → reader_drawn b (reader_looks_for none (Copy T
 tries-at none b = grind arith
 
 pub copies-at : (none b : Bool) → reader_drawn b (reader_looks_for none (Copy (Polling false))) ≡ reader_looks_for none (Copy (Polling (number_of b == 0)))
-copies-at true true = refl
-copies-at true false = refl
-copies-at false true = refl
-copies-at false false = refl
+copies-at none b = grind arith
 
 pub stores-at : (draw : Option Bool) (b : Bool) (n : ℕ) → reader_point draw b (ReadPoint.StoreHead n AfterRead.Answer) ≡ ReadPoint.StoreHead n AfterRead.Answer
 stores-at draw b n = grind arith

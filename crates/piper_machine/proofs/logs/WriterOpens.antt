@@ -19,8 +19,7 @@ use Rattle.piper_machine.proofs.logs.Fitting.{length-unread}
 use Rattle.piper_machine.proofs.logs.Joint.{Gives, MayLend, Chance, Fits, number_of, pipe_at, source_at, writer_point}
 
 pub number-is : (b : Bool) → b ≡ (number_of b == 0)
-number-is true = refl
-number-is false = refl
+number-is b = grind arith
 
 pub stores-at : (draw : Option Bool) (b : Bool) (n : ℕ) → writer_point draw b (WritePoint.StoreTail n AfterWrite.Answer) ≡ WritePoint.StoreTail n AfterWrite.Answer
 stores-at draw b n = grind arith
@@ -92,8 +91,7 @@ drop-all xs = ap (drop (length xs)) (sym (append-nil xs)) ∙ drop-append_seam x
 
 -- what is left of bytes that were handed over
 rest-is : (bytes : List ℕ) (acts : List SourceAct) → unspent bytes [] ≡ source_at (source_of bytes) acts
-rest-is [] acts = refl
-rest-is (byte ∷ bytes) acts = refl
+rest-is bytes acts = grind arith
 
 -- what a source that is lent as many places gives, and what is left of it
 module _ (lent : ℕ) (sources : List SourceAct) (bytes : List ℕ) where
@@ -135,8 +133,7 @@ open-pipe true n m within = (omega arith, λ x. omega arith)
 open-pipe false n m within = (within, λ x. absurd cc)
 
 open-least : (shut : Bool) (m : ℕ) → shut ≡ false → unless shut m ≡ m
-open-least true m e = absurd cc
-open-least false m e = refl
+open-least shut m e = grind arith
 
 pub lends-these : (capacity n : ℕ) (w : WriterAt) → n ≤ lendable capacity w → MayLend capacity n w n
 lends-these capacity n w within =
