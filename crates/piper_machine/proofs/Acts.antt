@@ -3,34 +3,12 @@ use Rattle.std.proofs.Common.{◌≡◌, ℕ, ◌+◌, ◌-◌, ◌<◌, ◌≤�
 use Rattle.std.proofs.lemmas.List.{take-append-le, take-append-drop}
 use Rattle.std.proofs.Math.Seq.{take-append-add}
 use Rattle.std.proofs.lemmas.Bool.Decides.{nat_tests}
-use Rattle.piper_machine.specs.Types.{DestAct, SourceAct, Failed, Ready}
+use Rattle.piper_machine.specs.Types.{SourceAct, Failed, Ready}
 use Rattle.piper_machine.specs.Pipe.{Pipe}
-use Rattle.piper_machine.specs.Copy.{Copied, answered, filled, drained}
-use Rattle.piper_machine.specs.Scripted.{bytes_given, ends_in_failure, source_answer, fill_moves_more, taken_by, drain_moves_to}
+use Rattle.piper_machine.specs.Copy.{Copied, answered, filled}
+use Rattle.piper_machine.specs.Scripted.{bytes_given, ends_in_failure, source_answer, fill_moves_more}
 use Rattle.piper_machine.specs.Round.{unspent}
 use Rattle.piper_machine.proofs.Rounds.{filled-filled, filled_nothing}
-
-choose : (b : Bool) (x y : Copied (Result ℕ Failed)) → b ≡ false → (if b then x else y) ≡ y
-choose b x y e = grind arith
-
-choose_first : (b : Bool) (x y : Copied (Result ℕ Failed)) → b ≡ true → (if b then x else y) ≡ x
-choose_first b x y e = grind arith
-
-is_zero_not : (n : ℕ) → (n ≡ 0 → ⊥) → (n == 0) ≡ false
-is_zero_not n some = grind (arith, nat_tests)
-
-is_zero : (n : ℕ) → n ≡ 0 → (n == 0) ≡ true
-is_zero n none = grind (arith, nat_tests)
-
--- an act that takes some bytes
-pub take-goes_on : (most sum n : ℕ) (acts : List DestAct) (p : Pipe) → n ≡ taken_by most p → (n ≡ 0 → ⊥) → drain_moves_to (DestAct.Take most ∷ acts) sum p ≡ drain_moves_to acts (sum + n) (drained n p)
-take-goes_on most sum n acts p is some =
-    choose (taken_by most p == 0) _ _ (is_zero_not (taken_by most p) (λ h. some (is ∙ h)))
-    ∙ ap (λ k. drain_moves_to acts (sum + k) (drained k p)) (sym is)
-
--- an act that takes none ends the call
-pub take-ends : (most sum n : ℕ) (acts : List DestAct) (p : Pipe) → n ≡ taken_by most p → n ≡ 0 → drain_moves_to (DestAct.Take most ∷ acts) sum p ≡ answered (Ready (Ok sum)) p
-take-ends most sum n acts p is none = choose_first (taken_by most p == 0) _ _ (is_zero (taken_by most p) (sym is ∙ none))
 
 -- what a source gives fits, or does not
 fits : (room count : ℕ) → count ≤ room → nat_lt room count ≡ false
@@ -43,12 +21,10 @@ past-rest : (room first more : ℕ) → first ≤ room → nat_lt room (first + 
 past-rest room first more within = grind (arith, nat_tests)
 
 pub bytes_given-cons : (bytes : List ℕ) (acts : List SourceAct) → (length bytes ≡ 0 → ⊥) → bytes_given (SourceAct.Bytes bytes ∷ acts) ≡ bytes ++ bytes_given acts
-bytes_given-cons [] acts some = absurd (some refl)
-bytes_given-cons (byte ∷ bytes) acts some = refl
+bytes_given-cons bytes acts some = grind arith
 
 pub ends_in_failure-cons : (bytes : List ℕ) (acts : List SourceAct) → (length bytes ≡ 0 → ⊥) → ends_in_failure (SourceAct.Bytes bytes ∷ acts) ≡ ends_in_failure acts
-ends_in_failure-cons [] acts some = absurd (some refl)
-ends_in_failure-cons (byte ∷ bytes) acts some = refl
+ends_in_failure-cons bytes acts some = grind arith
 
 -- the rounds, by the bytes that are given and whether their end is a failure
 moved_by : ℕ → List ℕ → Bool → Pipe → Copied (Result ℕ Failed)
@@ -129,6 +105,3 @@ give-fails sum acts p unlent = by_bytes sum (SourceAct.Fail ∷ acts) p ∙ noth
 
 pub give-none : (sum : ℕ) (p : Pipe) → p.lent ≡ [] → fill_moves_more sum [] p ≡ answered (Ready (Ok sum)) p
 give-none sum p unlent = by_bytes sum [] p ∙ nothing_given sum false p unlent
-
-pub some_of : (n : ℕ) → (n == 0) ≡ false → n ≡ 0 → ⊥
-some_of n test none = absurd (let zero : (n == 0) ≡ true = is_zero n none in cc)

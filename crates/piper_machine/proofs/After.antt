@@ -2,19 +2,18 @@
 -- has seen of the close.
 use Rattle.std.proofs.Common.{◌≡◌, inl, inr, ℕ, zero, suc, List, [], length, take, Bool, true, false, Option, None, Some, ◌==◌, is_some, Result, Ok, Err, refl, sym, ◌∙◌, arith}
 use Rattle.std.specs.Bool.{⊤}
-use Rattle.piper_machine.specs.Types.{Side, Query, Answer, Event, Context, Failed, Form, Purpose, AfterRead, ReadPoint, Reader, Try, Polling}
+use Rattle.piper_machine.specs.Types.{Side, Query, Answer, Event, Context, Failed, Form, Purpose, AfterRead, ReadPoint, Reader}
 use Rattle.piper_machine.specs.Open.{is_granted, is_yield_granted}
-use Rattle.piper_protocol.specs.Table.{read_action, reader_looked, reader_looked_again, reader_registered, writer_taken, read_done, read_after, yield_answer, count_answer, reader_moved}
+use Rattle.piper_protocol.specs.Table.{read_action, reader_looked, reader_looked_again, reader_registered, writer_taken, read_done, read_after, yield_answer}
 use Rattle.piper_machine.specs.Log.{answer_event}
 use Rattle.piper_machine.specs.Pipe.{Pipe}
-use Rattle.piper_machine.specs.Action.{logged_of, registration_of, registration, wake_of, woken_if, yield_of, round_count}
+use Rattle.piper_machine.specs.Action.{logged_of, registration_of, wake_of, yield_of, round_count}
 use Rattle.piper_machine.specs.Step.{went}
 use Rattle.piper_machine.specs.Round.{taken, found_of}
 use Rattle.piper_machine.specs.End.{saw_closed_from}
-use Rattle.piper_machine.proofs.Queries.{query-holds}
 use Rattle.piper_machine.proofs.Ends.{found_at_tail, ended_from, IsFinalFrom, at-tail}
 use Rattle.piper_machine.proofs.Causes.{read_leaves, IsEnded, IsCaused, reader_after}
-use Rattle.piper_machine.proofs.Honesty.{loaded, saw_close, looks-unloaded, registers-unloaded, again-unloaded, true-unloaded, moved-unloaded, done-unloaded, take-unloaded}
+use Rattle.piper_machine.proofs.Honesty.{loaded, saw_close}
 use Rattle.piper_machine.proofs.ReaderWaits.{none_left, drop_none}
 
 -- a round of a copy moves bytes, so it is none of these
@@ -40,8 +39,7 @@ pub record Over (p : Pipe) : Type 0 where
   pub valid : is_over p.reader ≡ true
 
 pub take_none : (n : ℕ) (xs : List ℕ) → xs ≡ [] → take n xs ≡ []
-take_none zero xs h = refl
-take_none (suc n) xs h = rw h refl
+take_none n xs h = grind arith
 
 none_test : (xs : List ℕ) → xs ≡ [] → (length xs == 0) ≡ true
 none_test xs h = rw h refl
@@ -58,25 +56,14 @@ abbrev pub Quiet : Bool → Bool → List Event → Type 0
 Quiet saw ended es = IsFinalFrom saw ended es × (ended_from saw ended es ≡ ended) × (saw_closed_from Reader saw es ≡ saw)
 
 module _ (saw ended : Bool) where
-  registration-quiet : (side : Side) (granted : Bool) (name : ℕ) → Quiet saw ended (registration side granted name)
-  registration-quiet side true name = ((λ t. tt, tt), refl, refl)
-  registration-quiet side false name = (tt, refl, refl)
-
   pub context-quiet : (side : Side) (context : Option Context) → Quiet saw ended (registration_of side context)
-  context-quiet side None = (tt, refl, refl)
-  context-quiet side (Some cx) = registration-quiet side cx.luck.register_granted cx.waker
+  context-quiet side context = grind arith
 
   pub wake-quiet : (name : Option ℕ) → Quiet saw ended (wake_of name)
-  wake-quiet None = (tt, refl, refl)
-  wake-quiet (Some name) = ((λ t. tt, tt), refl, refl)
-
-  woken-quiet : (granted : Bool) (name : ℕ) → Quiet saw ended (woken_if granted name)
-  woken-quiet true name = ((λ t. tt, tt), refl, refl)
-  woken-quiet false name = (tt, refl, refl)
+  wake-quiet name = grind arith
 
   pub yield-quiet : (context : Option Context) → Quiet saw ended (yield_of context)
-  yield-quiet None = (tt, refl, refl)
-  yield-quiet (Some cx) = woken-quiet cx.luck.yield_granted cx.waker
+  yield-quiet context = grind arith
 
 -- what the reader's step logs before its answer
 
@@ -131,30 +118,11 @@ module _ (saw ended : Bool) (p : Pipe) (closed : saw ≡ true → p.is_closed �
 
 -- what it has seen of the close
 
-pub unlinked : (load : Option Bool) (saw : Bool) → load ≡ None → IsLinked load saw
-unlinked load saw unloaded = grind arith
-
 abbrev pub Sees : Bool → Pipe → Type 0
 Sees saw p = (saw ≡ true → p.is_closed ≡ true) × IsLinked (loaded p.reader) saw
 
 pub reader-sees : (saw : Bool) (p : Pipe) (closed : saw ≡ true → p.is_closed ≡ true) (point : ReadPoint) → IsLinked (loaded point) saw → Sees (saw_closed_from Reader saw (logged_at point p)) (reader_after point p)
-reader-sees saw p closed ReadPoint.Idle link = (closed, tt)
-reader-sees saw p closed ReadPoint.Dropped link = (closed, tt)
-reader-sees saw p closed (ReadPoint.QueryHead query) link = (closed, tt)
-reader-sees saw p closed (ReadPoint.QueryTail query) link = (closed, tt)
-reader-sees saw p closed ReadPoint.QueryClosed link = (λ seen. seen, tt)
-reader-sees saw p closed (ReadPoint.LookTail l) link = (closed, unlinked _ _ (looks-unloaded (length p.unread == 0) l))
-reader-sees saw p closed (ReadPoint.LookRegister l) link =
-    (λ seen. closed (sym (context-quiet saw false Reader p.reader_call.context).2 ∙ seen), unlinked _ _ (registers-unloaded (is_granted p.reader_call.context) l))
-reader-sees saw p closed (ReadPoint.LookClosed l) link = (λ seen. seen, refl)
-reader-sees saw p closed (ReadPoint.LookTailAgain l was_closed) link = (closed, unlinked _ _ (again-unloaded (length p.unread == 0) was_closed l))
-reader-sees saw p closed (ReadPoint.LookTake l) link = (closed, unlinked _ _ (true-unloaded l))
-reader-sees saw p closed ReadPoint.Yield link = (λ seen. closed (sym (yield-quiet saw false p.reader_call.context).2 ∙ seen), tt)
-reader-sees saw p closed (ReadPoint.CallDestination form sum) link = (closed, unlinked _ _ (moved-unloaded p.capacity (taken (round_count p) p.destination) form sum))
-reader-sees saw p closed (ReadPoint.StoreHead n next) link = (closed, tt)
-reader-sees saw p closed (ReadPoint.TakeWriter next) link = (closed, unlinked _ _ (take-unloaded next (is_some p.writer_waker)))
-reader-sees saw p closed (ReadPoint.WakeWriter next) link = (λ seen. closed (sym (wake-quiet saw false p.reader_call.taken).2 ∙ seen), unlinked _ _ (done-unloaded next))
-reader-sees saw p closed ReadPoint.StoreClosed link = (λ seen. refl, tt)
+reader-sees saw p closed point link = grind arith
 
 -- what the reader returns, and where it follows the answer
 
@@ -165,11 +133,7 @@ Ends saw ended point p =
 
 module _ (saw ended : Bool) (p : Pipe) where
   query-ends : (query : Query) → (ended ≡ true → Over (record p { reader = ReadPoint.QueryTail query })) → Ends saw ended (ReadPoint.QueryTail query) p
-  query-ends query over =
-      let after = (went Reader (record p { reader = ReadPoint.QueryTail query })).pipe in
-      let stays : ended ≡ true → Over after = λ t. let o = over t in record { closed = o.closed; ended = o.ended; unread = o.unread; valid = refl } in
-      query-holds (λ (answer : Answer). IsFinalFrom saw ended (answer_event Reader (Some answer)) × (ended_from saw ended (answer_event Reader (Some answer)) ≡ true → Over after)) query p.capacity (length p.unread)
-      ((λ t. no_length p.unread (over t).unread, tt), stays) (λ is. ((λ t. tt, tt), stays))
+  query-ends query over = grind arith
 
   -- without an unread byte a look finds none
   looks-over : (none : Bool) (l : Purpose) → none ≡ true → is_over (reader_looked none l) ≡ true
@@ -179,47 +143,25 @@ module _ (saw ended : Bool) (p : Pipe) where
   Answers answer = IsFinalFrom saw ended (answer_event Reader answer) × (ended_from saw ended (answer_event Reader answer) ≡ ended)
 
   registers-final : (granted : Bool) (l : Purpose) → let next = reader_registered granted l in Answers next.answer × (is_over next.point ≡ true)
-  registers-final true l = ((tt, refl), refl)
-  registers-final false Purpose.Poll = (((λ t. inr refl, tt), refl), refl)
-  registers-final false (Purpose.Copy Try) = (((λ t. refl, tt), refl), refl)
-  registers-final false (Purpose.Copy (Polling is_drawn)) = (((λ t. inr refl, tt), refl), refl)
+  registers-final granted l = grind arith
 
   -- the answers that report an end: nothing was found after a close that was seen
   again-final : (none was_closed : Bool) (l : Purpose) → (ended ≡ true → (none ≡ true) × (was_closed ≡ true)) → let next = reader_looked_again none l was_closed in
       IsFinalFrom saw ended (answer_event Reader next.answer) × (ended_from saw ended (answer_event Reader next.answer) ≡ true → (none ≡ true) × (was_closed ≡ true) × (is_over next.point ≡ true))
-  again-final true true Purpose.Poll over = ((λ t. inl refl, tt), λ t. (refl, refl, refl))
-  again-final true false Purpose.Poll over = ((λ t. absurd (let seen = (over t).1 in cc), tt), λ t. absurd (let seen = (over t).1 in cc))
-  again-final false was_closed Purpose.Poll over = (tt, λ t. absurd (let empty = (over t).0 in cc))
-  again-final true was_closed (Purpose.Copy Try) over = ((λ t. refl, tt), λ t. let o = over t in (refl, o.1, refl))
-  again-final true true (Purpose.Copy (Polling is_drawn)) over = ((λ t. inl refl, tt), λ t. (refl, refl, refl))
-  again-final true false (Purpose.Copy (Polling is_drawn)) over = ((λ t. absurd (let seen = (over t).1 in cc), tt), λ t. absurd (let seen = (over t).1 in cc))
-  again-final false was_closed (Purpose.Copy form) over = (tt, λ t. absurd (let empty = (over t).0 in cc))
+  again-final none was_closed l over = grind arith
 
   -- where a byte is there no end was found
   yield-final : (granted : Bool) → (ended ≡ true → false ≡ true) → Answers (Some (yield_answer granted))
-  yield-final true none = ((λ t. absurd (let no = none t in cc), tt), refl)
-  yield-final false none = ((λ t. inr refl, tt), refl)
-
-  count-final : (form : Form) (sum : ℕ) → (ended ≡ true → false ≡ true) → Answers (Some (count_answer form sum))
-  count-final Try sum none = ((λ t. absurd (let no = none t in cc), tt), refl)
-  count-final (Polling is_drawn) sum none = ((λ t. absurd (let no = none t in cc), tt), refl)
-
-  moved-final : (none : Bool) (n : ℕ) (form : Form) (sum : ℕ) → (ended ≡ true → false ≡ true) → Answers (reader_moved none n form sum).answer
-  moved-final true n form sum none = count-final form sum none
-  moved-final false n form sum none = (tt, refl)
+  yield-final granted none = grind arith
 
   round-final : (taken : Result ℕ Failed) (form : Form) (sum : ℕ) → (ended ≡ true → false ≡ true) → Answers (read_after p.capacity (ReadPoint.CallDestination form sum) (found_of taken)).answer
-  round-final (Ok n) form sum none = moved-final (n == 0) n form sum none
-  round-final (Err fails) form sum none = ((λ t. absurd (let no = none t in cc), tt), refl)
+  round-final taken form sum none = grind arith
 
   done-final : (next : AfterRead) → (ended ≡ true → is_last next ≡ true) → let to = read_done next in Answers to.answer × (ended ≡ true → is_over to.point ≡ true)
-  done-final AfterRead.Answer last = (((λ t. tt, tt), refl), λ t. refl)
-  done-final AfterRead.Drop last = (((λ t. tt, tt), refl), λ t. refl)
-  done-final (AfterRead.Round form sum) last = ((tt, refl), last)
+  done-final next last = grind arith
 
   take-final : (next : AfterRead) (is_found : Bool) → (ended ≡ true → is_last next ≡ true) → let to = writer_taken next is_found in Answers to.answer × (ended ≡ true → is_over to.point ≡ true)
-  take-final next false last = done-final next last
-  take-final next true last = ((tt, refl), last)
+  take-final next is_found last = grind arith
 
   pub reader-ends : (point : ReadPoint) → (saw_close point ≡ true → p.is_closed ≡ true) → (p.is_closed ≡ true → IsCaused (record p { reader = point })) → (ended ≡ true → Over (record p { reader = point })) → Ends saw ended point p
   reader-ends (ReadPoint.QueryTail query) seen caused over = query-ends query over

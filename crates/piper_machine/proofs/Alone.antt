@@ -1,14 +1,14 @@
 -- A step of a side leaves what remains of its call, and it brings the answer nearer.
 use Rattle.std.proofs.Common.{◌≡◌, ℕ, ◌+◌, ◌-◌, ◌<◌, ◌≤◌, List, length, Bool, true, false, Option, None, Some, if◌then◌else◌, ◌==◌, is_some, lit<, lit≤, refl, ap, ◌∙◌, arith, length-append}
-use Rattle.piper_machine.specs.Types.{Purpose, Answer, AfterRead, AfterWrite, ReadPoint, WritePoint, Reader, Writer, Busy, Done, Go}
+use Rattle.piper_machine.specs.Types.{Purpose, Answer, AfterWrite, ReadPoint, WritePoint, Reader, Writer, Busy, Go}
 use Rattle.piper_machine.specs.Open.{is_granted}
 use Rattle.piper_machine.specs.Pipe.{Pipe}
 use Rattle.piper_machine.specs.Move.{with_waker}
 use Rattle.piper_machine.specs.Refusal.{reader_state, writer_state}
-use Rattle.piper_protocol.specs.Table.{Next, goes_on, read_action, write_action, reader_looked, reader_looked_again, reader_registered, writer_taken, writer_is_open, writer_looked, writer_looked_again, writer_registered, reader_taken, own_taken}
-use Rattle.piper_machine.specs.Action.{index_loaded_by, registered_in}
+use Rattle.piper_protocol.specs.Table.{Next, goes_on, read_action, write_action, writer_is_open, writer_looked, writer_looked_again, writer_registered, reader_taken, own_taken}
+use Rattle.piper_machine.specs.Action.{index_loaded_by}
 use Rattle.piper_machine.specs.Step.{Stepped, went, call_after, source_after, destination_after, stepped}
-use Rattle.piper_machine.specs.Alone.{Ended, heard, reader_alone, read_steps, read_wakes, is_draining, is_drain_round, is_filling, is_fill_round, writer_alone, write_steps, write_wakes, reader_looks_alone, reader_again_alone, reader_granted_alone, reader_done_alone, writer_ended, writer_open_alone, writer_looks_alone, writer_granted_alone, writer_again_alone, writer_done_alone, steps_after, wakes_after}
+use Rattle.piper_machine.specs.Alone.{Ended, heard, reader_alone, read_steps, read_wakes, is_draining, is_filling, is_fill_round, writer_alone, write_steps, write_wakes, steps_after, wakes_after}
 
 -- what remains after a step of the reader: all that is left, or the answer that the step gave
 abbrev pub reader_rest : Option Answer → Pipe → Ended
@@ -26,36 +26,8 @@ reader_settled next p = record p { reader = next.point; reader_call = call_after
 abbrev pub reader_rest_at : Next ReadPoint → Pipe → Ended
 reader_rest_at next p = reader_rest next.answer (reader_settled next p)
 
-looks-rest : (none : Bool) (p : Pipe) → reader_looks_alone none Purpose.Poll (record p { reader = ReadPoint.Idle }) ≡ reader_rest_at (goes_on (reader_looked none Purpose.Poll)) p
-looks-rest none p = grind arith
-
-registers-rest : (is_granted : Bool) (p : Pipe) → reader_granted_alone is_granted Purpose.Poll (record p { reader = ReadPoint.Idle }) ≡ reader_rest_at (reader_registered is_granted Purpose.Poll) p
-registers-rest is_granted p = grind arith
-
-again-rest : (none was_closed : Bool) (p : Pipe) → reader_again_alone none Purpose.Poll was_closed (record p { reader = ReadPoint.Idle }) ≡ reader_rest_at (reader_looked_again none Purpose.Poll was_closed) p
-again-rest none was_closed p = grind arith
-
-take-rest : (next : AfterRead) (name : Option ℕ) (p : Pipe) → is_drain_round next ≡ false → reader_done_alone next (record p { reader = ReadPoint.Idle; writer_waker = None; woken = with_waker p.woken name }) ≡ reader_rest_at (writer_taken next (is_some name)) (record p { writer_waker = None; reader_call = record p.reader_call { taken = name } })
-take-rest next name p plain = grind arith
-
 pub reader-rest : (point : ReadPoint) (p : Pipe) → reader_state point ≡ Busy → is_draining point ≡ false → let s = read_step point p in reader_alone point p ≡ reader_rest s.answer s.pipe
-reader-rest ReadPoint.Idle p busy plain = absurd (cc)
-reader-rest ReadPoint.Dropped p busy plain = absurd (cc)
-reader-rest (ReadPoint.QueryHead query) p busy plain = refl
-reader-rest (ReadPoint.QueryTail query) p busy plain = refl
-reader-rest ReadPoint.QueryClosed p busy plain = refl
-reader-rest (ReadPoint.LookTail Purpose.Poll) p busy plain = looks-rest (length p.unread == 0) (index_loaded_by Reader p)
-reader-rest (ReadPoint.LookRegister Purpose.Poll) p busy plain = registers-rest (is_granted p.reader_call.context) (record p { reader_waker = registered_in p.reader_call.context p.reader_waker })
-reader-rest (ReadPoint.LookClosed Purpose.Poll) p busy plain = refl
-reader-rest (ReadPoint.LookTailAgain Purpose.Poll was_closed) p busy plain = again-rest (length p.unread == 0) was_closed (index_loaded_by Reader p)
-reader-rest (ReadPoint.LookTake Purpose.Poll) p busy plain = refl
-reader-rest (ReadPoint.StoreHead n AfterRead.Answer) p busy plain = refl
-reader-rest (ReadPoint.StoreHead n AfterRead.Drop) p busy plain = refl
-reader-rest (ReadPoint.TakeWriter next) p busy plain = take-rest next p.writer_waker p plain
-reader-rest (ReadPoint.WakeWriter AfterRead.Answer) p busy plain = refl
-reader-rest (ReadPoint.WakeWriter AfterRead.Drop) p busy plain = refl
-reader-rest ReadPoint.StoreClosed p busy plain = refl
-reader-rest point p busy plain = absurd (cc)
+reader-rest point p busy plain = grind arith
 
 -- the most steps that remain, if the other side makes none: a look finds what there is
 abbrev pub reads_left : ReadPoint → Pipe → ℕ
@@ -74,49 +46,11 @@ pub record Nearer (steps_before steps_after wakes_before wakes_after woken_befor
   pub steps : steps_after < steps_before
   pub wakes : woken_after + wakes_after ≤ woken_before + wakes_before
 
-abbrev pub IsNearer : ReadPoint → Pipe → Next ReadPoint → Pipe → Type 0
-IsNearer point p next q = next.answer ≡ None → (reader_state next.point ≡ Busy) × (is_draining next.point ≡ false) × Nearer (reads_left point p) (reads_left next.point q) (read_wakes point) (read_wakes next.point) (length p.woken) (length q.woken)
-
 near : (steps_before steps_after wakes_before wakes_after n : ℕ) → steps_after < steps_before → wakes_after ≤ wakes_before → Nearer steps_before steps_after wakes_before wakes_after n n
 near steps_before steps_after wakes_before wakes_after n fewer fewer_wakes = record { steps = fewer; wakes = omega arith }
 
-looks-near : (none : Bool) (p q : Pipe) → q.woken ≡ p.woken → IsNearer (ReadPoint.LookTail Purpose.Poll) p (goes_on (reader_looked none Purpose.Poll)) q
-looks-near true p q same goes = (refl, refl, rw same (near 5 4 0 0 (length p.woken) (lit< tt) (lit≤ tt)))
-looks-near false p q same goes = (refl, refl, rw same (near 5 1 0 0 (length p.woken) (lit< tt) (lit≤ tt)))
-
-registers-near : (is_granted : Bool) (p q : Pipe) → q.woken ≡ p.woken → IsNearer (ReadPoint.LookRegister Purpose.Poll) p (reader_registered is_granted Purpose.Poll) q
-registers-near true p q same goes = (refl, refl, rw same (near 4 3 0 0 (length p.woken) (lit< tt) (lit≤ tt)))
-registers-near false p q same goes = absurd (cc)
-
-again-near : (none was_closed : Bool) (p q : Pipe) → q.woken ≡ p.woken → IsNearer (ReadPoint.LookTailAgain Purpose.Poll was_closed) p (reader_looked_again none Purpose.Poll was_closed) q
-again-near true was_closed p q same goes = absurd (cc)
-again-near false was_closed p q same goes = (refl, refl, rw same (near 2 1 0 0 (length p.woken) (lit< tt) (lit≤ tt)))
-
-take-near : (next : AfterRead) (is_found : Bool) (p q : Pipe) → is_drain_round next ≡ false → q.woken ≡ p.woken → IsNearer (ReadPoint.TakeWriter next) p (writer_taken next is_found) q
-take-near AfterRead.Answer false p q plain same goes = absurd (cc)
-take-near AfterRead.Drop false p q plain same goes = absurd (cc)
-take-near AfterRead.Answer true p q plain same goes = (refl, refl, rw same (near 2 1 1 1 (length p.woken) (lit< tt) (lit≤ tt)))
-take-near AfterRead.Drop true p q plain same goes = (refl, refl, rw same (near 2 1 1 1 (length p.woken) (lit< tt) (lit≤ tt)))
-take-near (AfterRead.Round form sum) is_found p q plain same goes = absurd (cc)
-
 pub reader-nearer : (point : ReadPoint) (p : Pipe) → reader_state point ≡ Busy → is_draining point ≡ false → let s = read_step point p in s.answer ≡ None → (reader_state s.pipe.reader ≡ Busy) × (is_draining s.pipe.reader ≡ false) × Nearer (reads_left point p) (reads_left s.pipe.reader s.pipe) (read_wakes point) (read_wakes s.pipe.reader) (length p.woken) (length s.pipe.woken)
-reader-nearer ReadPoint.Idle p busy plain goes = absurd (cc)
-reader-nearer ReadPoint.Dropped p busy plain goes = absurd (cc)
-reader-nearer (ReadPoint.QueryHead query) p busy plain goes = (refl, refl, near 2 1 0 0 (length p.woken) (lit< tt) (lit≤ tt))
-reader-nearer (ReadPoint.QueryTail query) p busy plain goes = absurd (cc)
-reader-nearer ReadPoint.QueryClosed p busy plain goes = absurd (cc)
-reader-nearer (ReadPoint.LookTail Purpose.Poll) p busy plain goes = looks-near (length p.unread == 0) p (index_loaded_by Reader p) refl goes
-reader-nearer (ReadPoint.LookRegister Purpose.Poll) p busy plain goes = registers-near (is_granted p.reader_call.context) p p refl goes
-reader-nearer (ReadPoint.LookClosed Purpose.Poll) p busy plain goes = (refl, refl, near 3 2 0 0 (length p.woken) (lit< tt) (lit≤ tt))
-reader-nearer (ReadPoint.LookTailAgain Purpose.Poll was_closed) p busy plain goes = again-near (length p.unread == 0) was_closed p (index_loaded_by Reader p) refl goes
-reader-nearer (ReadPoint.LookTake Purpose.Poll) p busy plain goes = absurd (cc)
-reader-nearer (ReadPoint.StoreHead n AfterRead.Answer) p busy plain goes = (refl, refl, near 3 2 1 1 (length p.woken) (lit< tt) (lit≤ tt))
-reader-nearer (ReadPoint.StoreHead n AfterRead.Drop) p busy plain goes = (refl, refl, near 3 2 1 1 (length p.woken) (lit< tt) (lit≤ tt))
-reader-nearer (ReadPoint.TakeWriter next) p busy plain goes = take-near next (is_some p.writer_waker) p p plain refl goes
-reader-nearer (ReadPoint.WakeWriter AfterRead.Answer) p busy plain goes = absurd (cc)
-reader-nearer (ReadPoint.WakeWriter AfterRead.Drop) p busy plain goes = absurd (cc)
-reader-nearer ReadPoint.StoreClosed p busy plain goes = (refl, refl, near 3 2 1 1 (length p.woken) (lit< tt) (lit≤ tt))
-reader-nearer point p busy plain goes = absurd (cc)
+reader-nearer point p busy plain goes = grind arith
 
 -- the writer
 
@@ -133,49 +67,8 @@ writer_settled next p = record p { writer = next.point; writer_call = call_after
 abbrev pub writer_rest_at : Next WritePoint → Pipe → Ended
 writer_rest_at next p = writer_rest next.answer (writer_settled next p)
 
-open-rest : (is_closed none : Bool) (p : Pipe) → writer_open_alone is_closed none Purpose.Poll (record p { writer = WritePoint.Idle }) ≡ writer_rest_at (writer_is_open is_closed none Purpose.Poll) p
-open-rest is_closed none p = grind arith
-
-loads-rest : (none : Bool) (p : Pipe) → writer_looks_alone none Purpose.Poll (record p { writer = WritePoint.Idle }) ≡ writer_rest_at (goes_on (writer_looked none Purpose.Poll)) p
-loads-rest none p = grind arith
-
-writer_registers-rest : (is_granted : Bool) (p : Pipe) → writer_granted_alone is_granted Purpose.Poll (record p { writer = WritePoint.Idle }) ≡ writer_rest_at (writer_registered is_granted Purpose.Poll) p
-writer_registers-rest is_granted p = grind arith
-
-writer_again-rest : (none : Bool) (p : Pipe) → writer_again_alone none Purpose.Poll (record p { writer = WritePoint.Idle }) ≡ writer_rest_at (goes_on (writer_looked_again none Purpose.Poll)) p
-writer_again-rest none p = grind arith
-
-reader_take-rest : (next : AfterWrite) (name : Option ℕ) (p : Pipe) → is_fill_round next ≡ false → writer_done_alone next (record p { writer = WritePoint.Idle; reader_waker = None; woken = with_waker p.woken name }) ≡ writer_rest_at (reader_taken next (is_some name)) (record p { reader_waker = None; writer_call = record p.writer_call { taken = name } })
-reader_take-rest next name p plain = grind arith
-
-own_take-rest : (name : Option ℕ) (p : Pipe) → writer_ended WritePoint.Idle Done (record p { writer = WritePoint.Idle; writer_waker = None; woken = with_waker p.woken name }) ≡ writer_rest_at (own_taken (is_some name)) (record p { writer_waker = None; writer_call = record p.writer_call { taken = name } })
-own_take-rest name p = grind arith
-
 pub writer-rest : (point : WritePoint) (p : Pipe) → writer_state point ≡ Busy → is_filling point ≡ false → let s = write_step point p in writer_alone point p ≡ writer_rest s.answer s.pipe
-writer-rest WritePoint.Idle p busy plain = absurd (cc)
-writer-rest WritePoint.Dropped p busy plain = absurd (cc)
-writer-rest (WritePoint.QueryHead query) p busy plain = refl
-writer-rest (WritePoint.QueryTail query count) p busy plain = refl
-writer-rest WritePoint.QueryClosed p busy plain = refl
-writer-rest (WritePoint.LookClosed Purpose.Poll) p busy plain = open-rest p.is_closed (p.room == 0) p
-writer-rest (WritePoint.LookHead Purpose.Poll) p busy plain = loads-rest (p.capacity - length p.unread == 0) (index_loaded_by Writer p)
-writer-rest (WritePoint.LookRegister Purpose.Poll) p busy plain = writer_registers-rest (is_granted p.writer_call.context) (record p { writer_waker = registered_in p.writer_call.context p.writer_waker })
-writer-rest (WritePoint.LookHeadAgain Purpose.Poll) p busy plain = writer_again-rest (p.capacity - length p.unread == 0) (index_loaded_by Writer p)
-writer-rest (WritePoint.LookClosedAgain Purpose.Poll) p busy plain = refl
-writer-rest (WritePoint.LookTake Purpose.Poll) p busy plain = refl
-writer-rest (WritePoint.StoreTail n AfterWrite.Answer) p busy plain = refl
-writer-rest (WritePoint.StoreTail n AfterWrite.Drop) p busy plain = refl
-writer-rest (WritePoint.StoreTail n AfterWrite.WakeWriter) p busy plain = refl
-writer-rest (WritePoint.TakeReader next) p busy plain = reader_take-rest next p.reader_waker p plain
-writer-rest (WritePoint.WakeReader AfterWrite.Answer) p busy plain = refl
-writer-rest (WritePoint.WakeReader AfterWrite.Drop) p busy plain = refl
-writer-rest (WritePoint.WakeReader AfterWrite.WakeWriter) p busy plain = refl
-writer-rest (WritePoint.StoreClosed AfterWrite.Answer) p busy plain = refl
-writer-rest (WritePoint.StoreClosed AfterWrite.Drop) p busy plain = refl
-writer-rest (WritePoint.StoreClosed AfterWrite.WakeWriter) p busy plain = refl
-writer-rest WritePoint.TakeWriter p busy plain = own_take-rest p.writer_waker p
-writer-rest WritePoint.WakeWriter p busy plain = refl
-writer-rest point p busy plain = absurd (cc)
+writer-rest point p busy plain = grind arith
 
 -- a call that copies nothing lends nothing as it goes
 pub plain-step : (point : WritePoint) (lent : List ℕ) (p : Pipe) → is_filling point ≡ false → stepped lent (Go Writer) (heard Writer (write_action point) (record p { writer = point })) ≡ write_step point p
@@ -184,44 +77,28 @@ plain-step point lent p plain = grind arith
 -- the waker that it calls is heard, and then it goes
 pub writer-went : (p h r : Pipe) (answer : Option Answer) → is_filling p.writer ≡ false → h ≡ heard Writer (write_action p.writer) p → answer ≡ (stepped r.lent (Go Writer) h).answer → r ≡ (stepped r.lent (Go Writer) h).pipe
     → (answer ≡ (write_step p.writer p).answer) × (r ≡ (write_step p.writer p).pipe)
-writer-went p h r answer plain hears answers after =
-    let same = plain-step p.writer r.lent p plain in (
-      answers ∙ ap (λ (v : Pipe). (stepped r.lent (Go Writer) v).answer) hears ∙ ap (λ (s : Stepped). s.answer) same,
-      after ∙ ap (λ (v : Pipe). (stepped r.lent (Go Writer) v).pipe) hears ∙ ap (λ (s : Stepped). s.pipe) same,
-    )
+writer-went p h r answer plain hears answers after = grind arith
 
 abbrev pub IsWriterNearer : WritePoint → Pipe → Next WritePoint → Pipe → Type 0
 IsWriterNearer point p next q = next.answer ≡ None → (writer_state next.point ≡ Busy) × (is_filling next.point ≡ false) × Nearer (writes_left point p) (writes_left next.point q) (write_wakes point) (write_wakes next.point) (length p.woken) (length q.woken)
 
 open-near : (is_closed none : Bool) (p : Pipe) → IsWriterNearer (WritePoint.LookClosed Purpose.Poll) p (writer_is_open is_closed none Purpose.Poll) p
-open-near true none p goes = absurd (cc)
-open-near false true p goes = (refl, refl, near 5 4 0 0 (length p.woken) (lit< tt) (lit≤ tt))
-open-near false false p goes = (refl, refl, near 5 1 0 0 (length p.woken) (lit< tt) (lit≤ tt))
+open-near is_closed none p goes = grind arith
 
 loads-near : (none : Bool) (p : Pipe) → IsWriterNearer (WritePoint.LookHead Purpose.Poll) p (goes_on (writer_looked none Purpose.Poll)) (index_loaded_by Writer p)
-loads-near true p goes = (refl, refl, near 4 3 0 0 (length p.woken) (lit< tt) (lit≤ tt))
-loads-near false p goes = (refl, refl, near 4 1 0 0 (length p.woken) (lit< tt) (lit≤ tt))
+loads-near none p goes = grind arith
 
 writer_registers-near : (is_granted : Bool) (p : Pipe) → IsWriterNearer (WritePoint.LookRegister Purpose.Poll) p (writer_registered is_granted Purpose.Poll) p
-writer_registers-near true p goes = (refl, refl, near 3 2 0 0 (length p.woken) (lit< tt) (lit≤ tt))
-writer_registers-near false p goes = absurd (cc)
+writer_registers-near is_granted p goes = grind arith
 
 writer_again-near : (none : Bool) (p : Pipe) → IsWriterNearer (WritePoint.LookHeadAgain Purpose.Poll) p (goes_on (writer_looked_again none Purpose.Poll)) (index_loaded_by Writer p)
-writer_again-near true p goes = (refl, refl, near 2 1 0 0 (length p.woken) (lit< tt) (lit≤ tt))
-writer_again-near false p goes = (refl, refl, near 2 1 0 0 (length p.woken) (lit< tt) (lit≤ tt))
+writer_again-near none p goes = grind arith
 
 reader_take-near : (next : AfterWrite) (is_found : Bool) (p : Pipe) → is_fill_round next ≡ false → IsWriterNearer (WritePoint.TakeReader next) p (reader_taken next is_found) p
-reader_take-near AfterWrite.Answer false p plain goes = absurd (cc)
-reader_take-near AfterWrite.Drop false p plain goes = absurd (cc)
-reader_take-near AfterWrite.WakeWriter false p plain goes = (refl, refl, near 4 2 2 1 (length p.woken) (lit< tt) (lit≤ tt))
-reader_take-near AfterWrite.Answer true p plain goes = (refl, refl, near 2 1 1 1 (length p.woken) (lit< tt) (lit≤ tt))
-reader_take-near AfterWrite.Drop true p plain goes = (refl, refl, near 2 1 1 1 (length p.woken) (lit< tt) (lit≤ tt))
-reader_take-near AfterWrite.WakeWriter true p plain goes = (refl, refl, near 4 3 2 2 (length p.woken) (lit< tt) (lit≤ tt))
-reader_take-near (AfterWrite.Round form sum) is_found p plain goes = absurd (cc)
+reader_take-near next is_found p plain goes = grind arith
 
 own_take-near : (is_found : Bool) (p : Pipe) → IsWriterNearer WritePoint.TakeWriter p (own_taken is_found) p
-own_take-near false p goes = absurd (cc)
-own_take-near true p goes = (refl, refl, near 2 1 1 1 (length p.woken) (lit< tt) (lit≤ tt))
+own_take-near is_found p goes = grind arith
 
 length-with_waker : (names : List ℕ) (name : Option ℕ) → length (with_waker names name) ≤ length names + 1
 length-with_waker names None = omega arith

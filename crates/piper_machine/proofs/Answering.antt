@@ -1,6 +1,6 @@
 -- Each step keeps what the log says of both sides' calls, and what they move and answer is right.
 use Rattle.std.proofs.Common.{◌≡◌, ℕ, ◌≤◌, List, [], ◌∷◌, ◌++◌, length, None, Some, ◌==◌, refl, sym, ap, subst, ◌∙◌, arith}
-use Rattle.piper_machine.specs.Types.{Answer, Purpose, Side, Call, Step, Event, ReadPoint, WritePoint, Reader, Writer, Begin, Go, Put, Began, Try, Polling, Slice, Acts}
+use Rattle.piper_machine.specs.Types.{Purpose, Side, Call, Step, Event, ReadPoint, WritePoint, Reader, Writer, Begin, Go, Put, Began, Try, Polling, Slice, Acts}
 use Rattle.piper_machine.specs.Call.{kind_of, waker_of}
 use Rattle.piper_machine.specs.Log.{answer_event}
 use Rattle.piper_protocol.specs.Table.{read_action, write_action}
@@ -11,8 +11,8 @@ use Rattle.piper_machine.specs.Sound.{IsSound}
 use Rattle.piper_machine.specs.Action.{performed, logged_of}
 use Rattle.piper_machine.specs.Step.{Stepped, stepped, went, opened, offering, MayLend}
 use Rattle.piper_machine.specs.Run.{Made}
-use Rattle.piper_machine.specs.Noted.{Noted, unnoted, calls_of, noted_next, noted_from}
-use Rattle.piper_machine.specs.Answered.{IsNext, AreRightFrom, AreAnswered}
+use Rattle.piper_machine.specs.Noted.{Noted, unnoted, calls_of, noted_from}
+use Rattle.piper_machine.specs.Answered.{AreRightFrom, AreAnswered}
 use Rattle.piper_machine.proofs.Whole.{given-slice, failure-slice}
 use Rattle.piper_machine.proofs.Counting.{reader_never-tail, writer_never-head}
 use Rattle.piper_machine.proofs.Remembering.{writer-idle}
@@ -39,24 +39,14 @@ Keeps capacity side steps new t = AreRightFrom capacity side t new.events × IsN
 abbrev opening : Side → Call → List Step → Noted
 opening side c steps = record { coming = calls_of side steps; call = Some c; looks = []; moved = [] }
 
-told_opening : (side : Side) (c : Call) (steps : List Step) (t : Noted) → t.coming ≡ c ∷ calls_of side steps → noted_next t.coming ≡ opening side c steps
-told_opening side c steps t coming = ap noted_next coming
-
-is_next : (c : Call) (cs : List Call) (t : Noted) → t.coming ≡ c ∷ cs → IsNext t.coming (kind_of c) (waker_of c)
-is_next c cs t coming = rw coming (refl, refl)
-
 module _ (capacity : ℕ) (c : Call) (steps : List Step) (t : Noted) (p : Pipe) where
   reader-begins : t.coming ≡ c ∷ calls_of Reader steps → ReaderAt p.reader p.destination (opening Reader c steps)
       → Keeps capacity Reader steps (record { pipe = p; answer = None; events = Began Reader (kind_of c) (waker_of c) ∷ [] }) t
-  reader-begins coming valid =
-      let noted = told_opening Reader c steps t coming in
-      ((is_next c (calls_of Reader steps) t coming, tt), record { coming = ap (λ (u : Noted). u.coming) noted; valid = subst (λ (u : Noted). ReaderAt p.reader p.destination u) (sym noted) valid })
+  reader-begins coming valid = grind arith
 
   writer-begins : t.coming ≡ c ∷ calls_of Writer steps → WriterAt capacity p.writer p.source p.lent (opening Writer c steps)
       → Keeps capacity Writer steps (record { pipe = p; answer = None; events = Began Writer (kind_of c) (waker_of c) ∷ [] }) t
-  writer-begins coming valid =
-      let noted = told_opening Writer c steps t coming in
-      ((is_next c (calls_of Writer steps) t coming, tt), record { coming = ap (λ (u : Noted). u.coming) noted; valid = subst (λ (u : Noted). WriterAt capacity p.writer p.source p.lent u) (sym noted) valid })
+  writer-begins coming valid = grind arith
 
 -- a call is opened
 
@@ -82,14 +72,7 @@ begin-reader lent c p steps t h = ((tt, tt), record { coming = h.coming; valid =
 
 -- a slice is lent as the call is opened
 lends : (lent : List ℕ) (most : ℕ) (p : Pipe) (steps : List Step) (t : Noted) → p.writer ≡ WritePoint.Idle → Lendable most p (length lent) → t.coming ≡ Call.WriteBuf most ∷ calls_of Writer steps → Keeps p.capacity Writer steps (stepped lent (Begin (Call.WriteBuf most)) p) t
-lends lent most p steps t idle may coming =
-    let noted = told_opening Writer (Call.WriteBuf most) steps t coming in
-    let within = may.at_most in
-    let few : length lent ≤ most = omega arith in
-    let right : AreRightFrom p.capacity Writer (opening Writer (Call.WriteBuf most) steps) (answer_event Writer (Some (Answer.Lent (length lent)))) = (few, tt) in (
-      (is_next (Call.WriteBuf most) (calls_of Writer steps) t coming, subst (λ (u : Noted). AreRightFrom p.capacity Writer u (answer_event Writer (Some (Answer.Lent (length lent))))) (sym noted) right),
-      record { coming = ap (λ (u : Noted). u.coming) noted; valid = rw idle tt },
-    )
+lends lent most p steps t idle may coming = grind arith
 
 begin-writer : (lent : List ℕ) (c : Call) (p : Pipe) (steps : List Step) (t : Noted) → MayLend lent (Begin c) p → refusal_of (Begin c) p ≡ None → IsNoted p.capacity Writer p (Begin c ∷ steps) t → Keeps p.capacity Writer steps (stepped lent (Begin c) p) t
 begin-writer lent (Call.Query Writer query) p steps t may accepted h = writer-begins p.capacity (Call.Query Writer query) steps t (opened lent (Call.Query Writer query) p) h.coming (refl, refl)
@@ -115,8 +98,7 @@ begin-writer lent c p steps t may accepted h = ((tt, tt), record { coming = h.co
 -- a side's step leaves what the other side has in hand
 
 reader-leaves_fill : (point : ReadPoint) (p : Pipe) → let q = performed Reader (read_action point) p in (q.writer ≡ p.writer) × (q.source ≡ p.source) × (q.lent ≡ p.lent)
-reader-leaves_fill ReadPoint.Idle p = (refl, refl, refl)
-reader-leaves_fill point p = (refl, refl, refl)
+reader-leaves_fill point p = grind arith
 
 writer-leaves_drain : (point : WritePoint) (p : Pipe) → let q = performed Writer (write_action point) p in (q.reader ≡ p.reader) × (q.destination ≡ p.destination)
 writer-leaves_drain point p = grind arith

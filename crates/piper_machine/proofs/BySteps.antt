@@ -13,7 +13,7 @@ use Rattle.piper_machine.specs.Alone.{Ended, heard, reader_alone, writer_alone, 
 use Rattle.piper_machine.specs.BySteps.{named_by, names_of}
 use Rattle.piper_machine.proofs.Alone.{Nearer, reads_left, writes_left, reader_rest, read_step, write_step, reader-rest, reader-nearer, writer-nearer, writer-went, writer_rest, writer-rest, plain-step}
 use Rattle.piper_machine.proofs.Copies.{drain-rest, WriterValid, fill_step, fill-rest}
-use Rattle.piper_machine.proofs.Falling.{drain-falls, reads-some, fill-falls, writes-some}
+use Rattle.piper_machine.proofs.Falling.{reads-some, writes-some}
 use Rattle.piper_machine.proofs.Validity.{IsSettled, ReaderValid, reader-settled, reader-valid, closes_round, writer-settled, writer-valid}
 
 abbrev pub named : List ℕ → Pipe → Pipe
@@ -87,8 +87,7 @@ read-rest point p true is busy valid = drain-rest point p is valid.start (omega 
 read-rest point p false is busy valid = reader-rest point p busy is
 
 read-falls : (point : ReadPoint) (p : Pipe) (drains : Bool) → is_draining point ≡ drains → reader_state point ≡ Busy → ReaderValid point p → let s = read_step point p in s.answer ≡ None → reads_left s.pipe.reader s.pipe < reads_left point p
-read-falls point p true is busy valid goes = drain-falls point p is valid goes
-read-falls point p false is busy valid goes = let nearer = reader-nearer point p busy is goes in nearer.2.steps
+read-falls point p drains is busy valid goes = grind arith
 
 reader-rest_of : (answer : Option Answer) (p : Pipe) → reader_rest answer p ≡ rest_of Reader answer p
 reader-rest_of answer p = grind arith
@@ -137,9 +136,7 @@ write-rest point lent p false is busy valid may = writer-rest point p busy is �
 
 write-falls : (point : WritePoint) (lent : List ℕ) (p : Pipe) (fills : Bool) → is_filling point ≡ fills → writer_state point ≡ Busy → WriterValid point p → MayOffer point p.source lent (record p { writer = point })
     → let s = fill_step point lent p in s.answer ≡ None → writes_left s.pipe.writer s.pipe < writes_left point p
-write-falls point lent p true is busy valid may = fill-falls point lent p is valid may
-write-falls point lent p false is busy valid may =
-    subst (λ (s : Stepped). s.answer ≡ None → writes_left s.pipe.writer s.pipe < writes_left point p) (sym (plain-step point lent p is)) (λ goes. (writer-nearer point p busy is goes).2.steps)
+write-falls point lent p fills is busy valid may = grind arith
 
 writer-rest_of : (answer : Option Answer) (p : Pipe) → writer_rest answer p ≡ rest_of Writer answer p
 writer-rest_of answer p = grind arith
@@ -196,8 +193,7 @@ names_of-joined (e ∷ es) fs = ap (λ (xs : List ℕ). named_by e ++ xs) (names
 
 -- a side that has returned makes no step
 pub no_more : (k : ℕ) (side : Side) (p q : Pipe) (before after : List Event) → (cannot_go (state_of side p) ≡ None → ⊥) → Runs p before (replicate k (Go side)) q after → (k ≡ 0) × (q ≡ p) × (after ≡ before)
-no_more zero side p q before after rests run = (refl, run.0, run.1)
-no_more (suc k) side p q before after rests run = absurd (rests run.2.accepted)
+no_more k side p q before after rests run = grind arith
 
 finish_on : (k : ℕ) (side : Side) (p : Pipe) (names : List ℕ) (before mid_log after : List Event) (mid q : Pipe) (made : Stepped) (answer : Option Answer)
     → IsHeard side p names made answer → mid ≡ made.pipe → mid_log ≡ before ++ made.events → Runs mid mid_log (replicate k (Go side)) q after

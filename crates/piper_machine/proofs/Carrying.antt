@@ -20,9 +20,7 @@ fills-all bytes some =
     put ∙ ap (λ bs. filled bs empty) (ap (λ n. take n bytes) (least-same (length bytes)) ∙ take-length bytes)
 
 pub drains-all : (bytes : List ℕ) → 1 ≤ length bytes → count_of (try_drain (length bytes) (full_of bytes)).answer ≡ length bytes
-drains-all bytes some =
-    let test : (length bytes == 0) ≡ false = grind (arith, nat_tests) in
-    rw test (least-same (length bytes))
+drains-all bytes some = grind arith
 
 -- a destination that is filled to its end holds these bytes alone
 pub fills-dest : (dest bytes : List ℕ) → length dest ≡ length bytes → take (length bytes) bytes ++ drop (length bytes) dest ≡ bytes

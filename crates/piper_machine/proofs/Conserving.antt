@@ -7,13 +7,13 @@ use Rattle.std.proofs.lemmas.List.{take-append-drop}
 use Rattle.std.proofs.lemmas.Grind.{flat_map-append}
 use Rattle.std.proofs.lemmas.Bool.{cases_lt}
 use Rattle.std.proofs.lemmas.Bool.Decides.{nat_tests}
-use Rattle.piper_machine.specs.Types.{AfterWrite, Side, Step, Answer, Event, Context, Action, ReadPoint, WritePoint, Reader, Writer, Begin, Go, Put, Began}
+use Rattle.piper_machine.specs.Types.{Side, Step, Answer, Event, Context, Action, ReadPoint, Reader, Writer, Begin, Go, Put, Began}
 use Rattle.piper_protocol.specs.Index.{offset_of}
 use Rattle.piper_machine.specs.Call.{side_of, kind_of, waker_of}
 use Rattle.piper_machine.specs.Pipe.{Pipe}
 use Rattle.piper_machine.specs.Places.{peeked_count}
 use Rattle.piper_machine.specs.Sound.{IsSound}
-use Rattle.piper_protocol.specs.Table.{head_store, read_action, tail_store, write_action}
+use Rattle.piper_protocol.specs.Table.{head_store, read_action, write_action}
 use Rattle.piper_machine.specs.Action.{performed, logged_of, registration_of, registration, wake_of, yield_of, woken_if}
 use Rattle.piper_machine.specs.Step.{went, opened, stepped, offering, answer_at_once}
 use Rattle.piper_machine.specs.Log.{answer_event}
@@ -131,16 +131,7 @@ module _ (old q new : Pipe) (events : List Event) (side : Side) (answer : Option
   }
 
 pub read_store : (point : ReadPoint) (n : ℕ) → read_action point ≡ Action.StoreHead n → head_store point ≡ n
-read_store (ReadPoint.StoreHead m next) n e = cc
-read_store point n e = absurd (cc)
-
-pub write_store : (point : WritePoint) (n : ℕ) → write_action point ≡ Action.StoreTail n → tail_store point ≡ n
-write_store (WritePoint.StoreTail m next) n e = cc
-write_store (WritePoint.StoreClosed AfterWrite.Answer) n e = absurd (cc)
-write_store (WritePoint.StoreClosed AfterWrite.Drop) n e = absurd (cc)
-write_store (WritePoint.StoreClosed AfterWrite.WakeWriter) n e = absurd (cc)
-write_store (WritePoint.StoreClosed (AfterWrite.Round form sum)) n e = absurd (cc)
-write_store point n e = absurd (cc)
+read_store point n e = grind arith
 
 pub step-moves : (lent : List ℕ) (s : Step) (p : Pipe) → IsSound p → let new = stepped lent s p in Moves p new.pipe new.events
 step-moves lent (Begin c) p sound =

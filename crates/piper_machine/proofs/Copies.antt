@@ -15,10 +15,9 @@ use Rattle.piper_machine.specs.Action.{index_loaded_by, registered_in, round_cou
 use Rattle.piper_machine.specs.Lend.{Lendable}
 use Rattle.piper_machine.specs.Step.{Stepped, stepped, filled_out, MayOffer}
 use Rattle.piper_machine.specs.Alone.{Ended, heard, moved_answer, reader_left, reader_ended, reader_alone, reader_moves_alone, is_draining, reader_looks_alone, reader_again_alone, reader_granted_alone, reader_done_alone, reader_takes_alone, writer_ended, writer_filled, writer_open_alone, writer_looks_alone, writer_granted_alone, writer_again_alone, writer_takes_alone, writer_done_alone, writer_rounds_alone, writer_alone, writer_moves_alone, is_filling}
-use Rattle.piper_machine.proofs.Indices.{place_below}
 use Rattle.piper_machine.proofs.Alone.{reader_rest, read_step, reader_rest_at, writer_rest, writer_rest_at}
 use Rattle.piper_machine.proofs.Rounds.{waker_after-twice, woken_after-twice, drained_nothing, filled_nothing}
-use Rattle.piper_machine.proofs.Acts.{take-goes_on, take-ends, give-part, give-ends, give-fails, give-none, give-nothing, some_of}
+use Rattle.piper_machine.proofs.Acts.{give-part, give-ends, give-fails, give-none, give-nothing}
 
 -- the look of a drain
 
@@ -40,10 +39,7 @@ wakes-rest form sum name p = grind arith
 
 -- a round that moves some bytes wakes the writer
 woken-drained : (n : ℕ) (p : Pipe) → (n == 0) ≡ false → drained n p ≡ writer_woken (consumed n p)
-woken-drained n p some =
-    let waker : waker_after n p.writer_waker ≡ None = rw some refl in
-    let woken : woken_after n p.woken p.writer_waker ≡ with_waker p.woken p.writer_waker = rw some refl in
-    λ j. record (consumed n p) { writer_waker = waker j; woken = woken j }
+woken-drained n p some = grind arith
 
 -- the first part of the bytes, then the rest
 offset_of-parts : (c s m n : ℕ) → s < c → s + m ≤ c → 1 ≤ m → m + n ≤ c → offset_of c (offset_of c (s + m) + n) ≡ offset_of c (s + (m + n))
@@ -99,11 +95,7 @@ module _ (form : Form) (sum : ℕ) (p : Pipe) (start : p.start < p.capacity) (kn
 
   act : (most : ℕ) (acts : List DestAct) (none : Bool) → (taken_by most left == 0) ≡ none → let n = taken_by most left in
       moving (drain_moves_to (DestAct.Take most ∷ acts) sum left) ≡ reader_rest_at (reader_moved none n form sum) (record p { destination = Acts acts })
-  act most acts true test = ap moving (take-ends most sum (taken_by most left) acts left refl (grind (arith, nat_tests))) ∙ ended
-  act most acts false test =
-      let n = taken_by most left in
-      ap moving (take-goes_on most sum n acts left refl (some_of n test))
-      ∙ ap (λ (q : Pipe). moving (drain_moves_to acts (sum + n) q)) (woken-drained n left test)
+  act most acts none test = grind arith
 
 calls-rest : (destination : Destination) (form : Form) (sum : ℕ) (p : Pipe) → p.start < p.capacity → p.known ≤ p.capacity
     → let q = record p { destination = destination } in reader_moves_alone form sum (record q { reader = ReadPoint.Idle }) ≡ reader_rest_at (read_after p.capacity (ReadPoint.CallDestination form sum) (found_of (taken (round_count p) destination))) (destination_called q)
@@ -211,15 +203,11 @@ pub record WriterValid (point : WritePoint) (p : Pipe) : Type 0 where
   pub unclosed : saw_open point ≡ true → p.is_closed ≡ false
 
 not_shut : (is_shut is_closed : Bool) → (is_shut ≡ true → is_closed ≡ true) → is_closed ≡ false → is_shut ≡ false
-not_shut false is_closed shut unclosed = refl
-not_shut true is_closed shut unclosed = absurd (let yes = shut refl in cc)
+not_shut is_shut is_closed shut unclosed = grind arith
 
 -- an open pipe with room lends some places
 lends_some : (p : Pipe) (n : ℕ) → length p.unread ≤ p.capacity → p.start < p.capacity → p.is_shut ≡ false → Lendable MOST_A_ROUND p n → n ≡ 0 → p.room ≡ 0
-lends_some p n unread start not_shut lendable none =
-    let below : offset_of p.capacity (p.start + length p.unread) < p.capacity = place_below p.capacity (p.start + length p.unread) (omega arith) in
-    let least = lendable.at_least not_shut in
-    omega arith
+lends_some p n unread start not_shut lendable none = grind arith
 
 failed-answer : (form : Form) (p : Pipe) → writer_ended WritePoint.Idle (moved_answer form (Ready (Err (record {})))) p ≡ writer_ended WritePoint.Idle failed_answer p
 failed-answer form p = grind arith

@@ -1,19 +1,19 @@
 -- What each side knows, and how many steps its call has made, and calls of its destination or
 -- source: what one step does to them.
 use Rattle.std.proofs.Common.{◌≡◌, ℕ, ◌+◌, ◌*◌, ◌≤◌, List, ◌++◌, Bool, true, false, Option, None, Some, ◌==◌, refl, sym, subst, ◌∙◌, arith}
-use Rattle.piper_machine.specs.Types.{Purpose, Side, Call, Step, Answer, Event, Form, ReadPoint, WritePoint, Action, StepRefusal, Reader, Writer, Begin, Go, Put, Try, Polling}
+use Rattle.piper_machine.specs.Types.{Side, Call, Step, Answer, Event, ReadPoint, WritePoint, Action, Reader, Writer, Begin, Go, Put}
 use Rattle.piper_machine.specs.Log.{answer_event}
-use Rattle.piper_protocol.specs.Table.{read_action, write_action, reader_looks_for}
+use Rattle.piper_protocol.specs.Table.{read_action, write_action}
 use Rattle.piper_machine.specs.Pipe.{Pipe}
 use Rattle.piper_machine.specs.Action.{performed, logged_of}
 use Rattle.piper_machine.specs.Step.{went, stepped, offering, MayLend}
-use Rattle.piper_machine.specs.Refusal.{writer_state, cannot_begin, or_else, refusal_of}
+use Rattle.piper_machine.specs.Refusal.{refusal_of}
 use Rattle.piper_machine.specs.Alone.{read_steps, write_steps}
 use Rattle.piper_machine.specs.Known.{Knowledge, knowledge_from}
-use Rattle.piper_machine.specs.Counts.{Tally, most_of, most_steps, tallied}
+use Rattle.piper_machine.specs.Counts.{Tally, most_of, tallied}
 use Rattle.piper_machine.specs.Called.{called}
 use Rattle.piper_machine.proofs.Knowing.{knowledge-append, answer-shows, learns, learned, learned-enough, writer-shows, reader-shows}
-use Rattle.piper_machine.proofs.ReaderCounts.{read_calls, read_least, ReaderSees, reader-fits, reader-goes, reader_next, some-known}
+use Rattle.piper_machine.proofs.ReaderCounts.{read_calls, read_least, ReaderSees, reader-fits, reader-goes, reader_next}
 use Rattle.piper_machine.proofs.WriterCounts.{write_calls, write_least, WriterSees, writer-fits, writer-goes, writer_next}
 
 -- The steps and calls made so far, with those that are left, are within what the look finds, or can
@@ -36,32 +36,15 @@ abbrev pub Counts : Side → Pipe → Knowledge → Tally → ℕ → Type 0
 Counts Reader p k t calls = ReaderCounts p.reader p.known k t calls
 Counts Writer p k t calls = WriterCounts p.writer p.room k t calls
 
-read_least-found : (found : ℕ) (point : ReadPoint) → read_least found point ≤ found
-read_least-found found point = grind arith
-
-write_least-found : (found : ℕ) (point : WritePoint) → write_least found point ≤ found
-write_least-found found point = grind arith
-
 pub counts-found : (side : Side) (p : Pipe) (k : Knowledge) (t : Tally) (calls : ℕ) → Counts side p k t calls → (t.made ≤ most_of k.found t.call) × (calls ≤ k.found + 1)
-counts-found Reader p k t calls held = let within = held.within k.found (read_least-found k.found p.reader) in (omega (arith, within.steps), omega (arith, within.calls))
-counts-found Writer p k t calls held = let within = held.within k.found (write_least-found k.found p.writer) in (omega (arith, within.steps), omega (arith, within.calls))
+counts-found side p k t calls held = grind arith
 
 -- a side's step leaves where the other is, and what it knows
 pub reader_leaves-writer : (action : Action) (p : Pipe) → ((n : ℕ) → action ≡ Action.StoreTail n → ⊥) → let q = performed Reader action p in (q.writer ≡ p.writer) × (q.room ≡ p.room) × (q.capacity ≡ p.capacity)
-reader_leaves-writer (Action.StoreTail n) p never = absurd (never n refl)
-reader_leaves-writer (Action.StoreClosed true) p never = (refl, refl, refl)
-reader_leaves-writer (Action.StoreClosed false) p never = (refl, refl, refl)
-reader_leaves-writer (Action.Take Reader) p never = (refl, refl, refl)
-reader_leaves-writer (Action.Take Writer) p never = (refl, refl, refl)
-reader_leaves-writer action p never = (refl, refl, refl)
+reader_leaves-writer action p never = grind arith
 
 pub writer_leaves-reader : (action : Action) (p : Pipe) → ((n : ℕ) → action ≡ Action.StoreHead n → ⊥) → let q = performed Writer action p in (q.reader ≡ p.reader) × (q.known ≡ p.known) × (q.capacity ≡ p.capacity)
-writer_leaves-reader (Action.StoreHead n) p never = absurd (never n refl)
-writer_leaves-reader (Action.StoreClosed true) p never = (refl, refl, refl)
-writer_leaves-reader (Action.StoreClosed false) p never = (refl, refl, refl)
-writer_leaves-reader (Action.Take Reader) p never = (refl, refl, refl)
-writer_leaves-reader (Action.Take Writer) p never = (refl, refl, refl)
-writer_leaves-reader action p never = (refl, refl, refl)
+writer_leaves-reader action p never = grind arith
 
 pub reader_never-tail : (point : ReadPoint) (n : ℕ) → read_action point ≡ Action.StoreTail n → ⊥
 reader_never-tail point n e = grind arith
@@ -71,58 +54,10 @@ writer_never-head point n e = grind arith
 
 -- how a call begins
 
--- of a call without a look
-plain : (f most : ℕ) (c : Call) → most ≤ most_steps f c → IsWithin f 0 0 most 0 (Some c)
-plain f most c few = record { steps = omega (arith, few); calls = omega arith }
-
-abbrev opened_with : Knowledge → Bool → Knowledge
-opened_with k asks = record { known = k.known; found = k.known; is_query = asks }
-
-drains-count : (known : ℕ) (k : Knowledge) (none : Bool) (form : Form) (c : Call) → (known == 0) ≡ none → known ≤ k.known → ((f : ℕ) → most_steps f c ≡ 6 + 4 * f)
-    → ReaderCounts (reader_looks_for none (Purpose.Copy form)) known (opened_with k false) (record { made = 0; call = Some c }) 0
-drains-count known k true form c test enough most = record { sees = refl; enough = enough; within = λ f least. let is = most f in record { steps = omega arith; calls = omega arith } }
-drains-count known k false Try c test enough most = record { sees = tt; enough = enough; within = λ f least. let is = most f in record { steps = omega arith; calls = omega arith } }
-drains-count known k false (Polling is_drawn) c test enough most = record { sees = some-known known test; enough = enough; within = λ f least. let is = most f in record { steps = omega arith; calls = omega arith } }
-
-polls-count : (known : ℕ) (k : Knowledge) (none : Bool) (c : Call) → (known == 0) ≡ none → known ≤ k.known → ((f : ℕ) → most_steps f c ≡ 5)
-    → ReaderCounts (reader_looks_for none Purpose.Poll) known (opened_with k false) (record { made = 0; call = Some c }) 0
-polls-count known k true c test enough most = record { sees = refl; enough = enough; within = λ f least. let is = most f in record { steps = omega arith; calls = omega arith } }
-polls-count known k false c test enough most = record { sees = some-known known test; enough = enough; within = λ f least. let is = most f in record { steps = omega arith; calls = omega arith } }
-
-fills-count : (room : ℕ) (k : Knowledge) (form : Form) (c : Call) → room ≤ k.known → ((f : ℕ) → most_steps f c ≡ 6 + 5 * f)
-    → WriterCounts (WritePoint.LookClosed (Purpose.Copy form)) room (opened_with k false) (record { made = 0; call = Some c }) 0
-fills-count room k form c enough most = record { sees = (refl, enough); enough = enough; within = λ f least. let is = most f in record { steps = omega arith; calls = omega arith } }
-
-idle_writer : (point : WritePoint) (more : Option StepRefusal) → or_else (cannot_begin (writer_state point)) more ≡ None → point ≡ WritePoint.Idle
-idle_writer point more accepted = grind arith
-
-lends-count : (point : WritePoint) (room most : ℕ) (k : Knowledge) → point ≡ WritePoint.Idle → room ≤ k.known → WriterCounts point room (opened_with k false) (record { made = 0; call = Some (Call.WriteBuf most) }) 0
-lends-count WritePoint.Idle room most k idle enough = record { sees = tt; enough = enough; within = λ f least. record { steps = omega arith; calls = omega arith } }
-lends-count point room most k idle enough = absurd (cc)
-
 -- the call that is opened begins anew, and leaves the other side as it is
 begin-counts : (side : Side) (cap : ℕ) (lent : List ℕ) (c : Call) (p : Pipe) (k : Knowledge) (t : Tally) (calls : ℕ) → refusal_of (Begin c) p ≡ None → Counts side p k t calls
     → let new = stepped lent (Begin c) p in Counts side new.pipe (knowledge_from cap side k new.events) (tallied side t (Begin c)) (called side p (Begin c) calls)
-begin-counts Reader cap lent (Call.Query Reader query) p k t calls accepted held = record { sees = refl; enough = held.enough; within = λ f least. plain f 2 (Call.Query Reader query) (omega arith) }
-begin-counts Reader cap lent (Call.IsClosed Reader) p k t calls accepted held = record { sees = tt; enough = held.enough; within = λ f least. plain f 1 (Call.IsClosed Reader) (omega arith) }
-begin-counts Reader cap lent (Call.Poll Reader waker luck) p k t calls accepted held = polls-count p.known k (p.known == 0) (Call.Poll Reader waker luck) refl held.enough (λ f. refl)
-begin-counts Reader cap lent (Call.TryDrain size) p k t calls accepted held = drains-count p.known k (p.known == 0) _ (Call.TryDrain size) refl held.enough (λ f. refl)
-begin-counts Reader cap lent (Call.PollDrainBytes waker luck size) p k t calls accepted held = drains-count p.known k (p.known == 0) _ (Call.PollDrainBytes waker luck size) refl held.enough (λ f. refl)
-begin-counts Reader cap lent (Call.PollDrain waker luck acts) p k t calls accepted held = drains-count p.known k (p.known == 0) _ (Call.PollDrain waker luck acts) refl held.enough (λ f. refl)
-begin-counts Reader cap lent (Call.Consume n) p k t calls accepted held = record { sees = tt; enough = held.enough; within = λ f least. plain f 3 (Call.Consume n) (omega arith) }
-begin-counts Reader cap lent (Call.Drop Reader) p k t calls accepted held = record { sees = tt; enough = held.enough; within = λ f least. plain f 3 (Call.Drop Reader) (omega arith) }
-begin-counts Reader cap lent c p k t calls accepted held = held
-begin-counts Writer cap lent (Call.Query Writer query) p k t calls accepted held = record { sees = refl; enough = held.enough; within = λ f least. plain f 2 (Call.Query Writer query) (omega arith) }
-begin-counts Writer cap lent (Call.IsClosed Writer) p k t calls accepted held = record { sees = tt; enough = held.enough; within = λ f least. plain f 1 (Call.IsClosed Writer) (omega arith) }
-begin-counts Writer cap lent (Call.Poll Writer waker luck) p k t calls accepted held = record { sees = (refl, held.enough); enough = held.enough; within = λ f least. plain f 5 (Call.Poll Writer waker luck) (omega arith) }
-begin-counts Writer cap lent (Call.TryFill bytes) p k t calls accepted held = fills-count p.room k _ (Call.TryFill bytes) held.enough (λ f. refl)
-begin-counts Writer cap lent (Call.PollFillBytes waker luck bytes) p k t calls accepted held = fills-count p.room k _ (Call.PollFillBytes waker luck bytes) held.enough (λ f. refl)
-begin-counts Writer cap lent (Call.PollFill waker luck acts) p k t calls accepted held = fills-count p.room k _ (Call.PollFill waker luck acts) held.enough (λ f. refl)
-begin-counts Writer cap lent (Call.WriteBuf most) p k t calls accepted held = lends-count p.writer p.room most k (idle_writer p.writer _ accepted) held.enough
-begin-counts Writer cap lent (Call.Produced n) p k t calls accepted held = record { sees = tt; enough = held.enough; within = λ f least. plain f 3 (Call.Produced n) (omega arith) }
-begin-counts Writer cap lent Call.Close p k t calls accepted held = record { sees = tt; enough = held.enough; within = λ f least. plain f 5 Call.Close (omega arith) }
-begin-counts Writer cap lent (Call.Drop Writer) p k t calls accepted held = record { sees = tt; enough = held.enough; within = λ f least. plain f 3 (Call.Drop Writer) (omega arith) }
-begin-counts Writer cap lent c p k t calls accepted held = held
+begin-counts side cap lent c p k t calls accepted held = grind arith
 
 -- what a step reports to a side, with the answer after it
 pub noted : (c : ℕ) (side actor : Side) (k j : Knowledge) (es : List Event) (answer : Option Answer) → knowledge_from c side k es ≡ j → knowledge_from c side k (es ++ answer_event actor answer) ≡ j

@@ -4,7 +4,6 @@ use Rattle.std.proofs.Common.{◌≡◌, ◌≢◌, ℕ, ◌+◌, ◌-◌, ◌<�
 use Rattle.std.proofs.lemmas.List.{take-append-le}
 use Rattle.std.proofs.lemmas.Bool.Decides.{nat_tests}
 use Rattle.piper_machine.specs.Types.{Event, StepRefusal, Step, Action, Reader, Writer, Begin, Go, Put}
-use Rattle.piper_protocol.specs.Index.{offset_of}
 use Rattle.piper_machine.specs.Pipe.{Pipe}
 use Rattle.piper_machine.specs.Sound.{IsSound}
 use Rattle.piper_protocol.specs.Table.{write_action}
@@ -15,14 +14,8 @@ use Rattle.piper_machine.proofs.Opened.{opened-leaves}
 use Rattle.piper_machine.proofs.Counting.{writer_never-head}
 use Rattle.piper_machine.specs.Disjoint.{IsDisjoint, KeepsKnown, IsWriterStep}
 
-apart : (c s u k r i j : ℕ) → s < c → u ≤ c → k ≤ u → r ≤ c - u → i < k → j < r → j < c - offset_of c (s + u) → offset_of c (s + i) ≢ offset_of c (s + u) + j
-apart c s u k r i j start fits known room first second flat = grind (arith, nat_tests)
-
 pub disjoint : (p : Pipe) → IsSound p → IsDisjoint p
-disjoint p sound place reads writes =
-    apart p.capacity p.start (length p.unread) p.known p.room reads.number writes.number sound.start sound.unread sound.known sound.room reads.is_known
-    (let h = writes.is_lent in omega (arith, sound.lent_room)) (let h = writes.is_lent in omega (arith, sound.lent_place))
-    (sym reads.valid ∙ writes.valid)
+disjoint p sound place reads writes = grind arith
 
 keeps_all : (p q : Pipe) → q.capacity ≡ p.capacity → q.start ≡ p.start → q.known ≡ p.known → q.unread ≡ p.unread → KeepsKnown p q
 keeps_all p q capacity start known unread = record { capacity = capacity; start = start; known = known; bytes = ap (take p.known) unread }

@@ -4,25 +4,22 @@ use Rattle.std.proofs.Common.{◌≡◌, ℕ, ◌+◌, ◌-◌, ◌<◌, ◌≤�
 use Rattle.std.proofs.lemmas.Bool.Decides.{nat_tests}
 use Rattle.std.proofs.lemmas.List.{drop-drop}
 use borrow.Rule.Slice.PartMut.{put_mid}
-use Rattle.piper_machine.specs.Types.{AfterRead, Purpose, OpenCall, Answer, Context, Action, Form, ReadPoint, Found, Destination, Polled, DestAct, Reader, Busy, Nothing as nothing, IndexLoaded as index_loaded, Granted as granted, Waker as waker, Slice, Acts, Ready, Pending, Memory}
-use Rattle.piper_machine.specs.Open.{is_granted}
-use Rattle.piper_protocol.specs.Table.{Next, goes_on, head_store, moved_in, read_action, read_after, reader_is_true, reader_looked, reader_looked_again, reader_looks_for, reader_moved, reader_registered, writer_taken}
-use Rattle.piper_machine.specs.Pipe.{Pipe, begun}
+use Rattle.piper_machine.specs.Types.{OpenCall, Answer, Context, Action, ReadPoint, Found, Destination, DestAct, Reader, Busy, Slice}
+use Rattle.piper_protocol.specs.Table.{head_store, read_action}
+use Rattle.piper_machine.specs.Pipe.{Pipe}
 use Rattle.piper_machine.specs.Sound.{IsSound}
 use Rattle.piper_machine.specs.Move.{with_waker}
-use Rattle.piper_machine.specs.Copy.{Copied, count_of, copied_after, drawn, drain_moves, drain}
-use Rattle.piper_machine.specs.Look.{reader_look, reader_looks, reader_registers}
-use Rattle.piper_machine.specs.LoadIfNone.{tail_loaded_if_empty}
+use Rattle.piper_machine.specs.Copy.{Copied, count_of, drain}
 use Rattle.piper_machine.specs.Round.{taken, found_of, left_of_acts, left_of_destination}
 use Rattle.piper_machine.specs.Refusal.{reader_state}
 use Rattle.piper_machine.specs.Action.{round_count, destination_called}
-use Rattle.piper_machine.specs.Step.{Stepped, went, form_of, drain_opened, call_after, destination_after, drain_left, drain_answer}
-use Rattle.piper_machine.specs.Alone.{Ended, heard, is_draining, reader_alone}
+use Rattle.piper_machine.specs.Step.{Stepped, went, drain_opened, destination_after, drain_left, drain_answer}
+use Rattle.piper_machine.specs.Alone.{heard, is_draining, reader_alone}
 use Rattle.piper_machine.proofs.Alone.{reader_rest, reads_left, read_step}
 use Rattle.piper_machine.proofs.Copies.{drain-rest}
 use Rattle.piper_machine.proofs.Falling.{drain-falls}
-use Rattle.piper_machine.proofs.Validity.{IsSettled, ReaderValid, reads-on, reader-settled, reader-valid}
-use Rattle.piper_machine.proofs.Rounds.{next_part, HasOneWake, one_wake-room, one_wake-none}
+use Rattle.piper_machine.proofs.Validity.{IsSettled, ReaderValid, reader-settled, reader-valid}
+use Rattle.piper_machine.proofs.Rounds.{next_part, HasOneWake, one_wake-room}
 
 -- the pipe of a call that holds this destination
 abbrev pub placing : Destination → Pipe → Pipe
@@ -46,48 +43,8 @@ wake-room point p wakes =
     let names = longer p.woken (errand point p.reader_call) in
     omega arith
 
--- a step of a drain that gives no answer leads to a point of a drain, and a waker is called once
-abbrev IsKept : List ℕ → Option ℕ → Next ReadPoint → OpenCall → Type 0
-IsKept woken name next c = next.answer ≡ None → (is_draining next.point ≡ true) × HasOneWake (with_waker woken (errand next.point (call_after next.answer c))) name
-
-module _ (woken : List ℕ) (name : Option ℕ) (c : OpenCall) (one : HasOneWake woken name) where
-  looks-kept : (none : Bool) (form : Form) → IsKept woken name (goes_on (reader_looked none (Purpose.Copy form))) c
-  looks-kept none form goes = grind arith
-
-  registers-kept : (granted : Bool) (form : Form) → IsKept woken name (reader_registered granted (Purpose.Copy form)) c
-  registers-kept true form goes = (refl, one)
-  registers-kept false form goes = absurd (cc)
-
-  again-kept : (none was_closed : Bool) (form : Form) → IsKept woken name (reader_looked_again none (Purpose.Copy form) was_closed) c
-  again-kept none was_closed form goes = grind arith
-
-  takes-kept : (form : Form) → IsKept woken name (reader_is_true (Purpose.Copy form)) c
-  takes-kept form goes = grind arith
-
-  moves-kept : (n : ℕ) (none : Bool) (form : Form) (sum : ℕ) → IsKept woken name (reader_moved none n form sum) c
-  moves-kept n none form sum goes = grind arith
-
-  calls-kept : (destination : Destination) (most : ℕ) (form : Form) (sum capacity : ℕ) → IsKept woken name (read_after capacity (ReadPoint.CallDestination form sum) (found_of (taken most destination))) c
-  calls-kept (Slice size) most form sum capacity = moves-kept (min size most) (min size most == 0) form sum
-  calls-kept (Acts []) most form sum capacity = moves-kept 0 true form sum
-  calls-kept (Acts (DestAct.Fail ∷ acts)) most form sum capacity = λ goes. absurd (cc)
-  calls-kept (Acts (DestAct.Take size ∷ acts)) most form sum capacity = moves-kept (min size most) (min size most == 0) form sum
-
-wakes-kept : (name : Option ℕ) (form : Form) (sum : ℕ) (woken : List ℕ) (c : OpenCall) → HasOneWake woken name → IsKept woken None (writer_taken (AfterRead.Round form sum) (is_some name)) (record c { taken = name })
-wakes-kept name form sum woken c one goes = grind arith
-
 drain-kept : (point : ReadPoint) (p : Pipe) → is_draining point ≡ true → WakesOne point p → let s = read_step point p in s.answer ≡ None → (is_draining s.pipe.reader ≡ true) × WakesOne s.pipe.reader s.pipe
-drain-kept (ReadPoint.LookTail (Purpose.Copy form)) p drains one goes = looks-kept p.woken p.writer_waker p.reader_call one (length p.unread == 0) form goes
-drain-kept (ReadPoint.LookRegister (Purpose.Copy form)) p drains one goes = registers-kept p.woken p.writer_waker p.reader_call one (is_granted p.reader_call.context) form goes
-drain-kept (ReadPoint.LookClosed (Purpose.Copy form)) p drains one goes = (refl, one)
-drain-kept (ReadPoint.LookTailAgain (Purpose.Copy form) was_closed) p drains one goes = again-kept p.woken p.writer_waker p.reader_call one (length p.unread == 0) was_closed form goes
-drain-kept (ReadPoint.LookTake (Purpose.Copy form)) p drains one goes = takes-kept p.woken p.writer_waker (record p.reader_call { taken = p.reader_waker }) one form goes
-drain-kept ReadPoint.Yield p drains one goes = absurd (cc)
-drain-kept (ReadPoint.CallDestination form sum) p drains one goes = calls-kept p.woken p.writer_waker p.reader_call one p.destination (round_count p) form sum p.capacity goes
-drain-kept (ReadPoint.StoreHead n (AfterRead.Round form sum)) p drains one goes = (refl, one)
-drain-kept (ReadPoint.TakeWriter (AfterRead.Round form sum)) p drains one goes = wakes-kept p.writer_waker form sum p.woken p.reader_call one goes
-drain-kept (ReadPoint.WakeWriter (AfterRead.Round form sum)) p drains one goes = (refl, one)
-drain-kept point p drains one goes = absurd (cc)
+drain-kept point p drains one goes = grind arith
 
 -- a drain that was opened at p has come to u
 pub record Draining (p u : Pipe) : Type 0 where
@@ -131,8 +88,7 @@ pub record IsApart (point : ReadPoint) (destination : Destination) (p : Pipe) : 
   pub destination_is : (read_step point p).pipe.destination ≡ destination_after (read_step point p).answer p.destination
 
 apart : (point : ReadPoint) (destination : Destination) (p : Pipe) → (read_action point ≡ Action.CallDestination → ⊥) → IsApart point destination p
-apart (ReadPoint.CallDestination form sum) destination p other = absurd (other refl)
-apart point destination p other = record { answer = refl; pipe = refl; destination_is = refl }
+apart point destination p other = grind arith
 
 -- the same of a pipe whose call holds no destination
 abbrev pub IsGoneOn : Pipe → Destination → Pipe → Option Answer → Pipe → Type 0
@@ -151,17 +107,13 @@ pub record IsAnswered (p : Pipe) (answer : Answer) (r : Pipe) : Type 0 where
   pub after : r ≡ (reader_alone p.reader p).pipe
 
 pub ends : {p : Pipe} {destination : Destination} {q r : Pipe} {found : Option Answer} {answer : Answer} → IsGone p destination q found r → found ≡ Some answer → IsAnswered p answer r
-ends {p} {destination} {q} {r} gone is =
-    let ended = subst (λ (a : Option Answer). IsGoneOn p destination q a r) is gone.on in
-    record { answer_is = sym (ap (λ (e : Ended). e.answer) ended); after = sym (ap (λ (e : Ended). e.pipe) ended) }
+ends gone is = grind arith
 
 gone-on : (p q r : Pipe) (destination : Destination) (answer : Option Answer) (s : Pipe) → s ≡ placing (destination_after answer destination) r → r.destination ≡ destination_after answer r.destination → IsDrained p (placing destination q) answer s → IsGoneOn p destination q answer r
-gone-on p q r destination None s is kept drained = subst (λ (v : Pipe). Draining p v × (left_of v < left_of q)) is drained
-gone-on p q r destination (Some answer) s is kept drained = drained ∙ ap (λ (v : Pipe). record { answer = answer; pipe = v }) (is ∙ λ j. record r { destination = sym kept j })
+gone-on p q r destination answer s is kept drained = grind arith
 
 settled-destination : (answer : Option Answer) (left held : Destination) → left ≡ destination_after answer held → left ≡ destination_after answer left
-settled-destination None left held is = refl
-settled-destination (Some answer) left held is = is
+settled-destination answer left held is = grind arith
 
 -- a step that the machine makes with no destination of its own: the waker that it calls is heard,
 -- and then it goes
@@ -206,10 +158,6 @@ called destination found p q r answer calls draining found_is round =
     let kept : r.destination ≡ destination_after answer q.destination = ap (λ (v : Pipe). v.destination) round.after ∙ ap (λ (a : Option Answer). destination_after a q.destination) (sym round.answer_is) in
     gone-on p q r rest answer (read_step q.reader u).pipe pipe (settled-destination answer r.destination q.destination kept) (drained-by p u answer draining answer_is)
 
--- the unread bytes: a store that is next gives them up
-no-store : (capacity : ℕ) (point : ReadPoint) (found : Found) → reader_state point ≡ Busy → moved_in found ≡ 0 → head_store (read_after capacity point found).point ≡ 0
-no-store capacity point found busy none = let store = (reads-on capacity point found busy).store in omega arith
-
 pub calls-store : (point : ReadPoint) → read_action point ≡ Action.CallDestination → head_store point ≡ 0
 calls-store point calls = grind arith
 
@@ -219,43 +167,15 @@ took Action.CallDestination size p = min size (round_count p)
 took action size p = 0
 
 pub took-none : (action : Action) (size : ℕ) (p : Pipe) → (action ≡ Action.CallDestination → ⊥) → took action size p ≡ 0
-took-none Action.CallDestination size p other = absurd (other refl)
-took-none action size p other = refl
+took-none action size p other = grind arith
 
 record Reads (store n size : ℕ) (unread : List ℕ) (s : Stepped) : Type 0 where
   pub unread_is : drop (head_store s.pipe.reader) s.pipe.unread ≡ drop n (drop store unread)
   pub ends : is_some s.answer ≡ true → head_store s.pipe.reader ≡ 0
   pub destination : s.pipe.destination ≡ destination_after s.answer (Slice (size - n))
 
-reads-none : (store size : ℕ) (unread : List ℕ) (s : Stepped) → head_store s.pipe.reader ≡ 0 → s.pipe.unread ≡ drop store unread → s.pipe.destination ≡ destination_after s.answer (Slice size) → Reads store 0 size unread s
-reads-none store size unread s none is held =
-    let all : size - 0 ≡ size = omega arith in
-    record {
-      unread_is = ap (λ (k : ℕ). drop k s.pipe.unread) none ∙ is;
-      ends = λ ends. none;
-      destination = held ∙ ap (λ (k : ℕ). destination_after s.answer (Slice k)) (sym all);
-    }
-
-moves-read : (n : ℕ) (none : Bool) (form : Form) (sum : ℕ) (unread : List ℕ) → (n == 0) ≡ none → let next = reader_moved none n form sum in
-    (drop (head_store next.point) unread ≡ drop n unread) × (is_some next.answer ≡ true → head_store next.point ≡ 0)
-moves-read n true form sum unread test = let none : 0 ≡ n = grind (arith, nat_tests) in (ap (λ (k : ℕ). drop k unread) none, λ ends. refl)
-moves-read n false form sum unread test = (refl, λ ends. absurd (cc))
-
 reads : (point : ReadPoint) (size : ℕ) (p : Pipe) → is_draining point ≡ true → Reads (head_store point) (took (read_action point) size p) size p.unread (read_step point (placing (Slice size) p))
-reads (ReadPoint.LookTail (Purpose.Copy form)) size p drains = reads-none 0 size p.unread (read_step (ReadPoint.LookTail (Purpose.Copy form)) (placing (Slice size) p)) (no-store p.capacity (ReadPoint.LookTail (Purpose.Copy form)) (index_loaded (length p.unread == 0)) refl refl) refl refl
-reads (ReadPoint.LookRegister (Purpose.Copy form)) size p drains = reads-none 0 size p.unread (read_step (ReadPoint.LookRegister (Purpose.Copy form)) (placing (Slice size) p)) (no-store p.capacity (ReadPoint.LookRegister (Purpose.Copy form)) (granted (is_granted p.reader_call.context)) refl refl) refl refl
-reads (ReadPoint.LookClosed (Purpose.Copy form)) size p drains = reads-none 0 size p.unread (read_step (ReadPoint.LookClosed (Purpose.Copy form)) (placing (Slice size) p)) refl refl refl
-reads (ReadPoint.LookTailAgain (Purpose.Copy form) was_closed) size p drains = reads-none 0 size p.unread (read_step (ReadPoint.LookTailAgain (Purpose.Copy form) was_closed) (placing (Slice size) p)) (no-store p.capacity (ReadPoint.LookTailAgain (Purpose.Copy form) was_closed) (index_loaded (length p.unread == 0)) refl refl) refl refl
-reads (ReadPoint.LookTake (Purpose.Copy form)) size p drains = reads-none 0 size p.unread (read_step (ReadPoint.LookTake (Purpose.Copy form)) (placing (Slice size) p)) (no-store p.capacity (ReadPoint.LookTake (Purpose.Copy form)) nothing refl refl) refl refl
-reads ReadPoint.Yield size p drains = reads-none 0 size p.unread (read_step ReadPoint.Yield (placing (Slice size) p)) refl refl refl
-reads (ReadPoint.CallDestination form sum) size p drains =
-    let n = min size (round_count p) in
-    let moved = moves-read n (n == 0) form sum p.unread refl in
-    record { unread_is = moved.0; ends = moved.1; destination = refl }
-reads (ReadPoint.StoreHead n (AfterRead.Round form sum)) size p drains = reads-none n size p.unread (read_step (ReadPoint.StoreHead n (AfterRead.Round form sum)) (placing (Slice size) p)) refl refl refl
-reads (ReadPoint.TakeWriter (AfterRead.Round form sum)) size p drains = reads-none 0 size p.unread (read_step (ReadPoint.TakeWriter (AfterRead.Round form sum)) (placing (Slice size) p)) (no-store p.capacity (ReadPoint.TakeWriter (AfterRead.Round form sum)) (waker (is_some p.writer_waker)) refl refl) refl refl
-reads (ReadPoint.WakeWriter (AfterRead.Round form sum)) size p drains = reads-none 0 size p.unread (read_step (ReadPoint.WakeWriter (AfterRead.Round form sum)) (placing (Slice size) p)) refl refl refl
-reads point size p drains = absurd (cc)
+reads point size p drains = grind arith
 
 -- so many bytes have left the pipe, or leave it by the store that is next
 pub record IsRead (before : List ℕ) (size done : ℕ) (p : Pipe) : Type 0 where
@@ -267,8 +187,7 @@ pub record IsReadOn (before : List ℕ) (size done : ℕ) (answer : Option Answe
   pub ends : is_some answer ≡ true → r.unread ≡ drop done before
 
 is-read-on : (before : List ℕ) (size done : ℕ) (answer : Option Answer) (r : Pipe) → drop (head_store r.reader) r.unread ≡ drop done before → (is_some answer ≡ true → head_store r.reader ≡ 0) → r.destination ≡ destination_after answer (Slice (size - done)) → IsReadOn before size done answer r
-is-read-on before size done None r unread ends held = record { on = λ none. record { unread = unread; destination = held }; ends = λ some. absurd (cc) }
-is-read-on before size done (Some answer) r unread ends held = record { on = λ none. absurd (cc); ends = λ some. sym (ap (λ (k : ℕ). drop k r.unread) (ends refl)) ∙ unread }
+is-read-on before size done answer r unread ends held = grind arith
 
 -- a step of the call takes in what is read
 pub takes-in : (before : List ℕ) (size done : ℕ) (q h r : Pipe) (answer : Option Answer) → is_draining q.reader ≡ true → IsRead before size done q → h ≡ heard Reader (read_action q.reader) q → answer ≡ (went Reader h).answer → r ≡ (went Reader h).pipe
@@ -287,8 +206,7 @@ takes-in before size done q h r answer drains is hears answers after =
     (ap (λ (v : Pipe). v.destination) pipe_is ∙ read.destination ∙ ap (λ (k : ℕ). destination_after s.answer (Slice k)) sizes ∙ ap (λ (a : Option Answer). destination_after a (Slice (size - (done + n)))) (sym answer_is))
 
 along : (p q r : Pipe) (answer : Option Answer) → IsDrained p q answer r → IsGoneOn p r.destination q answer r
-along p q r None drained = drained
-along p q r (Some answer) drained = drained
+along p q r answer drained = grind arith
 
 pub goes-along : (p q h r : Pipe) (answer : Option Answer) → Draining p q → h ≡ heard Reader (read_action q.reader) q → answer ≡ (went Reader h).answer → r ≡ (went Reader h).pipe → IsGone p r.destination q answer r
 goes-along p q h r answer draining hears answers after =
@@ -321,42 +239,8 @@ drained-bytes n before after dest so_far known left is =
     let count : n ≡ length before - length after = omega (arith, ap (λ (xs : List ℕ). length xs) left, length-drop n before) in
     is ∙ ap (λ (k : ℕ). take k before ++ drop k dest) count
 
--- a drain is opened
-looks-drain : (none : Bool) (form : Form) → is_draining (reader_looks_for none (Purpose.Copy form)) ≡ true
-looks-drain none form = grind arith
-
-looks-busy : (none : Bool) (form : Form) → reader_state (reader_looks_for none (Purpose.Copy form)) ≡ Busy
-looks-busy none form = grind arith
-
-looks-store : (none : Bool) (form : Form) → head_store (reader_looks_for none (Purpose.Copy form)) ≡ 0
-looks-store none form = grind arith
-
-looks-errand : (none : Bool) (form : Form) (c : OpenCall) → errand (reader_looks_for none (Purpose.Copy form)) c ≡ None
-looks-errand none form c = grind arith
-
 pub opened : (cx : Option Context) (destination : Destination) (p q : Pipe) → IsSound p → p.woken ≡ [] → q ≡ drain_opened cx (Slice 0) p → Draining (drain_opened cx destination p) (placing destination q)
-opened cx destination p q sound unwoken is =
-    let none = p.known == 0 in
-    let form = form_of cx in
-    let store = looks-store none form in
-    let o = drain_opened cx destination p in
-    subst (λ (v : Pipe). Draining o (placing destination v)) (sym is) (record {
-      drains = looks-drain none form;
-      busy = looks-busy none form;
-      valid = record { unread = sound.unread; start = sound.start; known = sound.known; store = omega arith };
-      wakes = subst (λ (names : List ℕ). HasOneWake (with_waker names (errand o.reader o.reader_call)) p.writer_waker) (sym unwoken) (subst (λ (name : Option ℕ). HasOneWake (with_waker [] name) p.writer_waker) (sym (looks-errand none form o.reader_call)) (one_wake-none p.writer_waker));
-      rest = refl;
-    })
-
-pub opened-slice : (cx : Option Context) (size : ℕ) (p q : Pipe) → IsSound p → p.woken ≡ [] → q ≡ drain_opened cx (Slice size) p → Draining (drain_opened cx (Slice size) p) q × IsRead p.unread size 0 q
-opened-slice cx size p q sound unwoken is =
-    let o = drain_opened cx (Slice size) p in
-    let store = looks-store (p.known == 0) (form_of cx) in
-    let all : size ≡ size - 0 = omega arith in
-    subst (λ (v : Pipe). Draining o v × IsRead p.unread size 0 v) (sym is) (
-      opened cx (Slice size) p (drain_opened cx (Slice 0) p) sound unwoken refl,
-      record { unread = ap (λ (n : ℕ). drop n p.unread) store; destination = ap (λ (n : ℕ). Slice n) all },
-    )
+opened cx destination p q sound unwoken is = grind arith
 
 -- the acts of a script are spent one after the other
 acts-left : (acts : List DestAct) → left_of_acts acts ≡ drop 1 acts
@@ -373,46 +257,8 @@ pub record IsCounted (before : List ℕ) (count : ℕ) (after : List ℕ) : Type
 abbrev CountsTo : Pipe → Copied ℕ → Type 0
 CountsTo p copied = IsCounted p.unread (count_of copied.answer) copied.pipe.unread
 
-none-moved : (bytes : List ℕ) → IsCounted bytes 0 bytes
-none-moved bytes = record { within = omega arith; left = refl }
-
-drawn-counts : (is_drawn yields : Bool) (cx : Context) (size : ℕ) (p : Pipe) → cx.luck.yield_granted ≡ yields → p.known ≤ length p.unread → CountsTo p (drawn is_drawn cx (drain_moves size) p)
-drawn-counts true true cx size p y known = rw y (none-moved p.unread)
-drawn-counts true false cx size p y known = rw y (none-moved p.unread)
-drawn-counts false yields cx size p y known = record { within = omega arith; left = refl }
-
-after-counts : (cx : Option Context) (size : ℕ) (answer : Polled Bool) (p : Pipe) → p.known ≤ length p.unread → CountsTo p (copied_after cx 0 (drain_moves size) answer p)
-after-counts None size (Ready true) p known = record { within = omega arith; left = refl }
-after-counts (Some cx) size (Ready true) p known = drawn-counts (cx.luck.draw == 0) cx.luck.yield_granted cx size p refl known
-after-counts cx size (Ready false) p known = none-moved p.unread
-after-counts cx size Pending p known = none-moved p.unread
-after-counts cx size Memory p known = none-moved p.unread
-
-abbrev KeepsUnread : Pipe → Pipe → Type 0
-KeepsUnread p q = (q.unread ≡ p.unread) × (q.known ≡ p.known)
-
-registers-keep : (granted : Bool) (name : ℕ) (p : Pipe) → KeepsUnread p (reader_registers granted name p).pipe
-registers-keep true name p = (refl, refl)
-registers-keep false name p = (refl, refl)
-
-looks-keep : (none : Bool) (cx : Option Context) (p : Pipe) → KeepsUnread p (reader_looks none cx p).pipe
-looks-keep true None p = (refl, refl)
-looks-keep true (Some cx) p = registers-keep cx.luck.register_granted cx.waker p
-looks-keep false None p = (refl, refl)
-looks-keep false (Some cx) p = (refl, refl)
-
-loaded-known : (p : Pipe) → p.known ≤ length p.unread → (tail_loaded_if_empty p).known ≤ length p.unread
-loaded-known p known = grind (arith, nat_tests)
-
 pub drain-counts : (cx : Option Context) (size : ℕ) (p : Pipe) → p.known ≤ length p.unread → CountsTo p (drain cx size p)
-drain-counts cx size p known =
-    let look = reader_look cx (begun p) in
-    let kept = looks-keep ((tail_loaded_if_empty (begun p)).known == 0) cx (tail_loaded_if_empty (begun p)) in
-    let long = loaded-known (begun p) known in
-    let unread = kept.0 in
-    let same = ap (λ (xs : List ℕ). length xs) unread in
-    let counts = after-counts cx size look.answer look.pipe (omega (arith, kept.1)) in
-    subst (λ (bytes : List ℕ). IsCounted bytes (count_of (drain cx size p).answer) (drain cx size p).pipe.unread) unread counts
+drain-counts cx size p known = grind arith
 
 -- the front of the slice, by that count
 pub counted-bytes : (count : ℕ) (before after dest filled_now : List ℕ) → IsCounted before count after → (let n = length before - length after in filled_now ≡ take n before ++ drop n dest) → filled_now ≡ take count before ++ drop count dest

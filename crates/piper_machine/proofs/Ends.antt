@@ -43,13 +43,8 @@ final-append saw ended (e ∷ es) fs first then = (first.0, final-append (saw_cl
 
 -- what that says of every moment of a log
 
-still-at-tail : (saw : Bool) (unread : ℕ) → found_at_tail saw unread true ≡ true
-still-at-tail saw unread = grind arith
-
 still-ended : (saw : Bool) (e : Event) → ended_after saw true e ≡ true
-still-ended saw (Looked Reader (Tail unread)) = still-at-tail saw unread
-still-ended saw (Answered Reader (Poll (Ready false))) = refl
-still-ended saw e = refl
+still-ended saw e = grind arith
 
 after-end : (saw : Bool) (es : List Event) → IsFinalFrom saw true es → All IsAfterEnd es × (ended_from saw true es ≡ true)
 after-end saw [] h = (All-nil IsAfterEnd, refl)
@@ -71,6 +66,4 @@ found-here saw ended seen = grind arith
 
 -- a look at the tail finds an end only so
 pub at-tail : (saw : Bool) (unread : ℕ) (ended : Bool) → found_at_tail saw unread ended ≡ true → (ended ≡ true) ⊎ ((saw ≡ true) × (unread ≡ 0))
-at-tail true zero ended found = inr (refl, refl)
-at-tail true (suc unread) ended found = inl found
-at-tail false unread ended found = inl found
+at-tail saw unread ended found = grind arith

@@ -1,24 +1,22 @@
 -- A fill run whole: its source stays with the caller, and each step is that of a call which holds
 -- this source.
 use Rattle.std.proofs.Common.{◌≡◌, ℕ, ◌-◌, ◌<◌, ◌≤◌, min, List, [], ◌∷◌, take, length, Bool, true, false, Option, None, Some, ◌==◌, is_some, refl, sym, ap, subst, ◌∙◌, arith, Result, Ok, Err, length-append}
-use Rattle.piper_machine.specs.Types.{Action, AfterWrite, Purpose, OpenCall, Answer, Failed, SourceAct, Form, WritePoint, Found, Context, Writer, Go, Busy, MOST_A_ROUND}
-use Rattle.piper_machine.specs.Open.{is_granted}
-use Rattle.piper_protocol.specs.Table.{Next, goes_on, write_action, write_after, writer_is_open, writer_looked, writer_looked_again, writer_registered, writer_is_true, writer_moved, writer_rounds, reader_taken}
+use Rattle.piper_machine.specs.Types.{Action, OpenCall, Answer, Failed, SourceAct, WritePoint, Found, Writer, Go, Busy, MOST_A_ROUND}
+use Rattle.piper_protocol.specs.Table.{write_action}
 use Rattle.piper_machine.specs.Pipe.{Pipe}
-use Rattle.piper_machine.specs.Sound.{IsSound}
 use Rattle.piper_machine.specs.Lend.{Lendable, lending}
 use Rattle.piper_machine.specs.Move.{with_waker}
 use Rattle.piper_machine.specs.Source.{bytes_of, is_failing}
 use Rattle.piper_machine.specs.Round.{given, found_of, left_of_source}
 use Rattle.piper_machine.specs.Refusal.{writer_state}
 use Rattle.piper_machine.specs.Action.{source_called}
-use Rattle.piper_machine.specs.Step.{stepped, fill_opened, call_after, source_after, round_left, round_answer, MayOffer}
-use Rattle.piper_machine.specs.Alone.{Ended, heard, is_filling, writer_alone}
+use Rattle.piper_machine.specs.Step.{stepped, source_after, round_left, round_answer, MayOffer}
+use Rattle.piper_machine.specs.Alone.{heard, is_filling, writer_alone}
 use Rattle.piper_machine.proofs.Alone.{writer_rest, writes_left}
 use Rattle.piper_machine.proofs.Copies.{WriterValid, fill_step, fill-rest}
 use Rattle.piper_machine.proofs.Falling.{fill-falls}
 use Rattle.piper_machine.proofs.Validity.{IsSettled, closes_round, writer-settled, writer-valid}
-use Rattle.piper_machine.proofs.Rounds.{HasOneWake, one_wake-room, one_wake-none}
+use Rattle.piper_machine.proofs.Rounds.{HasOneWake, one_wake-room}
 use Rattle.piper_machine.proofs.Sources.{source-called}
 
 -- the pipe of a call that holds this source
@@ -43,55 +41,9 @@ wake-room point p wakes =
     let names = longer p.woken (errand point p.writer_call) in
     omega arith
 
--- a step of a fill that gives no answer leads to a point of a fill, and a waker is called once
-abbrev IsKept : List ℕ → Option ℕ → Next WritePoint → OpenCall → Type 0
-IsKept woken waker next c = next.answer ≡ None → (is_filling next.point ≡ true) × HasOneWake (with_waker woken (errand next.point (call_after next.answer c))) waker
-
-module _ (woken : List ℕ) (waker : Option ℕ) (c : OpenCall) (one : HasOneWake woken waker) where
-  open-kept : (is_closed none : Bool) (form : Form) → IsKept woken waker (writer_is_open is_closed none (Purpose.Copy form)) c
-  open-kept is_closed none form goes = grind arith
-
-  loads-kept : (none : Bool) (form : Form) → IsKept woken waker (goes_on (writer_looked none (Purpose.Copy form))) c
-  loads-kept none form goes = grind arith
-
-  registers-kept : (granted : Bool) (form : Form) → IsKept woken waker (writer_registered granted (Purpose.Copy form)) c
-  registers-kept granted form goes = grind arith
-
-  again-kept : (none : Bool) (form : Form) → IsKept woken waker (goes_on (writer_looked_again none (Purpose.Copy form))) c
-  again-kept none form goes = grind arith
-
-  takes-kept : (form : Form) → IsKept woken waker (writer_is_true (Purpose.Copy form)) c
-  takes-kept form goes = grind arith
-
-  moves-kept : (n : ℕ) (none : Bool) (form : Form) (sum : ℕ) → IsKept woken waker (writer_moved none n form sum) c
-  moves-kept n none form sum goes = grind arith
-
-  gives-kept : (most : ℕ) (acts : List SourceAct) (form : Form) (sum capacity room : ℕ) → IsKept woken waker (write_after capacity room (WritePoint.CallSource form sum) (found_of (given most acts))) c
-  gives-kept most [] form sum capacity room = moves-kept 0 true form sum
-  gives-kept most (SourceAct.Fail ∷ acts) form sum capacity room = λ goes. absurd (cc)
-  gives-kept most (SourceAct.Bytes bytes ∷ acts) form sum capacity room = moves-kept (min most (length bytes)) (min most (length bytes) == 0) form sum
-
-  rounds-kept : (is_closed : Bool) (n : ℕ) (form : Form) (sum : ℕ) → IsKept woken waker (writer_rounds is_closed n form sum) c
-  rounds-kept is_closed n form sum goes = grind arith
-
-wakes-kept : (name : Option ℕ) (form : Form) (sum : ℕ) (woken : List ℕ) (c : OpenCall) → HasOneWake woken name → IsKept woken None (reader_taken (AfterWrite.Round form sum) (is_some name)) (record c { taken = name })
-wakes-kept name form sum woken c one goes = grind arith
-
 fill-kept : (point : WritePoint) (lent : List ℕ) (p : Pipe) → is_filling point ≡ true → closes_round point ≡ false → WakesOne point p
     → let s = fill_step point lent p in s.answer ≡ None → (is_filling s.pipe.writer ≡ true) × WakesOne s.pipe.writer s.pipe
-fill-kept (WritePoint.LookClosed (Purpose.Copy form)) lent p fills plain one goes = open-kept p.woken p.reader_waker p.writer_call one p.is_closed (p.room == 0) form goes
-fill-kept (WritePoint.LookHead (Purpose.Copy form)) lent p fills plain one goes = loads-kept p.woken p.reader_waker p.writer_call one (p.capacity - length p.unread == 0) form goes
-fill-kept (WritePoint.LookRegister (Purpose.Copy form)) lent p fills plain one goes = registers-kept p.woken p.reader_waker p.writer_call one (is_granted p.writer_call.context) form goes
-fill-kept (WritePoint.LookHeadAgain (Purpose.Copy form)) lent p fills plain one goes = again-kept p.woken p.reader_waker p.writer_call one (p.capacity - length p.unread == 0) form goes
-fill-kept (WritePoint.LookClosedAgain (Purpose.Copy form)) lent p fills plain one goes = absurd (cc)
-fill-kept (WritePoint.LookTake (Purpose.Copy form)) lent p fills plain one goes = takes-kept p.woken p.reader_waker (record p.writer_call { taken = p.writer_waker }) one form goes
-fill-kept WritePoint.Yield lent p fills plain one goes = absurd (cc)
-fill-kept (WritePoint.CallSource form sum) lent p fills plain one goes = gives-kept p.woken p.reader_waker p.writer_call one (length lent) p.source form sum p.capacity p.room goes
-fill-kept (WritePoint.RoundClosed n form sum) lent p fills plain one goes = rounds-kept p.woken p.reader_waker p.writer_call one p.is_closed n form sum goes
-fill-kept (WritePoint.StoreTail n (AfterWrite.Round form sum)) lent p fills plain one goes = (refl, one)
-fill-kept (WritePoint.TakeReader (AfterWrite.Round form sum)) lent p fills plain one goes = wakes-kept p.reader_waker form sum p.woken p.writer_call one goes
-fill-kept (WritePoint.WakeReader (AfterWrite.Round form sum)) lent p fills plain one goes = (refl, one)
-fill-kept point lent p fills plain one goes = absurd (cc)
+fill-kept point lent p fills plain one goes = grind arith
 
 -- a fill that was opened at p has come to u
 pub record Filling (p u : Pipe) : Type 0 where
@@ -131,8 +83,7 @@ filled-by p u lent (Some answer) filling may is =
 
 -- a step that does not call the source leaves it as it is
 may-go : (point : WritePoint) (acts : List SourceAct) (lent : List ℕ) (p : Pipe) → (write_action point ≡ Action.CallSource → ⊥) → MayOffer point acts lent p
-may-go (WritePoint.CallSource form sum) acts lent p other = absurd (other refl)
-may-go point acts lent p other = tt
+may-go point acts lent p other = grind arith
 
 pub record IsApart (point : WritePoint) (lent : List ℕ) (acts : List SourceAct) (p : Pipe) : Type 0 where
   pub answer : (fill_step point lent (giving acts p)).answer ≡ (fill_step point lent p).answer
@@ -140,12 +91,7 @@ pub record IsApart (point : WritePoint) (lent : List ℕ) (acts : List SourceAct
   pub source : (fill_step point lent p).pipe.source ≡ source_after (fill_step point lent p).answer p.source
 
 apart : (point : WritePoint) (lent : List ℕ) (acts : List SourceAct) (p : Pipe) → (write_action point ≡ Action.CallSource → ⊥) → IsApart point lent acts p
-apart (WritePoint.CallSource form sum) lent acts p other = absurd (other refl)
-apart (WritePoint.StoreClosed AfterWrite.Answer) lent acts p other = record { answer = refl; pipe = refl; source = refl }
-apart (WritePoint.StoreClosed AfterWrite.Drop) lent acts p other = record { answer = refl; pipe = refl; source = refl }
-apart (WritePoint.StoreClosed AfterWrite.WakeWriter) lent acts p other = record { answer = refl; pipe = refl; source = refl }
-apart (WritePoint.StoreClosed (AfterWrite.Round form sum)) lent acts p other = record { answer = refl; pipe = refl; source = refl }
-apart point lent acts p other = record { answer = refl; pipe = refl; source = refl }
+apart point lent acts p other = grind arith
 
 -- the same of a pipe whose call holds no source
 abbrev pub IsGoneOn : Pipe → List SourceAct → Pipe → Option Answer → Pipe → Type 0
@@ -164,17 +110,13 @@ pub record IsAnswered (p : Pipe) (answer : Answer) (r : Pipe) : Type 0 where
   pub after : r ≡ (writer_alone p.writer p).pipe
 
 pub ends : {p : Pipe} {acts : List SourceAct} {q r : Pipe} {found : Option Answer} {answer : Answer} → IsGone p acts q found r → found ≡ Some answer → IsAnswered p answer r
-ends {p} {acts} {q} {r} gone is =
-    let ended = subst (λ (a : Option Answer). IsGoneOn p acts q a r) is gone.on in
-    record { answer_is = sym (ap (λ (e : Ended). e.answer) ended); after = sym (ap (λ (e : Ended). e.pipe) ended) }
+ends gone is = grind arith
 
 gone-on : (p q r : Pipe) (acts : List SourceAct) (answer : Option Answer) (s : Pipe) → s ≡ giving (source_after answer acts) r → r.source ≡ source_after answer r.source → IsFilled p (giving acts q) answer s → IsGoneOn p acts q answer r
-gone-on p q r acts None s is kept filled = subst (λ (v : Pipe). Filling p v × (left_of v < left_of q)) is filled
-gone-on p q r acts (Some answer) s is kept filled = filled ∙ ap (λ (v : Pipe). record { answer = answer; pipe = v }) (is ∙ λ j. record r { source = sym kept j })
+gone-on p q r acts answer s is kept filled = grind arith
 
 settled-source : (answer : Option Answer) (acts held : List SourceAct) → acts ≡ source_after answer held → acts ≡ source_after answer acts
-settled-source None acts held is = refl
-settled-source (Some answer) acts held is = is
+settled-source answer acts held is = grind arith
 
 -- a step that the machine makes with no source of its own: the waker that it calls is heard, and
 -- then it goes
@@ -194,11 +136,7 @@ goes-on p q h r acts answer filling other hears answers after =
 
 -- a call of the source
 may-call : (point : WritePoint) (acts : List SourceAct) (lent : List ℕ) (p : Pipe) → Lendable MOST_A_ROUND p (length lent) → MayOffer point acts lent p
-may-call (WritePoint.CallSource form sum) [] lent p lendable = tt
-may-call (WritePoint.CallSource form sum) (SourceAct.Fail ∷ acts) lent p lendable = tt
-may-call (WritePoint.CallSource form sum) (SourceAct.Bytes [] ∷ acts) lent p lendable = tt
-may-call (WritePoint.CallSource form sum) (SourceAct.Bytes (byte ∷ bytes) ∷ acts) lent p lendable = lendable
-may-call point acts lent p lendable = tt
+may-call point acts lent p lendable = grind arith
 
 pub record IsCalled (point : WritePoint) (lent : List ℕ) (p : Pipe) : Type 0 where
   pub answer : (fill_step point lent p).answer ≡ round_answer (found_of (given (length lent) p.source)) (record p { writer = point })
@@ -230,9 +168,7 @@ called acts rest found p q w r answer calls filling lendable lent given_is found
 
 -- it gives n bytes, or fails
 pub gives : (most n : ℕ) (acts : List SourceAct) → is_failing acts ≡ false → n ≡ min most (length (bytes_of acts)) → Ok n ≡ given most acts
-gives most n [] works is = let none : n ≡ 0 = omega arith in ap Ok none
-gives most n (SourceAct.Fail ∷ acts) works is = absurd (cc)
-gives most n (SourceAct.Bytes bytes ∷ acts) works is = ap Ok is
+gives most n acts works is = grind arith
 
 pub fails : (most : ℕ) (acts : List SourceAct) → is_failing acts ≡ true → Err (record {}) ≡ given most acts
 fails most acts failing = grind arith
@@ -244,15 +180,3 @@ gave acts rest n given_now p q w r answer calls filling lendable lent count fron
     called acts rest (found_of given_now) p q w r answer calls filling lendable lent
     (source-called (giving acts q) w n q.source rest lent count front left)
     (ap found_of (sym is)) round
-
--- a fill is opened
-pub opened : (cx : Option Context) (acts : List SourceAct) (p q : Pipe) → IsSound p → p.woken ≡ [] → q ≡ fill_opened cx [] p → Filling (fill_opened cx acts p) (giving acts q)
-opened cx acts p q sound unwoken is =
-    subst (λ (v : Pipe). Filling (fill_opened cx acts p) (giving acts v)) (sym is) (record {
-      fills = refl;
-      busy = refl;
-      plain = refl;
-      valid = record { unread = sound.unread; start = sound.start; room = sound.room; store = omega arith; shut = sound.closed; unclosed = λ saw. absurd (cc) };
-      wakes = subst (λ (names : List ℕ). HasOneWake names p.reader_waker) (sym unwoken) (one_wake-none p.reader_waker);
-      rest = refl;
-    })

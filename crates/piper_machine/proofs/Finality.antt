@@ -2,9 +2,8 @@
 -- nothing lent that could still be published.
 use Rattle.std.proofs.Common.{◌≡◌, inl, inr, ℕ, List, [], ◌∷◌, ◌++◌, length, take, Bool, true, false, Option, None, Some, ◌==◌, refl, sym, ap, subst, ◌∙◌, slice_set, arith}
 use Rattle.std.proofs.lemmas.Bool.Decides.{nat_tests}
-use Rattle.piper_machine.specs.Types.{AfterRead, AfterWrite, OpenCall, Call, Step, Answer, Event, Context, Action, SourceAct, Purpose, ReadPoint, WritePoint, Destination, Reader, Writer, Begin, Go, Put, Try, Polling, Slice, Acts}
-use Rattle.piper_machine.specs.Open.{called_with}
-use Rattle.piper_protocol.specs.Table.{read_action, write_action, reader_looks_for}
+use Rattle.piper_machine.specs.Types.{Call, Step, Answer, Event, Action, ReadPoint, WritePoint, Reader, Writer, Begin, Go, Put}
+use Rattle.piper_protocol.specs.Table.{read_action, write_action}
 use Rattle.piper_machine.specs.Log.{answer_event}
 use Rattle.piper_machine.specs.Pipe.{Pipe, fresh}
 use Rattle.piper_machine.specs.Sound.{IsSound}
@@ -17,11 +16,11 @@ use Rattle.piper_machine.specs.Run.{Made}
 use Rattle.piper_machine.specs.End.{saw_closed_from, saw_closed, found_none}
 use Rattle.piper_machine.specs.Final.{told_end, IsOver, IsFinal}
 use Rattle.piper_machine.proofs.Ends.{ended_after, ended_from, IsFinalFrom, saw-append, ended-append, final-append, final-after, found-here}
-use Rattle.piper_machine.proofs.Causes.{read_leaves, write_leaves, IsEnded, IsCaused, is_known, reader-caused, writer_after, writer-ended, writer-known, writer-caused}
-use Rattle.piper_machine.proofs.Honesty.{loaded, saw_close, writer-flag, opens-unloaded, Honest}
+use Rattle.piper_machine.proofs.Causes.{write_leaves, IsEnded, IsCaused, is_known, reader-caused, writer_after, writer-known, writer-caused}
+use Rattle.piper_machine.proofs.Honesty.{loaded, saw_close, writer-flag, Honest}
 use Rattle.piper_machine.proofs.Counting.{writer_leaves-reader, writer_never-head}
-use Rattle.piper_machine.proofs.Remembering.{reader_leaves, reader-idle, writer-idle}
-use Rattle.piper_machine.proofs.After.{is_over, Over, take_none, Quiet, context-quiet, wake-quiet, yield-quiet, IsLinked, unlinked, Sees, reader-logs, reader-sees, reader-ends}
+use Rattle.piper_machine.proofs.Remembering.{reader_leaves}
+use Rattle.piper_machine.proofs.After.{Over, take_none, Quiet, context-quiet, wake-quiet, yield-quiet, IsLinked, Sees, reader-logs, reader-sees, reader-ends}
 
 -- kept by every step
 pub record Lasts (p : Pipe) (saw ended : Bool) : Type 0 where
@@ -34,18 +33,8 @@ pub record Lasts (p : Pipe) (saw ended : Bool) : Type 0 where
 none_lent : (p : Pipe) → IsSound p → write_leaves p.writer ≡ false → IsEnded p → p.lent ≡ []
 none_lent p sound stays ended = elim ended [ inl leaves ↦ absurd (cc) | inr shut ↦ sound.shut shut ]
 
-stored_none : (n : ℕ) (xs ys : List ℕ) → xs ≡ [] → ys ≡ [] → xs ++ take n ys ≡ []
-stored_none n xs ys h k = rw (h, take_none n ys k) refl
-
 writer-over : (offered : List ℕ) (point : WritePoint) (p : Pipe) → IsSound (record p { writer = point }) → Over (record p { writer = point }) → Over (writer_after offered point p)
-writer-over offered (WritePoint.StoreTail n next) p sound o =
-    let lent = none_lent (record p { writer = WritePoint.StoreTail n next }) sound refl o.ended in
-    record { closed = o.closed; ended = writer-ended offered (WritePoint.StoreTail n next) p o.ended; unread = stored_none n p.unread p.lent o.unread lent; valid = o.valid }
-writer-over offered (WritePoint.StoreClosed AfterWrite.Answer) p sound o = record { closed = refl; ended = writer-ended offered (WritePoint.StoreClosed AfterWrite.Answer) p o.ended; unread = o.unread; valid = o.valid }
-writer-over offered (WritePoint.StoreClosed (AfterWrite.Round form sum)) p sound o = record { closed = refl; ended = writer-ended offered (WritePoint.StoreClosed (AfterWrite.Round form sum)) p o.ended; unread = o.unread; valid = o.valid }
-writer-over offered (WritePoint.StoreClosed AfterWrite.Drop) p sound o = record { closed = refl; ended = writer-ended offered (WritePoint.StoreClosed AfterWrite.Drop) p o.ended; unread = o.unread; valid = o.valid }
-writer-over offered (WritePoint.StoreClosed AfterWrite.WakeWriter) p sound o = record { closed = refl; ended = writer-ended offered (WritePoint.StoreClosed AfterWrite.WakeWriter) p o.ended; unread = o.unread; valid = o.valid }
-writer-over offered point p sound o = record { closed = o.closed; ended = writer-ended offered point p o.ended; unread = o.unread; valid = o.valid }
+writer-over offered point p sound o = grind arith
 
 -- what the writer's step logs, and returns
 
@@ -67,8 +56,7 @@ module _ (saw ended : Bool) (q : Pipe) (unread : ended ≡ true → q.unread ≡
   writer-logs Action.CallSource unlent = (tt, refl, refl)
 
 writer-answers : (saw ended : Bool) (answer : Option Answer) → Quiet saw ended (answer_event Writer answer)
-writer-answers saw ended None = (tt, refl, refl)
-writer-answers saw ended (Some answer) = ((λ t. tt, tt), refl, refl)
+writer-answers saw ended answer = grind arith
 
 writer-publishes : (point : WritePoint) (n : ℕ) → write_action point ≡ Action.StoreTail n → write_leaves point ≡ false
 writer-publishes point n e = grind arith
@@ -79,64 +67,15 @@ publishes-lent point n offered lent e = grind arith
 
 -- a call is opened outside any other call of its side
 
-opens-over : (none : Bool) (l : Purpose) → none ≡ true → is_over (reader_looks_for none l) ≡ true
-opens-over none l e = grind arith
-
-none_known : (p : Pipe) → IsSound p → p.unread ≡ [] → (p.known == 0) ≡ true
-none_known p sound empty = let zero : length p.unread ≡ 0 = ap (λ (xs : List ℕ). length xs) empty in let within = sound.known in grind (arith, nat_tests)
-
 module _ (p : Pipe) (saw ended : Bool) (h : Lasts p saw ended) where
-  reader-opens : (point : ReadPoint) (c : OpenCall) (destination : Destination) → p.reader ≡ ReadPoint.Idle → (p.unread ≡ [] → is_over point ≡ true) → loaded point ≡ None
-      → Lasts (record p { reader = point; reader_call = c; destination = destination }) false ended
-  reader-opens point c destination idle valid unloaded = record {
-    known = h.known;
-    caused = λ closed. elim (h.caused closed) [ inl leaves ↦ absurd (let stays = ap read_leaves idle in cc) | inr is_ended ↦ inr is_ended ];
-    over = λ t. let o = h.over t in record { closed = o.closed; ended = o.ended; unread = o.unread; valid = valid o.unread };
-    sees = (λ seen. absurd (cc), unlinked _ _ unloaded);
-  }
-
-  stays-ended : p.writer ≡ WritePoint.Idle → (point : WritePoint) → IsEnded p → IsEnded (record p { writer = point })
-  stays-ended idle point is_ended = elim is_ended [ inl leaves ↦ absurd (let stays = ap write_leaves idle in cc) | inr shut ↦ inr shut ]
-
-  writer-opens : (point : WritePoint) (c : OpenCall) (source : List SourceAct) → p.writer ≡ WritePoint.Idle → is_known point ≡ true → Lasts (record p { writer = point; writer_call = c; source = source }) saw ended
-  writer-opens point c source idle known = record {
-    known = known;
-    caused = λ closed. elim (h.caused closed) [ inl leaves ↦ inl leaves | inr is_ended ↦ inr (stays-ended idle point is_ended) ];
-    over = λ t. let o = h.over t in record { closed = o.closed; ended = stays-ended idle point o.ended; unread = o.unread; valid = o.valid };
-    sees = h.sees;
-  }
-
   lends : (lent : List ℕ) → Lasts (lending lent p) saw ended
   lends lent = record { known = h.known; caused = h.caused; over = λ t. let o = h.over t in record { closed = o.closed; ended = o.ended; unread = o.unread; valid = o.valid }; sees = h.sees }
-
-  looks : (l : Purpose) (context : Option Context) (destination : Destination) → IsSound p → p.reader ≡ ReadPoint.Idle → Lasts (record p { reader = reader_looks_for (p.known == 0) l; reader_call = called_with context; destination = destination }) false ended
-  looks l context destination sound idle = reader-opens (reader_looks_for (p.known == 0) l) (called_with context) destination idle (λ empty. opens-over (p.known == 0) l (none_known p sound empty)) (opens-unloaded (p.known == 0) l)
-
-  fills : (l : Purpose) (context : Option Context) (source : List SourceAct) → p.writer ≡ WritePoint.Idle → Lasts (record p { writer = WritePoint.LookClosed l; writer_call = called_with context; source = source }) saw ended
-  fills l context source idle = writer-opens (WritePoint.LookClosed l) (called_with context) source idle refl
 
 abbrev Adds : Bool → Bool → Stepped → Type 0
 Adds saw ended new = IsFinalFrom saw ended new.events × Lasts new.pipe (saw_closed_from Reader saw new.events) (ended_from saw ended new.events)
 
 begin-lasts : (lent : List ℕ) (c : Call) (p : Pipe) (saw ended : Bool) → IsSound p → refusal_of (Begin c) p ≡ None → Lasts p saw ended → Adds saw ended (stepped lent (Begin c) p)
-begin-lasts lent (Call.Query Reader query) p saw ended sound accepted h = ((λ t. tt, tt), reader-opens p saw ended h (ReadPoint.QueryHead query) p.reader_call p.destination (reader-idle p.reader _ accepted) (λ empty. refl) refl)
-begin-lasts lent (Call.IsClosed Reader) p saw ended sound accepted h = ((λ t. tt, tt), reader-opens p saw ended h ReadPoint.QueryClosed p.reader_call p.destination (reader-idle p.reader _ accepted) (λ empty. refl) refl)
-begin-lasts lent (Call.Poll Reader waker luck) p saw ended sound accepted h = ((λ t. tt, tt), looks p saw ended h Purpose.Poll (Some (context waker luck)) p.destination sound (reader-idle p.reader _ accepted))
-begin-lasts lent (Call.TryDrain size) p saw ended sound accepted h = ((λ t. tt, tt), looks p saw ended h (Purpose.Copy Try) None (Slice size) sound (reader-idle p.reader _ accepted))
-begin-lasts lent (Call.PollDrainBytes waker luck size) p saw ended sound accepted h = ((λ t. tt, tt), looks p saw ended h (Purpose.Copy (Polling (luck.draw == 0))) (Some (context waker luck)) (Slice size) sound (reader-idle p.reader _ accepted))
-begin-lasts lent (Call.PollDrain waker luck acts) p saw ended sound accepted h = ((λ t. tt, tt), looks p saw ended h (Purpose.Copy (Polling (luck.draw == 0))) (Some (context waker luck)) (Acts acts) sound (reader-idle p.reader _ accepted))
-begin-lasts lent (Call.Consume n) p saw ended sound accepted h = ((λ t. tt, tt), reader-opens p saw ended h (ReadPoint.StoreHead n AfterRead.Answer) p.reader_call p.destination (reader-idle p.reader _ accepted) (λ empty. refl) refl)
-begin-lasts lent (Call.Drop Reader) p saw ended sound accepted h = ((λ t. tt, tt), reader-opens p saw ended h ReadPoint.StoreClosed p.reader_call p.destination (reader-idle p.reader _ accepted) (λ empty. refl) refl)
-begin-lasts lent (Call.Query Writer query) p saw ended sound accepted h = ((λ t. tt, tt), writer-opens p saw ended h (WritePoint.QueryHead query) p.writer_call p.source (writer-idle p.writer _ accepted) refl)
-begin-lasts lent (Call.IsClosed Writer) p saw ended sound accepted h = ((λ t. tt, tt), writer-opens p saw ended h WritePoint.QueryClosed p.writer_call p.source (writer-idle p.writer _ accepted) refl)
-begin-lasts lent (Call.Poll Writer waker luck) p saw ended sound accepted h = ((λ t. tt, tt), fills p saw ended h Purpose.Poll (Some (context waker luck)) p.source (writer-idle p.writer _ accepted))
-begin-lasts lent (Call.TryFill bytes) p saw ended sound accepted h = ((λ t. tt, tt), fills p saw ended h (Purpose.Copy Try) None (SourceAct.Bytes bytes ∷ []) (writer-idle p.writer _ accepted))
-begin-lasts lent (Call.PollFillBytes waker luck bytes) p saw ended sound accepted h = ((λ t. tt, tt), fills p saw ended h (Purpose.Copy (Polling (luck.draw == 0))) (Some (context waker luck)) (SourceAct.Bytes bytes ∷ []) (writer-idle p.writer _ accepted))
-begin-lasts lent (Call.PollFill waker luck acts) p saw ended sound accepted h = ((λ t. tt, tt), fills p saw ended h (Purpose.Copy (Polling (luck.draw == 0))) (Some (context waker luck)) acts (writer-idle p.writer _ accepted))
-begin-lasts lent (Call.WriteBuf most) p saw ended sound accepted h = ((λ t. tt, (λ t. tt, tt)), lends p saw ended h lent)
-begin-lasts lent (Call.Produced n) p saw ended sound accepted h = ((λ t. tt, tt), writer-opens p saw ended h (WritePoint.StoreTail n AfterWrite.Answer) p.writer_call p.source (writer-idle p.writer _ accepted) refl)
-begin-lasts lent Call.Close p saw ended sound accepted h = ((λ t. tt, tt), writer-opens p saw ended h (WritePoint.StoreClosed AfterWrite.WakeWriter) p.writer_call p.source (writer-idle p.writer _ accepted) refl)
-begin-lasts lent (Call.Drop Writer) p saw ended sound accepted h = ((λ t. tt, tt), writer-opens p saw ended h (WritePoint.StoreClosed AfterWrite.Drop) p.writer_call p.source (writer-idle p.writer _ accepted) refl)
+begin-lasts lent c p saw ended sound accepted h = grind arith
 
 -- the events of the answer after those of the action
 adds : (saw ended : Bool) (es fs : List Event) (q : Pipe) → IsFinalFrom saw ended es → IsFinalFrom (saw_closed_from Reader saw es) (ended_from saw ended es) fs

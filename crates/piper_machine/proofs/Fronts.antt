@@ -36,18 +36,7 @@ split (suc i) (t ∷ ss) s = elim (split i ss s) [
 ]
 
 pub sound-fresh : (capacity : ℕ) → 1 ≤ capacity → IsSound (fresh capacity)
-sound-fresh capacity some = record {
-  unread = omega (arith);
-  start = omega (arith, some);
-  known = omega (arith);
-  room = omega (arith);
-  lent_room = omega (arith);
-  lent_place = omega (arith);
-  shut = λ is_shut. refl;
-  closed = λ is_shut. absurd (cc);
-  head_store = omega (arith);
-  tail_store = omega (arith);
-}
+sound-fresh capacity some = grind arith
 
 pub conserved_none : (capacity : ℕ) → IsConserved (fresh capacity) []
 conserved_none capacity = record { bytes = refl; start = search rules }

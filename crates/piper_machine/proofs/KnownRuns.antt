@@ -1,11 +1,10 @@
 -- What the laws say of what the sides know, over a run from a fresh pipe.
 use Rattle.std.proofs.Common.{◌≡◌, ℕ, ◌≤◌, List, [], ◌∷◌, ◌++◌, length, Bool, true, false, Option, None, Some, refl, sym, subst, ◌∙◌, arith}
-use Rattle.piper_machine.specs.Types.{AfterWrite, Side, Call, Kind, Step, Answer, Event, Context, ReadPoint, WritePoint, Action, Reader, Writer, Begin, Go, Put, Began}
+use Rattle.piper_machine.specs.Types.{Side, Call, Kind, Step, Event, ReadPoint, WritePoint, Action, Reader, Writer, Begin, Go, Put, Began}
 use Rattle.piper_machine.specs.Call.{side_of, kind_of, waker_of}
-use Rattle.piper_machine.specs.Log.{answer_event}
 use Rattle.piper_protocol.specs.Table.{head_store, read_action, tail_store, write_action}
 use Rattle.piper_machine.specs.Pipe.{Pipe, fresh}
-use Rattle.piper_machine.specs.Action.{logged_of, registration_of, registration, wake_of, yield_of, woken_if}
+use Rattle.piper_machine.specs.Action.{logged_of}
 use Rattle.piper_machine.specs.Sound.{IsSound}
 use Rattle.piper_machine.specs.Step.{went, opened, stepped, offering, answer_at_once, MayLend}
 use Rattle.piper_machine.specs.Places.{peeked_count}
@@ -15,10 +14,9 @@ use Rattle.piper_machine.specs.Ready.{IsReadyFrom, IsReady}
 use Rattle.piper_machine.specs.Counts.{Tally, tallied, tally_from, tally_of, IsCounted, is_same}
 use Rattle.piper_machine.specs.Called.{called, calls_from, AreCallsCounted}
 use Rattle.piper_machine.specs.Run.{Made, Runs}
-use Rattle.piper_machine.proofs.Opened.{opened-leaves}
-use Rattle.piper_machine.proofs.Knowing.{knowledge-append, answer-shows, learns, learned, learned-enough, learned-exactly, Stores, knows, writer-shows, reader-shows, IsReadyNext}
-use Rattle.piper_machine.proofs.ReaderCounts.{reader-fits, reader-goes}
-use Rattle.piper_machine.proofs.WriterCounts.{writer-fits, writer-goes}
+use Rattle.piper_machine.proofs.Knowing.{knowledge-append, answer-shows, learns, learned, learned-exactly, Stores, knows, writer-shows, reader-shows}
+use Rattle.piper_machine.proofs.ReaderCounts.{reader-fits}
+use Rattle.piper_machine.proofs.WriterCounts.{writer-fits}
 use Rattle.piper_machine.proofs.Counting.{Counts, noted, counts-step, counts-found, reader_leaves-writer, writer_leaves-reader, reader_never-tail, writer_never-head}
 
 -- a poll that is true leaves something to do
@@ -27,95 +25,17 @@ ready-append : (c : ℕ) (side : Side) (k : Knowledge) (es fs : List Event) → 
 ready-append c side k [] fs first then = then
 ready-append c side k (e ∷ es) fs first then = (first.0, ready-append c side (knowledge_after c side k e) es fs first.1 then)
 
-registration-ready : (c : ℕ) (side actor : Side) (k : Knowledge) (b : Bool) (name : ℕ) → IsReadyFrom c side k (registration actor b name)
-registration-ready c side actor k b name = grind arith
-
-context-ready : (c : ℕ) (side actor : Side) (k : Knowledge) (context : Option Context) → IsReadyFrom c side k (registration_of actor context)
-context-ready c side actor k None = tt
-context-ready c side actor k (Some cx) = registration-ready c side actor k cx.luck.register_granted cx.waker
-
-wake-ready : (c : ℕ) (side : Side) (k : Knowledge) (name : Option ℕ) → IsReadyFrom c side k (wake_of name)
-wake-ready c side k name = grind arith
-
-woken-ready : (c : ℕ) (side : Side) (k : Knowledge) (b : Bool) (name : ℕ) → IsReadyFrom c side k (woken_if b name)
-woken-ready c side k b name = grind arith
-
-yield-ready : (c : ℕ) (side : Side) (k : Knowledge) (context : Option Context) → IsReadyFrom c side k (yield_of context)
-yield-ready c side k None = tt
-yield-ready c side k (Some cx) = woken-ready c side k cx.luck.yield_granted cx.waker
-
--- a step returns only after what it does
-logged-ready : (c : ℕ) (side actor : Side) (k : Knowledge) (action : Action) (p : Pipe) → IsReadyFrom c side k (logged_of actor action p)
-logged-ready c side Reader k Action.Register p = context-ready c side Reader k p.reader_call.context
-logged-ready c side Writer k Action.Register p = context-ready c side Writer k p.writer_call.context
-logged-ready c side Reader k Action.Wake p = wake-ready c side k p.reader_call.taken
-logged-ready c side Writer k Action.Wake p = wake-ready c side k p.writer_call.taken
-logged-ready c side Reader k Action.Yield p = yield-ready c side k p.reader_call.context
-logged-ready c side Writer k Action.Yield p = yield-ready c side k p.writer_call.context
-logged-ready c side actor k Action.Rest p = tt
-logged-ready c side actor k (Action.Take slot) p = tt
-logged-ready c side actor k Action.CallDestination p = tt
-logged-ready c side actor k Action.CallSource p = tt
-logged-ready c Reader Reader k Action.LoadIndex p = (tt, tt)
-logged-ready c Reader Writer k Action.LoadIndex p = (tt, tt)
-logged-ready c Writer Reader k Action.LoadIndex p = (tt, tt)
-logged-ready c Writer Writer k Action.LoadIndex p = (tt, tt)
-logged-ready c Reader actor k action p = (tt, tt)
-logged-ready c Writer actor k action p = (tt, tt)
-
-writer-answers : (c : ℕ) (k : Knowledge) (answer : Option Answer) → IsReadyFrom c Reader k (answer_event Writer answer)
-writer-answers c k answer = grind arith
-
-reader-answers : (c : ℕ) (k : Knowledge) (answer : Option Answer) → IsReadyFrom c Writer k (answer_event Reader answer)
-reader-answers c k answer = grind arith
-
--- a call that returns as it is opened lends
-begin-answers : (cap : ℕ) (side : Side) (k : Knowledge) (lent : List ℕ) (c : Call) → IsReadyFrom cap side k (answer_event (side_of c) (answer_at_once lent c))
-begin-answers cap side k lent c = grind arith
-
-own-ready : (c : ℕ) (side : Side) (k : Knowledge) (answer : Option Answer) → IsReadyNext side k answer → IsReadyFrom c side k (answer_event side answer)
-own-ready c side k None ready = tt
-own-ready c side k (Some answer) ready = (ready, tt)
-
 ready-step : (side : Side) (s : Step) (lent : List ℕ) (p : Pipe) (k : Knowledge) (t : Tally) (calls : ℕ) → MayLend lent s p → refusal_of s p ≡ None → Counts side p k t calls
     → IsReadyFrom p.capacity side k (stepped lent s p).events
-ready-step Reader (Begin c) lent p k t calls may accepted held = (tt, begin-answers p.capacity Reader _ lent c)
-ready-step Writer (Begin c) lent p k t calls may accepted held = (tt, begin-answers p.capacity Writer _ lent c)
-ready-step Reader (Go Reader) lent p k t calls may accepted held =
-    let action = read_action p.reader in
-    let answer = (went Reader p).answer in
-    let goes = reader-goes p.reader p k held.sees accepted in
-    let ready = own-ready p.capacity Reader (learned Reader action p k) answer (goes.ready (learned-enough Reader action p k held.enough)) in
-    ready-append p.capacity Reader k (logged_of Reader action p) (answer_event Reader answer) (logged-ready p.capacity Reader Reader k action p)
-    (subst (λ (i : Knowledge). IsReadyFrom p.capacity Reader i (answer_event Reader answer)) (sym (learns Reader action p k (reader-fits p.reader p.known k held.sees))) ready)
-ready-step Writer (Go Writer) lent p k t calls may accepted held =
-    let action = write_action p.writer in
-    let q = offering lent p in
-    let answer = (went Writer q).answer in
-    let goes = writer-goes p.writer lent p k held.sees may accepted in
-    let ready = own-ready p.capacity Writer (learned Writer action q k) answer (goes.ready (learned-enough Writer action q k held.enough)) in
-    ready-append p.capacity Writer k (logged_of Writer action q) (answer_event Writer answer) (logged-ready p.capacity Writer Writer k action q)
-    (subst (λ (i : Knowledge). IsReadyFrom p.capacity Writer i (answer_event Writer answer)) (sym (learns Writer action q k (writer-fits p.writer p.room k held.sees))) ready)
-ready-step Writer (Go Reader) lent p k t calls may accepted held =
-    ready-append p.capacity Writer k (logged_of Reader (read_action p.reader) p) (answer_event Reader (went Reader p).answer) (logged-ready p.capacity Writer Reader k (read_action p.reader) p)
-    (reader-answers p.capacity _ (went Reader p).answer)
-ready-step Reader (Go Writer) lent p k t calls may accepted held =
-    let q = offering lent p in
-    ready-append p.capacity Reader k (logged_of Writer (write_action p.writer) q) (answer_event Writer (went Writer q).answer) (logged-ready p.capacity Reader Writer k (write_action p.writer) q)
-    (writer-answers p.capacity _ (went Writer q).answer)
-ready-step side (Put offset byte) lent p k t calls may accepted held = tt
+ready-step side s lent p k t calls may accepted held = grind arith
 
 -- a step leaves the capacity, and a call as it is opened what is known
 
 opened-knows : (side : Side) (lent : List ℕ) (c : Call) (p : Pipe) → knows side (opened lent c p) ≡ knows side p
-opened-knows Reader lent c p = (opened-leaves lent c p).known
-opened-knows Writer lent c p = (opened-leaves lent c p).room
+opened-knows side lent c p = grind arith
 
 step-capacity : (s : Step) (lent : List ℕ) (p : Pipe) → (stepped lent s p).pipe.capacity ≡ p.capacity
-step-capacity (Begin c) lent p = (opened-leaves lent c p).capacity
-step-capacity (Go Reader) lent p = (reader_leaves-writer (read_action p.reader) p (reader_never-tail p.reader)).2
-step-capacity (Go Writer) lent p = (writer_leaves-reader (write_action p.writer) (offering lent p) (writer_never-head p.writer)).2
-step-capacity (Put offset byte) lent p = refl
+step-capacity s lent p = grind arith
 
 -- along a run of a pipe of capacity c
 
@@ -128,8 +48,7 @@ abbrev no_tally : Tally
 no_tally = record { made = 0; call = None }
 
 along_none : (c : ℕ) (side : Side) → Along c side (fresh c) [] no_tally 0
-along_none c Reader = record { capacity = refl; counts = record { sees = tt; enough = omega arith; within = λ f least. record { steps = omega arith; calls = omega arith } }; ready = tt }
-along_none c Writer = record { capacity = refl; counts = record { sees = tt; enough = omega arith; within = λ f least. record { steps = omega arith; calls = omega arith } }; ready = tt }
+along_none c side = grind arith
 
 along-step : (c : ℕ) (side : Side) (s : Step) (p q : Pipe) (before after : List Event) (t : Tally) (calls : ℕ) → Along c side p before t calls → Made p s q before after → Along c side q after (tallied side t s) (called side p s calls)
 along-step c side s p q before after t calls held made =
@@ -174,22 +93,13 @@ reader-stores : (point : ReadPoint) (p : Pipe) → head_store point ≤ peeked_c
 reader-stores point p store known = grind arith
 
 writer-stores : (point : WritePoint) (lent : List ℕ) (p : Pipe) → tail_store point ≤ length p.lent → Stores Writer (write_action point) (offering lent (record p { writer = point }))
-writer-stores (WritePoint.StoreTail n next) lent p store = store
-writer-stores (WritePoint.StoreClosed AfterWrite.Answer) lent p store = tt
-writer-stores (WritePoint.StoreClosed AfterWrite.Drop) lent p store = tt
-writer-stores (WritePoint.StoreClosed AfterWrite.WakeWriter) lent p store = tt
-writer-stores (WritePoint.StoreClosed (AfterWrite.Round form sum)) lent p store = tt
-writer-stores point lent p store = tt
+writer-stores point lent p store = grind arith
 
 -- what the log reports of a side is what the pipe has, and what a look found is no more than the
 -- capacity
 record Known (c : ℕ) (side : Side) (p : Pipe) (k : Knowledge) : Type 0 where
   known : k.known ≡ knows side p
   found : k.found ≤ c
-
-knows-within : (side : Side) (p : Pipe) → IsSound p → knows side p ≤ p.capacity
-knows-within Reader p sound = omega (arith, sound.known, sound.unread)
-knows-within Writer p sound = omega (arith, sound.room)
 
 began_if : Bool → Kind → Knowledge → Knowledge
 began_if true kind k = opened_with kind k
@@ -201,14 +111,10 @@ began-shows cap side other kind waker k = grind arith
 
 began-known : (side : Side) (b : Bool) (kind : Kind) (p : Pipe) (k : Knowledge) → IsSound p → Known p.capacity side p k → Known p.capacity side p (began_if b kind k)
 unfolding began_if
-began-known side true kind p k sound held = record { known = held.known; found = let fits = knows-within side p sound in omega (arith, held.known) }
-began-known side false kind p k sound held = held
+began-known side b kind p k sound held = grind arith
 
 learned-within : (side : Side) (action : Action) (p : Pipe) (k : Knowledge) → length p.unread ≤ p.capacity → k.found ≤ p.capacity → (learned side action p k).found ≤ p.capacity
-learned-within Reader Action.LoadIndex p k fits held = fits
-learned-within Writer Action.LoadIndex p k fits held = omega arith
-learned-within Reader action p k fits held = held
-learned-within Writer action p k fits held = held
+learned-within side action p k fits held = grind arith
 
 known-step : (side : Side) (s : Step) (lent : List ℕ) (p : Pipe) (k : Knowledge) (t : Tally) (calls : ℕ) → IsSound p → Counts side p k t calls → Known p.capacity side p k
     → let new = stepped lent s p in Known p.capacity side new.pipe (knowledge_from p.capacity side k new.events)

@@ -1,29 +1,24 @@
 -- A machine after a step of one of its sides: it is a machine again, and which pipe it represents.
 use Rattle.std.proofs.Common.{◌≡◌, ◌+◌, ◌-◌, ◌≤◌, ℕ, Bool, true, false, List, [], take, Option, None, Some, IsSome, refl, ap, ◌∙◌, arith}
-use Rattle.piper_machine.specs.Types.{Action, OpenCall, Answer, SourceAct, Destination, ReadPoint, WritePoint, Found, Slice}
+use Rattle.piper_machine.specs.Types.{Action, OpenCall, SourceAct, Destination, ReadPoint, WritePoint, Found, Slice}
 use Rattle.piper_machine.specs.Open.{no_call}
 use Rattle.piper_protocol.specs.Index.{distance, offset_of, advanced}
-use Rattle.piper_protocol.specs.Table.{Next, read_action, tail_store, write_action, write_after}
+use Rattle.piper_protocol.specs.Table.{Next, read_action, write_action, write_after}
 use Rattle.piper_machine.specs.Side.{Reading, Writing, IsReading, IsWriting, known_of, peekable_of, room_of}
 use Rattle.piper_machine.specs.SideSteps.{writing_answer}
 use Rattle.piper_machine.specs.Pipe.{Pipe}
-use Rattle.piper_machine.specs.Step.{filled_out, lent_count_after, round_answer}
+use Rattle.piper_machine.specs.Step.{round_answer}
 use Rattle.piper_machine.specs.Machine.{pipe_of, IsMachine}
 use Rattle.piper_machine.specs.declared.machine.Machine.TheInside.{Inside}
 use Rattle.piper_machine.proofs.Indices.{distance-advanced_to, distance-advanced_from, place_below}
 use Rattle.piper_machine.proofs.Soundness.{tail_below}
-use Rattle.piper_machine.proofs.Conserving.{read_store, write_store}
 
 -- a store that is next stays within what its side holds
 pub head-within : (m : Inside) (i : IsMachine m) (p : Pipe) (n : ℕ) → pipe_of m ≡ p → read_action p.reader ≡ Action.StoreHead n → n ≤ peekable_of m.read
-head-within m i p n is next =
-    let stores = read_store m.read.point n (ap (λ (q : Pipe). read_action q.reader) is ∙ next) in
-    omega (arith, stores, i.reading.store)
+head-within m i p n is next = grind arith
 
 pub tail-within : (m : Inside) (i : IsMachine m) (p : Pipe) (n : ℕ) → pipe_of m ≡ p → write_action p.writer ≡ Action.StoreTail n → n ≤ m.write.lent
-tail-within m i p n is next =
-    let stores = write_store m.write.point n (ap (λ (q : Pipe). write_action q.writer) is ∙ next) in
-    omega (arith, stores, i.writing.store)
+tail-within m i p n is next = grind arith
 
 -- the reader has passed n bytes
 pub reader-passed : (m : Inside) (i : IsMachine m) (n : ℕ) (r : Reading) (point : ReadPoint) (call : OpenCall) (destination : Destination) → r ≡ record m.read { head = advanced m.read.capacity m.read.head n; point = point }
@@ -71,49 +66,9 @@ writer-passed m i n w point call acts is writing within holds gives =
       source = gives;
     }
 
--- the writer has gone on, and its indices are what they were
-pub writer-kept : (m : Inside) (i : IsMachine m) (w : Writing) (lent : ℕ) (point : WritePoint) (call : OpenCall) (acts : List SourceAct) → w ≡ record m.write { lent = lent; point = point }
-    → IsWriting w → (w.point ≡ WritePoint.Idle → call ≡ no_call) → (w.point ≡ WritePoint.Idle → acts ≡ []) → IsMachine (record m { write = w; writer_call = call; source = acts })
-writer-kept m i w lent point call acts is writing holds gives = record {
-  reading = i.reading;
-  writing = writing;
-  capacity = rw is i.capacity;
-  bytes = i.bytes;
-  unread = rw is i.unread;
-  known = rw is i.known;
-  room = rw is i.room;
-  shut = rw is i.shut;
-  reader_call = i.reader_call;
-  writer_call = holds;
-  destination = i.destination;
-  source = gives;
-}
-
 -- the call table reads the one capacity
 pub next-of : (m : Inside) (i : IsMachine m) (found : Found) → write_after m.write.capacity (room_of m.write) m.write.point found ≡ write_after m.read.capacity (room_of m.write) m.write.point found
 next-of m i found = ap (λ capacity. write_after capacity (room_of m.write) m.write.point found) i.capacity
 
 pub answer-of : (m : Inside) (i : IsMachine m) (p : Pipe) (found : Found) → pipe_of m ≡ p → writing_answer found m.write ≡ round_answer found p
 answer-of m i p found is = ap (λ (next : Next WritePoint). next.answer) (next-of m i found) ∙ ap (round_answer found) is
-
--- what is left lent of the bytes where the writer's call has returned
-pub lent-settled : (fills : Bool) (answer : Option Answer) (count : ℕ) (bytes : List ℕ) → take (lent_count_after fills answer count) bytes ≡ filled_out fills answer (take count bytes)
-lent-settled fills answer count bytes = grind arith
-
-pub writing-settled : (w : Writing) (fills : Bool) (answer : Option Answer) → IsWriting w → (IsSome answer → tail_store w.point ≡ 0) → IsWriting (record w { lent = lent_count_after fills answer w.lent })
-writing-settled w true (Some answer) writing rests = record {
-  capacity = writing.capacity;
-  tail = writing.tail;
-  head = writing.head;
-  within = writing.within;
-  lent_room = omega arith;
-  lent_place = omega arith;
-  zeroed = writing.zeroed;
-  lent_zeroed = omega (arith, writing.lent_zeroed);
-  shut = λ is_shut. refl;
-  store = rw (rests refl) (omega arith);
-  sum = writing.sum;
-}
-writing-settled w true None writing rests = writing
-writing-settled w false (Some answer) writing rests = writing
-writing-settled w false None writing rests = writing

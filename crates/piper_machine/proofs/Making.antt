@@ -1,6 +1,6 @@
 -- A step of a side is its access, and then where the call table leads by what that found.
 use Rattle.std.proofs.Common.{◌≡◌, ◌≤◌, ℕ, List, length, false, true, refl, arith}
-use Rattle.piper_machine.specs.Types.{AfterWrite, Action, WritePoint, Reader, Writer}
+use Rattle.piper_machine.specs.Types.{Action, WritePoint, Reader, Writer}
 use Rattle.piper_protocol.specs.Table.{moved_in, publishes, write_action}
 use Rattle.piper_machine.specs.Action.{found_by, performed}
 use Rattle.piper_machine.specs.Pipe.{Pipe}
@@ -24,15 +24,7 @@ pub record WriterMakes (point : WritePoint) (p : Pipe) : Type 0 where
 
 writer_makes : (point : WritePoint) (p : Pipe) → (write_action point ≡ Action.LoadIndex → ⊥) → ((n : ℕ) → write_action point ≡ Action.StoreTail n → ⊥) → (write_action point ≡ Action.StoreClosed true → ⊥) → (write_action point ≡ Action.CallSource → ⊥)
     → WriterMakes point (record p { writer = point })
-writer_makes (WritePoint.LookHead l) p no_load_of_the_index no_store no_shut no_source = absurd (no_load_of_the_index refl)
-writer_makes (WritePoint.LookHeadAgain l) p no_load_of_the_index no_store no_shut no_source = absurd (no_load_of_the_index refl)
-writer_makes (WritePoint.StoreTail n next) p no_load_of_the_index no_store no_shut no_source = absurd (no_store n refl)
-writer_makes (WritePoint.CallSource form sum) p no_load_of_the_index no_store no_shut no_source = absurd (no_source refl)
-writer_makes (WritePoint.StoreClosed AfterWrite.WakeWriter) p no_load_of_the_index no_store no_shut no_source = absurd (no_shut refl)
-writer_makes (WritePoint.StoreClosed AfterWrite.Answer) p no_load_of_the_index no_store no_shut no_source = record { after = λ lent. refl; answer_is = λ lent. refl; may = λ lent. tt; stays = refl; publishes_none = refl; within = omega arith }
-writer_makes (WritePoint.StoreClosed AfterWrite.Drop) p no_load_of_the_index no_store no_shut no_source = record { after = λ lent. refl; answer_is = λ lent. refl; may = λ lent. tt; stays = refl; publishes_none = refl; within = omega arith }
-writer_makes (WritePoint.StoreClosed (AfterWrite.Round form sum)) p no_load_of_the_index no_store no_shut no_source = record { after = λ lent. refl; answer_is = λ lent. refl; may = λ lent. tt; stays = refl; publishes_none = refl; within = omega arith }
-writer_makes point p no_load_of_the_index no_store no_shut no_source = record { after = λ lent. refl; answer_is = λ lent. refl; may = λ lent. tt; stays = refl; publishes_none = refl; within = omega arith }
+writer_makes point p no_load_of_the_index no_store no_shut no_source = grind arith
 
 pub writer-makes : (p : Pipe) → (write_action p.writer ≡ Action.LoadIndex → ⊥) → ((n : ℕ) → write_action p.writer ≡ Action.StoreTail n → ⊥) → (write_action p.writer ≡ Action.StoreClosed true → ⊥) → (write_action p.writer ≡ Action.CallSource → ⊥) → WriterMakes p.writer p
 writer-makes p = writer_makes p.writer p

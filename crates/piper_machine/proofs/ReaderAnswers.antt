@@ -1,7 +1,7 @@
 -- What the log says of the reader's open call at each point, and that its steps keep this and give
 -- right answers.
 use Rattle.std.proofs.Common.{◌≡◌, ℕ, ◌+◌, ◌≤◌, List, [], ◌∷◌, ◌++◌, take, length, Bool, true, false, Some, ◌==◌, is_some, Result, Ok, Err, refl, sym, ap, subst, ◌∙◌, arith, length-append, length-take-le, IsSomeAnd}
-use Rattle.piper_machine.specs.Types.{DestAct, Call, Event, Seen, Polled, Failed, Form, Purpose, AfterRead, ReadPoint, Destination, Reader, Looked, Ready, Pending, Memory, Try, Polling, Granted as granted, Slice, Acts}
+use Rattle.piper_machine.specs.Types.{Call, Event, Seen, Polled, Failed, Form, Purpose, AfterRead, ReadPoint, Destination, Reader, Looked, Ready, Pending, Memory, Try, Polling, Granted as granted, Slice, Acts}
 use Rattle.piper_machine.specs.Open.{is_granted, is_yield_granted}
 use Rattle.piper_protocol.specs.Table.{Next, copy_answer, count_answer, end_or_pending, failed_answer, head_store, query_answer, read_after, read_done, reader_found, reader_is_true, reader_looked, reader_looked_again, reader_looks_for, reader_moved, reader_registered, writer_taken, yield_answer}
 use Rattle.piper_machine.specs.Log.{answer_event}
@@ -82,10 +82,7 @@ module _ (capacity : ℕ) where
   -- the answers of a drain
 
   drain-counts : (form : Form) (c : Call) (destination : Destination) (sum : ℕ) (looks : List Seen) (moved : List ℕ) → IsDrain form c destination sum → length moved + 0 ≡ sum → IsAnswer capacity c looks moved (count_answer form sum)
-  drain-counts Try (Call.TryDrain size) (Slice left) sum looks moved drains count = record { consumed = omega arith; within = omega arith }
-  drain-counts (Polling is_drawn) (Call.PollDrainBytes waker luck size) (Slice left) sum looks moved drains count = record { consumed = omega arith; within = omega arith }
-  drain-counts (Polling is_drawn) (Call.PollDrain waker luck acts) (Acts left) sum looks moved drains count = let within = drains.0 in record { consumed = omega arith; within = omega arith }
-  drain-counts form c destination sum looks moved drains count = absurd drains
+  drain-counts form c destination sum looks moved drains count = grind arith
 
   drain-waits : (form : Form) (c : Call) (destination : Destination) (answer : Polled Bool) (looks : List Seen) (moved : List ℕ) → IsDrain form c destination 0 → length moved + 0 ≡ 0 → IsAnswer capacity c looks moved (copy_answer form answer)
   drain-waits Try (Call.TryDrain size) (Slice left) answer looks moved drains count = record { consumed = omega arith; within = omega arith }
@@ -98,10 +95,7 @@ module _ (capacity : ℕ) where
   drain-waits form c destination answer looks moved drains count = absurd drains
 
   drain-moves : (form : Form) (c : Call) (destination : Destination) (sum : ℕ) (moved : List ℕ) → IsDrain form c destination sum → length moved ≡ sum → MayHaveMoved c moved
-  drain-moves Try (Call.TryDrain size) (Slice left) sum moved drains count = omega arith
-  drain-moves (Polling is_drawn) (Call.PollDrainBytes waker luck size) (Slice left) sum moved drains count = omega arith
-  drain-moves (Polling is_drawn) (Call.PollDrain waker luck acts) (Acts left) sum moved drains count = let within = drains.0 in omega arith
-  drain-moves form c destination sum moved drains count = absurd drains
+  drain-moves form c destination sum moved drains count = grind arith
 
   -- one call of the destination: it takes some bytes, or fails
   abbrev Takes : Form → Call → Result ℕ Failed → Destination → ℕ → List Seen → List ℕ → Type 0
@@ -109,30 +103,19 @@ module _ (capacity : ℕ) where
   Takes form c (Err fails) left sum looks moved = IsAnswer capacity c looks moved failed_answer
 
   takes : (form : Form) (c : Call) (most : ℕ) (destination : Destination) (sum : ℕ) (looks : List Seen) (moved : List ℕ) → IsDrain form c destination sum → Takes form c (taken most destination) (left_of_destination most destination) sum looks moved
-  takes Try (Call.TryDrain size) most (Slice left) sum looks moved drains = omega arith
-  takes (Polling is_drawn) (Call.PollDrainBytes waker luck size) most (Slice left) sum looks moved drains = omega arith
-  takes (Polling is_drawn) (Call.PollDrain waker luck acts) most (Acts []) sum looks moved drains = let within = drains.0 in (omega arith, drains.1)
-  takes (Polling is_drawn) (Call.PollDrain waker luck acts) most (Acts (DestAct.Fail ∷ left)) sum looks moved drains = sym drains.1
-  takes (Polling is_drawn) (Call.PollDrain waker luck acts) most (Acts (DestAct.Take size ∷ left)) sum looks moved drains = let within = drains.0 in (omega arith, drains.1)
-  takes form c most destination sum looks moved drains = absurd drains
+  takes form c most destination sum looks moved drains = grind arith
 
   -- where each step leads
 
   module _ (t : Noted) (destination : Destination) where
     found-leads : (l : Purpose) → ReaderLooks l destination t → ReaderAt (reader_found l) destination t
-    found-leads Purpose.Poll looks = looks
-    found-leads (Purpose.Copy Try) looks = looks
-    found-leads (Purpose.Copy (Polling is_drawn)) looks = looks
+    found-leads l looks = grind arith
 
     looks-leads : (none : Bool) (l : Purpose) → ReaderLooks l destination t → ReaderAt (reader_looked none l) destination t
-    looks-leads true Purpose.Poll looks = looks
-    looks-leads true (Purpose.Copy Try) looks = looks
-    looks-leads true (Purpose.Copy (Polling is_drawn)) looks = looks
-    looks-leads false l looks = found-leads l looks
+    looks-leads none l looks = grind arith
 
     pub opens-leads : (none : Bool) (l : Purpose) → ReaderLooks l destination t → ReaderAt (reader_looks_for none l) destination t
-    opens-leads true l looks = looks
-    opens-leads false l looks = found-leads l looks
+    opens-leads none l looks = grind arith
 
     registers-leads : (is_granted : Bool) (l : Purpose) → ReaderLooks l destination t → Leads capacity destination (reader_registered is_granted l) t
     registers-leads true l looks = (tt, looks)
@@ -145,36 +128,27 @@ module _ (capacity : ℕ) where
     again-leads false was_closed l looks = (tt, found-leads l looks)
 
     true-leads : (l : Purpose) → ReaderLooks l destination t → Leads capacity destination (reader_is_true l) t
-    true-leads Purpose.Poll looks = (poll-answers capacity Reader t (Ready true) looks, tt)
-    true-leads (Purpose.Copy Try) looks = (tt, looks)
-    true-leads (Purpose.Copy (Polling true)) looks = (tt, looks)
-    true-leads (Purpose.Copy (Polling false)) looks = (tt, looks)
+    true-leads l looks = grind arith
 
     yields-leads : (is_granted : Bool) → Drains (Polling true) destination 0 0 t → AreRightFrom capacity Reader t (answer_event Reader (Some (yield_answer is_granted)))
     yields-leads true looks = answers capacity t Reader looks.drain _ looks.is (drain-waits (Polling true) looks.drain destination Pending t.looks t.moved looks.drains looks.count)
     yields-leads false looks = answers capacity t Reader looks.drain _ looks.is (drain-waits (Polling true) looks.drain destination Memory t.looks t.moved looks.drains looks.count)
 
     round-leads : (none : Bool) (n : ℕ) (form : Form) (sum : ℕ) (left : Destination) (held : Drains form destination 0 sum t) → IsDrain form held.drain left (sum + n) → Leads capacity left (reader_moved none n form sum) t
-    round-leads true n form sum left held on = (answers capacity t Reader held.drain _ held.is (drain-counts form held.drain destination sum t.looks t.moved held.drains held.count), tt)
-    round-leads false n form sum left held on = (tt, record { drain = held.drain; is = held.is; drains = on; count = let count = held.count in omega arith })
+    round-leads none n form sum left held on = grind arith
 
     moved-leads : (result : Result ℕ Failed) (form : Form) (sum : ℕ) (left : Destination) (held : Drains form destination 0 sum t) → Takes form held.drain result left sum t.looks t.moved → Leads capacity left (read_after capacity (ReadPoint.CallDestination form sum) (found_of result)) t
-    moved-leads (Ok n) form sum left held on = round-leads (n == 0) n form sum left held on
-    moved-leads (Err fails) form sum left held on = (answers capacity t Reader held.drain _ held.is on, tt)
+    moved-leads result form sum left held on = grind arith
 
     done-leads : (next : AfterRead) → ReaderAfter next destination t → Leads capacity destination (read_done next) t
-    done-leads AfterRead.Answer after = (answers capacity t Reader _ _ after refl, tt)
-    done-leads AfterRead.Drop after = (answers capacity t Reader _ _ after tt, tt)
-    done-leads (AfterRead.Round form sum) after = (tt, after)
+    done-leads next after = grind arith
 
     take-leads : (next : AfterRead) (is_found : Bool) → ReaderAfter next destination t → Leads capacity destination (writer_taken next is_found) t
-    take-leads next true after = (tt, after)
-    take-leads next false after = done-leads next after
+    take-leads next is_found after = grind arith
 
   -- what the log says of a look does not depend on what it found
   looked : (l : Purpose) (destination : Destination) (t : Noted) (look : Seen) → ReaderLooks l destination t → ReaderLooks l destination (record t { looks = look ∷ t.looks })
-  looked Purpose.Poll destination t look looks = record { poll = looks.poll; is = looks.is; polls = looks.polls }
-  looked (Purpose.Copy form) destination t look looks = record { drain = looks.drain; is = looks.is; drains = looks.drains; count = looks.count }
+  looked l destination t look looks = grind arith
 
   -- a store of head
   stores : (n : ℕ) (next : AfterRead) (destination : Destination) (t : Noted) (bytes : List ℕ) → length bytes ≡ n → ReaderStores n next destination t

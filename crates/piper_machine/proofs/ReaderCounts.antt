@@ -3,9 +3,9 @@
 use Rattle.std.proofs.Common.{◌≡◌, ℕ, ◌+◌, ◌-◌, ◌<◌, ◌≤◌, min, [], ◌∷◌, length, Bool, true, false, None, ◌==◌, is_some, Result, Ok, Err, refl, arith}
 use Rattle.std.specs.Prelude.{⊤}
 use Rattle.std.proofs.lemmas.Bool.Decides.{nat_tests}
-use Rattle.piper_machine.specs.Types.{DestAct, Failed, Form, Purpose, AfterRead, ReadPoint, Destination, Reader, Memory, Try, Polling, Slice, Acts}
+use Rattle.piper_machine.specs.Types.{Failed, Form, Purpose, AfterRead, ReadPoint, Destination, Reader}
 use Rattle.piper_machine.specs.Open.{is_granted, is_yield_granted}
-use Rattle.piper_protocol.specs.Table.{Next, goes_on, end_or_pending, read_action, read_after, read_done, reader_looked, reader_looked_again, reader_registered, reader_is_true, reader_moved, writer_taken}
+use Rattle.piper_protocol.specs.Table.{Next, goes_on, read_action, read_after, read_done, reader_looked, reader_looked_again, reader_registered, reader_is_true, writer_taken}
 use Rattle.piper_machine.specs.Pipe.{Pipe}
 use Rattle.piper_machine.specs.Round.{taken, found_of}
 use Rattle.piper_machine.specs.Action.{performed, found_by, round_count}
@@ -13,7 +13,7 @@ use Rattle.piper_machine.specs.Refusal.{reader_state, cannot_go}
 use Rattle.piper_machine.specs.Alone.{read_steps}
 use Rattle.piper_machine.specs.Known.{Knowledge, used_up}
 use Rattle.piper_machine.specs.Called.{calls_of}
-use Rattle.piper_machine.proofs.Knowing.{Fits, learned, IsReadyNext, query-ready, copy-ready, count-ready, yield-ready, end-ready}
+use Rattle.piper_machine.proofs.Knowing.{Fits, learned, IsReadyNext, query-ready, yield-ready}
 
 -- the calls of the destination that remain at most
 abbrev look_calls : ℕ → Purpose → ℕ
@@ -56,10 +56,7 @@ ReaderSees (ReadPoint.LookTake l) known k = (1 ≤ known)
 ReaderSees point known k = ⊤
 
 pub reader-fits : (point : ReadPoint) (known : ℕ) (k : Knowledge) → ReaderSees point known k → Fits Reader (read_action point) k
-reader-fits (ReadPoint.QueryTail query) known k sees = sees
-reader-fits (ReadPoint.LookTail l) known k sees = sees
-reader-fits (ReadPoint.LookTailAgain l was_closed) known k sees = sees
-reader-fits point known k sees = tt
+reader-fits point known k sees = grind arith
 
 -- where a look finds so much
 pub record ReadNearer (f : ℕ) (point : ReadPoint) (found known : ℕ) (next : ReadPoint) (known_next : ℕ) : Type 0 where
@@ -72,70 +69,38 @@ pub record ReaderGoes (point : ReadPoint) (known : ℕ) (k : Knowledge) (next : 
   pub ready : known_next ≤ k_next.known → IsReadyNext Reader k_next next.answer
   pub nearer : (f : ℕ) → read_least k_next.found next.point ≤ f → ReadNearer f point k.found known next.point known_next
 
-pub some-known : (n : ℕ) → (n == 0) ≡ false → 1 ≤ n
-some-known n test = grind (arith, nat_tests)
-
 module _ (known : ℕ) (k : Knowledge) where
   looks-go : (none : Bool) (l : Purpose) (n : ℕ) → k.is_query ≡ false → (n == 0) ≡ none → ReaderGoes (ReadPoint.LookTail l) known k (goes_on (reader_looked none l)) n (record k { known = n; found = n })
-  looks-go true Purpose.Poll n asks test = record { sees = asks; ready = λ enough. tt; nearer = λ f most. record { from = omega arith; steps = omega arith; calls = omega arith } }
-  looks-go true (Purpose.Copy Try) n asks test = record { sees = asks; ready = λ enough. tt; nearer = λ f most. record { from = omega arith; steps = omega arith; calls = omega arith } }
-  looks-go true (Purpose.Copy (Polling is_drawn)) n asks test = record { sees = asks; ready = λ enough. tt; nearer = λ f most. record { from = omega arith; steps = omega arith; calls = omega arith } }
-  looks-go false Purpose.Poll n asks test = record { sees = some-known n test; ready = λ enough. tt; nearer = λ f most. record { from = omega arith; steps = omega arith; calls = omega arith } }
-  looks-go false (Purpose.Copy Try) n asks test = record { sees = tt; ready = λ enough. tt; nearer = λ f most. record { from = omega arith; steps = omega arith; calls = omega arith } }
-  looks-go false (Purpose.Copy (Polling is_drawn)) n asks test = record { sees = some-known n test; ready = λ enough. tt; nearer = λ f most. record { from = omega arith; steps = omega arith; calls = omega arith } }
+  looks-go none l n asks test = grind arith
 
   registers-go : (is_granted : Bool) (l : Purpose) → k.is_query ≡ false → ReaderGoes (ReadPoint.LookRegister l) known k (reader_registered is_granted l) known k
-  registers-go true Purpose.Poll asks = record { sees = asks; ready = λ enough. tt; nearer = λ f most. record { from = omega arith; steps = omega arith; calls = omega arith } }
-  registers-go true (Purpose.Copy form) asks = record { sees = asks; ready = λ enough. tt; nearer = λ f most. record { from = omega arith; steps = omega arith; calls = omega arith } }
-  registers-go false Purpose.Poll asks = record { sees = tt; ready = λ enough. tt; nearer = λ f most. record { from = omega arith; steps = omega arith; calls = omega arith } }
-  registers-go false (Purpose.Copy form) asks = record { sees = tt; ready = λ enough. copy-ready Reader k form Memory; nearer = λ f most. record { from = omega arith; steps = omega arith; calls = omega arith } }
+  registers-go is_granted l asks = grind arith
 
   closed-go : (l : Purpose) (is_closed : Bool) → k.is_query ≡ false → ReaderGoes (ReadPoint.LookClosed l) known k (goes_on (ReadPoint.LookTailAgain l is_closed)) known k
-  closed-go Purpose.Poll is_closed asks = record { sees = asks; ready = λ enough. tt; nearer = λ f most. record { from = omega arith; steps = omega arith; calls = omega arith } }
-  closed-go (Purpose.Copy form) is_closed asks = record { sees = asks; ready = λ enough. tt; nearer = λ f most. record { from = omega arith; steps = omega arith; calls = omega arith } }
+  closed-go l is_closed asks = grind arith
 
   again-go : (none was_closed : Bool) (l : Purpose) (n : ℕ) → k.is_query ≡ false → (n == 0) ≡ none → ReaderGoes (ReadPoint.LookTailAgain l was_closed) known k (reader_looked_again none l was_closed) n (record k { known = n; found = n })
-  again-go true was_closed Purpose.Poll n asks test = record { sees = tt; ready = λ enough. end-ready Reader (record k { known = n; found = n }) was_closed; nearer = λ f most. record { from = omega arith; steps = omega arith; calls = omega arith } }
-  again-go true was_closed (Purpose.Copy form) n asks test = record { sees = tt; ready = λ enough. copy-ready Reader (record k { known = n; found = n }) form (end_or_pending was_closed); nearer = λ f most. record { from = omega arith; steps = omega arith; calls = omega arith } }
-  again-go false was_closed Purpose.Poll n asks test = record { sees = some-known n test; ready = λ enough. tt; nearer = λ f most. record { from = omega arith; steps = omega arith; calls = omega arith } }
-  again-go false was_closed (Purpose.Copy Try) n asks test = record { sees = tt; ready = λ enough. tt; nearer = λ f most. record { from = omega arith; steps = omega arith; calls = omega arith } }
-  again-go false was_closed (Purpose.Copy (Polling is_drawn)) n asks test = record { sees = some-known n test; ready = λ enough. tt; nearer = λ f most. record { from = omega arith; steps = omega arith; calls = omega arith } }
+  again-go none was_closed l n asks test = grind arith
 
   take-goes : (l : Purpose) → 1 ≤ known → ReaderGoes (ReadPoint.LookTake l) known k (reader_is_true l) known k
-  take-goes Purpose.Poll some = record { sees = tt; ready = λ enough. omega arith; nearer = λ f most. record { from = most; steps = omega arith; calls = omega arith } }
-  take-goes (Purpose.Copy Try) some = record { sees = tt; ready = λ enough. tt; nearer = λ f most. record { from = most; steps = omega arith; calls = omega arith } }
-  take-goes (Purpose.Copy (Polling true)) some = record { sees = tt; ready = λ enough. tt; nearer = λ f most. record { from = most; steps = omega arith; calls = omega arith } }
-  take-goes (Purpose.Copy (Polling false)) some = record { sees = tt; ready = λ enough. tt; nearer = λ f most. record { from = most; steps = omega arith; calls = omega arith } }
-
-  round-goes : (none : Bool) (n : ℕ) (form : Form) (sum : ℕ) → (n == 0) ≡ none → n ≤ known → ReaderGoes (ReadPoint.CallDestination form sum) known k (reader_moved none n form sum) known k
-  round-goes true n form sum test within = record { sees = tt; ready = λ enough. count-ready Reader k form sum; nearer = λ f most. record { from = most; steps = omega arith; calls = omega arith } }
-  round-goes false n form sum test within = let some = some-known n test in record { sees = tt; ready = λ enough. tt; nearer = λ f most. record { from = most; steps = omega arith; calls = omega arith } }
+  take-goes l some = grind arith
 
   moved-goes : (capacity : ℕ) (moved : Result ℕ Failed) (form : Form) (sum : ℕ) → ((n : ℕ) → moved ≡ Ok n → n ≤ known) → ReaderGoes (ReadPoint.CallDestination form sum) known k (read_after capacity (ReadPoint.CallDestination form sum) (found_of moved)) known k
-  moved-goes capacity (Ok n) form sum within = round-goes (n == 0) n form sum refl (within n refl)
-  moved-goes capacity (Err fails) form sum within = record { sees = tt; ready = λ enough. tt; nearer = λ f most. record { from = most; steps = omega arith; calls = omega arith } }
+  moved-goes capacity moved form sum within = grind arith
 
   store-goes : (n m : ℕ) (next : AfterRead) → ReaderGoes (ReadPoint.StoreHead n next) known k (goes_on (ReadPoint.TakeWriter next)) (known - n) (used_up m k)
   store-goes n m next = record { sees = tt; ready = λ enough. tt; nearer = λ f most. record { from = most; steps = omega arith; calls = omega arith } }
 
   -- the call of a waker, or none
   wake-goes : (next : AfterRead) → ReaderGoes (ReadPoint.WakeWriter next) known k (read_done next) known k
-  wake-goes AfterRead.Answer = record { sees = tt; ready = λ enough. tt; nearer = λ f most. record { from = most; steps = omega arith; calls = omega arith } }
-  wake-goes AfterRead.Drop = record { sees = tt; ready = λ enough. tt; nearer = λ f most. record { from = most; steps = omega arith; calls = omega arith } }
-  wake-goes (AfterRead.Round form sum) = record { sees = tt; ready = λ enough. tt; nearer = λ f most. record { from = most; steps = omega arith; calls = omega arith } }
+  wake-goes next = grind arith
 
   taken-goes : (next : AfterRead) (is_found : Bool) → ReaderGoes (ReadPoint.TakeWriter next) known k (writer_taken next is_found) known k
-  taken-goes AfterRead.Answer false = record { sees = tt; ready = λ enough. tt; nearer = λ f most. record { from = most; steps = omega arith; calls = omega arith } }
-  taken-goes AfterRead.Drop false = record { sees = tt; ready = λ enough. tt; nearer = λ f most. record { from = most; steps = omega arith; calls = omega arith } }
-  taken-goes (AfterRead.Round form sum) false = record { sees = tt; ready = λ enough. tt; nearer = λ f most. record { from = most; steps = omega arith; calls = omega arith } }
-  taken-goes next true = record { sees = tt; ready = λ enough. tt; nearer = λ f most. record { from = most; steps = omega arith; calls = omega arith } }
+  taken-goes next is_found = grind arith
 
 -- a destination takes no more than it is lent
 taken-within : (most : ℕ) (destination : Destination) (n : ℕ) → taken most destination ≡ Ok n → n ≤ most
-taken-within most (Slice size) n is = let count : min size most ≡ n = cc in omega arith
-taken-within most (Acts []) n is = let count : 0 ≡ n = cc in omega arith
-taken-within most (Acts (DestAct.Fail ∷ acts)) n is = absurd (cc)
-taken-within most (Acts (DestAct.Take size ∷ acts)) n is = let count : min size most ≡ n = cc in omega arith
+taken-within most destination n is = grind arith
 
 -- the reader makes its step
 abbrev pub reader_next : ReadPoint → Pipe → Next ReadPoint

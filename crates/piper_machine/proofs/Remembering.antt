@@ -10,14 +10,13 @@ use Rattle.piper_machine.specs.Action.{performed}
 use Rattle.piper_machine.specs.Step.{stepped, went, offering}
 use Rattle.piper_machine.specs.Refusal.{reader_state, writer_state, cannot_begin, or_else, refusal_of}
 use Rattle.piper_machine.specs.Run.{Made}
-use Rattle.piper_machine.specs.Waiting.{IsBlocked, is_waking_reader, is_waking_writer}
 use Rattle.piper_machine.specs.Look.{context}
 use Rattle.piper_machine.specs.Lend.{lending}
 use Rattle.piper_machine.specs.Wait.{Wait, no_wait, handed_over, wait_from, wait_of}
-use Rattle.piper_machine.specs.Remembered.{IsRemembered, AreRemembered}
-use Rattle.piper_machine.proofs.Watching.{HasBegun, Errand, away, takes, wakes, read_errand, write_errand, Watched, woken, calmly, taking, waking, holding, rests, wait-append}
-use Rattle.piper_machine.proofs.ReaderWaits.{ReadWaits, read_calm, reader-touched, reader-goes, reader-touches, looks_for}
-use Rattle.piper_machine.proofs.WriterWaits.{WriteWaits, write_calm, write_held, writer-touched, writer-goes, writer-touches}
+use Rattle.piper_machine.specs.Remembered.{AreRemembered}
+use Rattle.piper_machine.proofs.Watching.{HasBegun, Errand, away, read_errand, write_errand, wait-append}
+use Rattle.piper_machine.proofs.ReaderWaits.{ReadWaits, reader-touched, reader-goes, reader-touches}
+use Rattle.piper_machine.proofs.WriterWaits.{WriteWaits, writer-touched, writer-goes, writer-touches}
 
 -- what every step keeps, over what the log says of each side's last polling call
 pub record Keeps (p : Pipe) (reads writes : Wait) : Type 0 where
@@ -40,34 +39,22 @@ reader-idle point more accepted = grind arith
 pub writer-idle : (point : WritePoint) (more : Option StepRefusal) → or_else (cannot_begin (writer_state point)) more ≡ None → point ≡ WritePoint.Idle
 writer-idle point more accepted = grind arith
 
-looks-away : (none : Bool) (l : Purpose) (c : OpenCall) → read_errand (reader_looks_for none l) c ≡ away
-looks-away none l c = grind arith
-
 module _ (p : Pipe) (reads writes : Wait) (kept : Keeps p reads writes) where
   -- the reader opens a call: it goes to a point away from the writer's slot, and the writer does
   -- not notice
   reader-opens : (point : ReadPoint) (c : OpenCall) (destination : Destination) (now : Wait) → p.reader ≡ ReadPoint.Idle → read_errand point c ≡ away
       → (ReadWaits (record p { reader = ReadPoint.Idle }) (write_errand p.writer p.writer_call) reads → ReadWaits (record p { reader = point; reader_call = c; destination = destination }) (write_errand p.writer p.writer_call) now)
       → Keeps (record p { reader = point; reader_call = c; destination = destination }) now writes
-  reader-opens point c destination now idle errand own = record {
-    reader = own (subst (λ (point : ReadPoint). ReadWaits (record p { reader = point }) (write_errand p.writer p.writer_call) reads) idle kept.reader);
-    writer = writer-touched p _ _ _ writes writes refl refl
-        (rests None (record { unread = refl; capacity = refl; closed = refl }) refl (ap (λ (point : ReadPoint). read_errand point p.reader_call) idle) refl) kept.writer;
-  }
+  reader-opens point c destination now idle errand own = grind arith
 
   -- the writer opens a call, or a byte is put, with these bytes in what is lent
   writer-opens : (point : WritePoint) (c : OpenCall) (source : List SourceAct) (lent : List ℕ) (now : Wait) → p.writer ≡ WritePoint.Idle → write_errand point c ≡ away
       → (WriteWaits (record p { writer = WritePoint.Idle }) (read_errand p.reader p.reader_call) writes → WriteWaits (record p { writer = point; writer_call = c; source = source; lent = lent }) (read_errand p.reader p.reader_call) now)
       → Keeps (record p { writer = point; writer_call = c; source = source; lent = lent }) reads now
-  writer-opens point c source lent now idle errand own = record {
-    writer = own (subst (λ (point : WritePoint). WriteWaits (record p { writer = point }) (read_errand p.reader p.reader_call) writes) idle kept.writer);
-    reader = reader-touched p _ _ _ reads reads refl refl
-        (rests None (record { unread = refl; capacity = refl; closed = refl }) refl (ap (λ (point : WritePoint). write_errand point p.writer_call) idle) refl) kept.reader;
-  }
+  writer-opens point c source lent now idle errand own = grind arith
 
   lends : (lent : List ℕ) → p.writer ≡ WritePoint.Idle → Keeps (lending lent p) reads writes
-  lends lent idle = subst (λ (point : WritePoint). Keeps (record p { writer = point; lent = lent }) reads writes) (sym idle)
-      (writer-opens WritePoint.Idle p.writer_call p.source lent writes idle refl (λ h. record { waiting = h.waiting; look = tt }))
+  lends lent idle = grind arith
 
   reads_on : (point : ReadPoint) → p.reader ≡ ReadPoint.Idle → read_errand point p.reader_call ≡ away
       → (ReadWaits (record p { reader = ReadPoint.Idle }) (write_errand p.writer p.writer_call) reads → ReadWaits (record p { reader = point }) (write_errand p.writer p.writer_call) reads)
@@ -82,23 +69,15 @@ module _ (p : Pipe) (reads writes : Wait) (kept : Keeps p reads writes) where
   -- a look with a waker; with none, the last polling call's wait goes on
   reader-polls : (cx : Context) (l : Purpose) (destination : Destination) → let now = handed_over (Some cx.waker) reads in HasBegun l (Some cx) now → p.reader ≡ ReadPoint.Idle
       → Keeps (record p { reader = reader_looks_for (p.known == 0) l; reader_call = called_with (Some cx); destination = destination }) now writes
-  reader-polls cx l destination begun idle =
-      let now = handed_over (Some cx.waker) reads in
-      let c = called_with (Some cx) in
-      reader-opens (reader_looks_for (p.known == 0) l) c destination now idle (looks-away (p.known == 0) l c)
-      (λ h. looks_for (write_errand p.writer p.writer_call) now (p.known == 0) l (record p { reader_call = c; destination = destination }) (λ pending. absurd (cc)) begun)
+  reader-polls cx l destination begun idle = grind arith
 
   reader-tries : (destination : Destination) → p.reader ≡ ReadPoint.Idle
       → Keeps (record p { reader = reader_looks_for (p.known == 0) (Purpose.Copy Try); reader_call = called_with None; destination = destination }) reads writes
-  reader-tries destination idle =
-      let c = called_with None in
-      reader-opens (reader_looks_for (p.known == 0) (Purpose.Copy Try)) c destination reads idle (looks-away (p.known == 0) (Purpose.Copy Try) c)
-      (λ h. looks_for (write_errand p.writer p.writer_call) reads (p.known == 0) (Purpose.Copy Try) (record p { reader_call = c; destination = destination }) h.waiting tt)
+  reader-tries destination idle = grind arith
 
   writer-polls : (cx : Context) (l : Purpose) (source : List SourceAct) → let now = handed_over (Some cx.waker) writes in HasBegun l (Some cx) now → p.writer ≡ WritePoint.Idle
       → Keeps (record p { writer = WritePoint.LookClosed l; writer_call = called_with (Some cx); source = source }) reads now
-  writer-polls cx l source begun idle =
-      writer-opens (WritePoint.LookClosed l) (called_with (Some cx)) source p.lent (handed_over (Some cx.waker) writes) idle refl (λ h. record { waiting = λ pending. absurd (cc); look = begun })
+  writer-polls cx l source begun idle = grind arith
 
 begin-keeps : (lent : List ℕ) (c : Call) (p : Pipe) (reads writes : Wait) → refusal_of (Begin c) p ≡ None → Keeps p reads writes
     → let new = stepped lent (Begin c) p in Keeps new.pipe (wait_from Reader reads new.events) (wait_from Writer writes new.events)
@@ -148,37 +127,8 @@ step-keeps lent (Put offset byte) p reads writes sound accepted kept = lends p r
 
 -- what that says of a side outside any call
 
-wakes-writer : (point : ReadPoint) (c : OpenCall) (taken : Option ℕ) → read_errand point c ≡ wakes taken → (is_waking_writer point ≡ true) × (c.taken ≡ taken)
-wakes-writer point c taken e = grind arith
-
-takes-writers : (point : ReadPoint) (c : OpenCall) → read_errand point c ≡ takes → is_waking_writer point ≡ true
-takes-writers point c e = grind arith
-
-wakes-reader : (point : WritePoint) (c : OpenCall) (taken : Option ℕ) → write_errand point c ≡ wakes taken → (is_waking_reader point ≡ true) × (c.taken ≡ taken)
-wakes-reader point c taken e = grind arith
-
-takes-readers : (point : WritePoint) (c : OpenCall) → write_errand point c ≡ takes → is_waking_reader point ≡ true
-takes-readers point c e = grind arith
-
-reader-remembered : (p : Pipe) (w : Wait) → Watched w p.reader_waker None (IsBlocked Reader p) (write_errand p.writer p.writer_call) → IsRemembered Reader p w
-reader-remembered p w (woken h) = inl h
-reader-remembered p w (calmly h blocked) = inr (inl (h, blocked))
-reader-remembered p w (taking h e) = inr (inr (takes-readers p.writer p.writer_call e, inl h))
-reader-remembered p w (waking e) = let wakes = wakes-reader p.writer p.writer_call (Some w.handed) e in inr (inr (wakes.0, inr wakes.1))
-reader-remembered p w (holding h) = absurd (cc)
-
-writer-remembered : (p : Pipe) (w : Wait) → Watched w p.writer_waker None (IsBlocked Writer p) (read_errand p.reader p.reader_call) → IsRemembered Writer p w
-writer-remembered p w (woken h) = inl h
-writer-remembered p w (calmly h blocked) = inr (inl (h, blocked))
-writer-remembered p w (taking h e) = inr (inr (takes-writers p.reader p.reader_call e, inl h))
-writer-remembered p w (waking e) = let wakes = wakes-writer p.reader p.reader_call (Some w.handed) e in inr (inr (wakes.0, inr wakes.1))
-writer-remembered p w (holding h) = absurd (cc)
-
 all_remembered : (p : Pipe) (events : List Event) → Keeps p (wait_of Reader events) (wait_of Writer events) → AreRemembered p events
-all_remembered p events kept Reader idle pending = reader-remembered p (wait_of Reader events)
-    (subst (λ (point : ReadPoint). Watched (wait_of Reader events) p.reader_waker None (read_calm point p) (write_errand p.writer p.writer_call)) idle (kept.reader.waiting pending))
-all_remembered p events kept Writer idle pending = writer-remembered p (wait_of Writer events)
-    (subst (λ (point : WritePoint). Watched (wait_of Writer events) p.writer_waker (write_held point p.writer_call.taken) (write_calm point p) (read_errand p.reader p.reader_call)) idle (kept.writer.waiting pending))
+all_remembered p events kept h3 idle pending = grind arith
 
 -- what every list of steps keeps
 pub record Remembers (p : Pipe) (events : List Event) : Type 0 where

@@ -1,14 +1,14 @@
 -- What remains of a call that a side between two calls has opened is the call run whole.
 use Rattle.std.proofs.Common.{◌≡◌, ℕ, List, [], ◌∷◌, false, None, Some, refl, sym, subst, ap, ◌∙◌, arith}
-use Rattle.piper_machine.specs.Types.{Side, Context, Polled, DestAct, SourceAct, Reader, Writer, Slice, Acts}
+use Rattle.piper_machine.specs.Types.{Side, Context, Polled, Reader, Writer, Slice}
 use Rattle.piper_machine.specs.Pipe.{Pipe, begun}
 use Rattle.piper_machine.specs.Copy.{try_drain, try_fill, drain, fill}
-use Rattle.piper_machine.specs.Scripted.{drain_to, fill_from, bytes_given, ends_in_failure}
+use Rattle.piper_machine.specs.Scripted.{bytes_given, ends_in_failure}
 use Rattle.piper_machine.specs.Round.{unspent}
 use Rattle.piper_machine.specs.Step.{drain_opened, fill_opened}
 use Rattle.piper_machine.specs.Alone.{Ended, resting, alone_of}
-use Rattle.piper_machine.specs.BySteps.{without_failure, unfailing, counted_whole, copied_slice, copied_acts}
-use Rattle.piper_machine.proofs.Whole.{try_drain-whole, drain-slice, drain-acts, given-slice, try_fill-whole, fill-slice, fill-acts}
+use Rattle.piper_machine.specs.BySteps.{without_failure, unfailing, counted_whole, copied_slice}
+use Rattle.piper_machine.proofs.Whole.{try_drain-whole, drain-slice, given-slice, try_fill-whole, fill-slice}
 
 -- what is left of a call, and the call run whole, of a side at rest
 from-rest : (side : Side) (alone run_whole : Pipe → Ended) (p q : Pipe) → q ≡ begun p → p ≡ resting side p → alone (begun (resting side p)) ≡ run_whole (resting side p) → alone q ≡ run_whole p
@@ -19,9 +19,6 @@ try_drains size p q begins rests = from-rest Reader (λ v. alone_of Reader (drai
 
 pub drains : (cx : Context) (size : ℕ) (p q : Pipe) → q ≡ begun p → p ≡ resting Reader p → alone_of Reader (drain_opened (Some cx) (Slice size) q) ≡ copied_slice (drain (Some cx) size p)
 drains cx size p q begins rests = from-rest Reader (λ v. alone_of Reader (drain_opened (Some cx) (Slice size) v)) (λ v. copied_slice (drain (Some cx) size v)) p q begins rests (drain-slice cx size p)
-
-pub drains-to : (cx : Context) (acts : List DestAct) (p q : Pipe) → q ≡ begun p → p ≡ resting Reader p → alone_of Reader (drain_opened (Some cx) (Acts acts) q) ≡ copied_acts (drain_to (Some cx) acts p)
-drains-to cx acts p q begins rests = from-rest Reader (λ v. alone_of Reader (drain_opened (Some cx) (Acts acts) v)) (λ v. copied_acts (drain_to (Some cx) acts v)) p q begins rests (drain-acts cx acts p)
 
 -- bytes of the caller's replace an act of them
 given-bytes : (bytes : List ℕ) → bytes_given (unspent bytes []) ≡ bytes
@@ -36,9 +33,6 @@ try_fills bytes p q begins rests = from-rest Writer (λ v. alone_of Writer (fill
 
 pub fills : (cx : Context) (bytes : List ℕ) (p q : Pipe) → q ≡ begun p → p ≡ resting Writer p → alone_of Writer (fill_opened (Some cx) (unspent bytes []) q) ≡ copied_slice (fill (Some cx) bytes p)
 fills cx bytes p q begins rests = from-rest Writer (λ v. alone_of Writer (fill_opened (Some cx) (unspent bytes []) v)) (λ v. copied_slice (fill (Some cx) bytes v)) p q begins rests (fill-slice (unspent bytes []) bytes (given-bytes bytes) (failure-bytes bytes) cx p)
-
-pub fills-from : (cx : Context) (acts : List SourceAct) (p q : Pipe) → q ≡ begun p → p ≡ resting Writer p → alone_of Writer (fill_opened (Some cx) acts q) ≡ copied_acts (fill_from (Some cx) acts p)
-fills-from cx acts p q begins rests = from-rest Writer (λ v. alone_of Writer (fill_opened (Some cx) acts v)) (λ v. copied_acts (fill_from (Some cx) acts v)) p q begins rests (fill-acts cx acts p)
 
 pub without_failure-unfailing : (answer : Polled ℕ) → without_failure (unfailing answer) ≡ answer
 without_failure-unfailing answer = grind arith

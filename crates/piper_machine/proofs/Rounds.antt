@@ -5,20 +5,15 @@ use Rattle.std.proofs.lemmas.Bool.Decides.{nat_tests}
 use Rattle.std.proofs.lemmas.List.{drop-drop, drop_all, take_at, drop_at}
 use Rattle.std.proofs.Math.Seq.{take-add}
 use borrow.Rule.Slice.PartMut.{put_mid}
-use Rattle.piper_protocol.specs.Index.{offset_of}
 use Rattle.piper_machine.specs.Pipe.{Pipe}
 use Rattle.piper_machine.specs.Copy.{waker_after, woken_after, filled, drained}
 use Rattle.piper_machine.specs.Move.{with_waker}
 
 pub waker_after-twice : (m n : ℕ) (waker : Option ℕ) → waker_after n (waker_after m waker) ≡ waker_after (m + n) waker
-waker_after-twice zero n waker = ap (λ k. waker_after k waker) (omega arith)
-waker_after-twice (suc m) zero waker = ap (λ k. waker_after k waker) (omega arith)
-waker_after-twice (suc m) (suc n) waker = grind (arith, nat_tests)
+waker_after-twice m n waker = grind arith
 
 pub woken_after-twice : (m n : ℕ) (names : List ℕ) (waker : Option ℕ) → woken_after n (woken_after m names waker) (waker_after m waker) ≡ woken_after (m + n) names waker
-woken_after-twice zero n names waker = ap (λ k. woken_after k names waker) (omega arith)
-woken_after-twice (suc m) zero names waker = ap (λ k. woken_after k names waker) (omega arith)
-woken_after-twice (suc m) (suc n) names waker = grind (arith, nat_tests)
+woken_after-twice m n names waker = grind arith
 
 pub filled_nothing : (p : Pipe) → p.lent ≡ [] → filled [] p ≡ p
 filled_nothing p none =
@@ -37,10 +32,7 @@ filled-filled xs ys p =
     cc
 
 pub drained_nothing : (p : Pipe) → p.start < p.capacity → drained 0 p ≡ p
-drained_nothing p start =
-    let known : p.known - 0 ≡ p.known = omega arith in
-    let place : offset_of p.capacity (p.start + 0) ≡ p.start = grind (arith, nat_tests) in
-    λ j. record p { known = known j; start = place j }
+drained_nothing p start = grind arith
 
 -- a slice that is filled part by part: the next n bytes after the first d
 pub next_part : (d n : ℕ) (bytes dest filled_so_far : List ℕ) → d ≤ length bytes → d + n ≤ length dest → filled_so_far ≡ take d bytes ++ drop d dest → length filled_so_far ≡ length dest
@@ -59,7 +51,3 @@ HasOneWake names waker = length (with_waker names waker) ≤ 1
 pub one_wake-room : (names : List ℕ) (waker : Option ℕ) → HasOneWake names waker → length names < 2
 one_wake-room names None one = omega arith
 one_wake-room names (Some name) one = let long = length-append names (name ∷ []) in omega arith
-
-pub one_wake-none : (waker : Option ℕ) → HasOneWake [] waker
-one_wake-none None = lit≤ tt
-one_wake-none (Some name) = lit≤ tt

@@ -4,7 +4,7 @@ use Rattle.piper_protocol.specs.Index.{distance, offset_of}
 use Rattle.piper_machine.specs.Pipe.{Pipe}
 use Rattle.std.proofs.lemmas.Bool.Decides.{nat_tests}
 use Rattle.piper_machine.specs.Lend.{lend_limit}
-use Rattle.piper_machine.specs.Places.{end_place, places_left}
+use Rattle.piper_machine.specs.Places.{end_place}
 use Rattle.piper_machine.specs.Sound.{IsSound}
 use Rattle.piper_machine.specs.Machine.{pipe_of, IsMachine}
 use Rattle.piper_machine.specs.declared.machine.Machine.TheInside.{Inside}
@@ -12,9 +12,6 @@ use Rattle.piper_machine.proofs.Indices.{offset_of-distance, place_below}
 use Rattle.piper_machine.proofs.Between.{length-between}
 
 module _ (m : Inside) (i : IsMachine m) where
-  c : ℕ
-  c = m.read.capacity
-
   -- the writer's index in terms of the one capacity
   pub tail_below : m.write.tail < 2 * m.read.capacity
   tail_below = omega (arith, i.capacity, i.writing.tail)
@@ -63,7 +60,4 @@ place_left capacity place below = grind (arith, nat_tests)
 
 -- of a sound pipe something is lent, wherever something is asked for and room is known
 pub some_lent : (most : ℕ) (p : Pipe) (n : ℕ) → IsSound p → 1 ≤ most → 1 ≤ p.room → min 4096 (lend_limit most p) ≤ n → 1 ≤ n
-some_lent most p n sound asked known least =
-    let inside : p.start + length p.unread < 2 * p.capacity = omega (arith, sound.start, sound.unread) in
-    let left : 1 ≤ places_left p = place_left p.capacity (p.start + length p.unread) inside in
-    omega arith
+some_lent most p n sound asked known least = grind arith

@@ -10,15 +10,7 @@ use Rattle.piper_machine.specs.Action.{source_called}
 use Rattle.piper_machine.specs.Round.{given, moved_by, unspent, left_of_source}
 
 unspent_some : (bytes : List ℕ) (acts : List SourceAct) → 1 ≤ length bytes → unspent bytes acts ≡ SourceAct.Bytes bytes ∷ acts
-unspent_some [] acts some = absurd (omega arith)
-unspent_some (byte ∷ bytes) acts some = refl
-
-unspent_none : (bytes : List ℕ) (acts : List SourceAct) → length bytes ≤ 0 → unspent bytes acts ≡ acts
-unspent_none [] acts none = refl
-unspent_none (byte ∷ bytes) acts none = absurd (omega arith)
-
-pub without_none : (acts : List SourceAct) → without 0 acts ≡ acts
-without_none acts = grind arith
+unspent_some bytes acts some = grind arith
 
 -- a part of an act
 pub pass_within : (acts : List SourceAct) (before n : ℕ) → n < length (bytes_of acts) - before → without (before + n) acts ≡ left_of_source n (without before acts)
@@ -27,14 +19,6 @@ pass_within (SourceAct.Fail ∷ acts) before n within = absurd (omega arith)
 pass_within (SourceAct.Bytes bytes ∷ acts) before n within =
     let all = drop-drop n before bytes in
     sym (ap (λ (xs : List ℕ). unspent xs acts) all ∙ unspent_some (drop (before + n) bytes) acts (simp length-drop (omega arith)))
-
--- the rest of it
-pub pass_over : (acts : List SourceAct) (before n : ℕ) → length (bytes_of acts) ≤ before + n → without 0 (drop 1 acts) ≡ left_of_source n (without before acts)
-pass_over [] before n over = refl
-pass_over (SourceAct.Fail ∷ acts) before n over = without_none acts
-pass_over (SourceAct.Bytes bytes ∷ acts) before n over =
-    let all = drop-drop n before bytes in
-    without_none acts ∙ sym (ap (λ (xs : List ℕ). unspent xs acts) all ∙ unspent_none (drop (before + n) bytes) acts (simp length-drop (omega arith)))
 
 -- how many bytes a call of the source moves, where it fails or not
 pub moved-given : (most : ℕ) (acts : List SourceAct) → moved_by (given most acts) ≡ min most (length (bytes_of acts))
@@ -51,12 +35,7 @@ source-called p q n held rest is count front left =
 
 -- a source that was called was lent places within the bounds
 lendable-after : (most : ℕ) (p q : Pipe) (n : ℕ) → q.room ≡ p.room → q.is_shut ≡ p.is_shut → places_left q ≡ places_left p → Lendable most p n → Lendable most q n
-lendable-after most p q n room shut left lendable = record {
-  at_most = rw (room, left) lendable.at_most;
-  at_least = λ is_open. rw (room, left) (lendable.at_least (sym shut ∙ is_open));
-  some = λ is_open asked known. lendable.some (sym shut ∙ is_open) asked (rw room at known);
-  shut = λ is_shut. lendable.shut (sym shut ∙ is_shut);
-}
+lendable-after most p q n room shut left lendable = grind arith
 
 pub lent-anew : (p w : Pipe) → Lendable MOST_A_ROUND p (length w.lent) → w ≡ lending w.lent p → Lendable MOST_A_ROUND w (length w.lent)
 lent-anew p w lendable is = subst (λ (x : Pipe). Lendable MOST_A_ROUND x (length w.lent)) (sym is) (lendable-after MOST_A_ROUND p (lending w.lent p) (length w.lent) refl refl refl lendable)

@@ -1,9 +1,8 @@
 -- What a side that runs alone depends on, and that its steps keep it.
 use Rattle.std.proofs.Common.{◌≡◌, ℕ, ◌+◌, ◌-◌, ◌<◌, ◌≤◌, List, [], ◌∷◌, take, length, Bool, true, false, Option, None, Some, ◌==◌, refl, arith, length-append, length-drop, length-take}
-use Rattle.piper_machine.specs.Types.{AfterRead, AfterWrite, SideState, Answer, SourceAct, Form, Purpose, ReadPoint, WritePoint, Found, Destination, Reader, Writer, Busy, Try, Polling, Unread as unread, IndexLoaded as index_loaded, Granted as granted, Waker as waker, Moved as moved}
+use Rattle.piper_machine.specs.Types.{AfterWrite, SideState, Answer, SourceAct, Form, Purpose, ReadPoint, WritePoint, Found, Destination, Reader, Writer, Busy, Unread as unread, IndexLoaded as index_loaded}
 use Rattle.piper_protocol.specs.Index.{offset_of}
-use Rattle.piper_protocol.specs.Table.{Next, head_store, moved_in, read_action, read_after, reader_moved, tail_store, write_action, write_after, writer_is_open, writer_moved}
-use Rattle.piper_protocol.specs.declared.table.Found.TheVariants.{Flag as flag, Failed as failed}
+use Rattle.piper_protocol.specs.Table.{Next, head_store, moved_in, read_action, read_after, tail_store, write_action, write_after, writer_is_open}
 use Rattle.piper_machine.specs.Pipe.{Pipe}
 use Rattle.piper_machine.specs.Places.{peeked_count}
 use Rattle.piper_machine.specs.Round.{taken, given, found_of}
@@ -23,44 +22,8 @@ pub record IsNextRead (found : Found) (next : Next ReadPoint) : Type 0 where
   pub settled : IsSettled next.answer (reader_state next.point)
   pub store : head_store next.point ≤ moved_in found
 
-reader_moves-on : (none : Bool) (n : ℕ) (form : Form) (sum : ℕ) → IsNextRead (moved n) (reader_moved none n form sum)
-reader_moves-on true n form sum = record { settled = λ none. absurd (cc); store = omega arith }
-reader_moves-on false n form sum = record { settled = refl; store = omega arith }
-
 pub reads-on : (capacity : ℕ) (point : ReadPoint) (found : Found) → reader_state point ≡ Busy → IsNextRead found (read_after capacity point found)
-reads-on capacity ReadPoint.Idle found busy = absurd (cc)
-reads-on capacity ReadPoint.Dropped found busy = absurd (cc)
-reads-on capacity (ReadPoint.QueryTail query) (unread count) busy = record { settled = λ none. absurd (cc); store = omega arith }
-reads-on capacity ReadPoint.QueryClosed (flag is_closed) busy = record { settled = λ none. absurd (cc); store = omega arith }
-reads-on capacity (ReadPoint.LookTail Purpose.Poll) (index_loaded true) busy = record { settled = refl; store = omega arith }
-reads-on capacity (ReadPoint.LookTail Purpose.Poll) (index_loaded false) busy = record { settled = refl; store = omega arith }
-reads-on capacity (ReadPoint.LookTail (Purpose.Copy Try)) (index_loaded true) busy = record { settled = refl; store = omega arith }
-reads-on capacity (ReadPoint.LookTail (Purpose.Copy Try)) (index_loaded false) busy = record { settled = refl; store = omega arith }
-reads-on capacity (ReadPoint.LookTail (Purpose.Copy (Polling drawn))) (index_loaded true) busy = record { settled = refl; store = omega arith }
-reads-on capacity (ReadPoint.LookTail (Purpose.Copy (Polling drawn))) (index_loaded false) busy = record { settled = refl; store = omega arith }
-reads-on capacity (ReadPoint.LookRegister l) (granted true) busy = record { settled = refl; store = omega arith }
-reads-on capacity (ReadPoint.LookRegister l) (granted false) busy = record { settled = λ none. absurd (cc); store = omega arith }
-reads-on capacity (ReadPoint.LookClosed l) (flag is_closed) busy = record { settled = refl; store = omega arith }
-reads-on capacity (ReadPoint.LookTailAgain l was_closed) (index_loaded true) busy = record { settled = λ none. absurd (cc); store = omega arith }
-reads-on capacity (ReadPoint.LookTailAgain Purpose.Poll was_closed) (index_loaded false) busy = record { settled = refl; store = omega arith }
-reads-on capacity (ReadPoint.LookTailAgain (Purpose.Copy Try) was_closed) (index_loaded false) busy = record { settled = refl; store = omega arith }
-reads-on capacity (ReadPoint.LookTailAgain (Purpose.Copy (Polling drawn)) was_closed) (index_loaded false) busy = record { settled = refl; store = omega arith }
-reads-on capacity (ReadPoint.LookTake Purpose.Poll) found busy = record { settled = λ none. absurd (cc); store = omega arith }
-reads-on capacity (ReadPoint.LookTake (Purpose.Copy Try)) found busy = record { settled = refl; store = omega arith }
-reads-on capacity (ReadPoint.LookTake (Purpose.Copy (Polling true))) found busy = record { settled = refl; store = omega arith }
-reads-on capacity (ReadPoint.LookTake (Purpose.Copy (Polling false))) found busy = record { settled = refl; store = omega arith }
-reads-on capacity ReadPoint.Yield (granted is_granted) busy = record { settled = λ none. absurd (cc); store = omega arith }
-reads-on capacity (ReadPoint.CallDestination form sum) (moved n) busy = reader_moves-on (n == 0) n form sum
-reads-on capacity (ReadPoint.CallDestination form sum) failed busy = record { settled = λ none. absurd (cc); store = omega arith }
-reads-on capacity (ReadPoint.StoreHead n next) found busy = record { settled = refl; store = omega arith }
-reads-on capacity (ReadPoint.TakeWriter AfterRead.Answer) (waker false) busy = record { settled = λ none. absurd (cc); store = omega arith }
-reads-on capacity (ReadPoint.TakeWriter AfterRead.Drop) (waker false) busy = record { settled = λ none. absurd (cc); store = omega arith }
-reads-on capacity (ReadPoint.TakeWriter (AfterRead.Round form sum)) (waker false) busy = record { settled = refl; store = omega arith }
-reads-on capacity (ReadPoint.TakeWriter next) (waker true) busy = record { settled = refl; store = omega arith }
-reads-on capacity (ReadPoint.WakeWriter AfterRead.Answer) found busy = record { settled = λ none. absurd (cc); store = omega arith }
-reads-on capacity (ReadPoint.WakeWriter AfterRead.Drop) found busy = record { settled = λ none. absurd (cc); store = omega arith }
-reads-on capacity (ReadPoint.WakeWriter (AfterRead.Round form sum)) found busy = record { settled = refl; store = omega arith }
-reads-on capacity point found busy = record { settled = refl; store = omega arith }
+reads-on capacity point found busy = grind arith
 
 pub record ReaderValid (point : ReadPoint) (p : Pipe) : Type 0 where
   pub unread : length p.unread ≤ p.capacity
@@ -72,8 +35,7 @@ pub taken-within : (destination : Destination) (most : ℕ) → moved_in (found_
 taken-within destination most = grind arith
 
 pub reader-settled : (point : ReadPoint) (p : Pipe) → reader_state point ≡ Busy → let s = read_step point p in IsSettled s.answer (reader_state s.pipe.reader)
-reader-settled ReadPoint.Idle p busy = absurd (cc)
-reader-settled point p busy = (reads-on p.capacity point (found_by Reader (read_action point) p) busy).settled
+reader-settled point p busy = grind arith
 
 -- a step that finds no bytes moved leaves no store next
 module _ (point : ReadPoint) (p : Pipe) (busy : reader_state point ≡ Busy) (valid : ReaderValid point p) where
@@ -116,16 +78,9 @@ pub record IsNextWrite (point : WritePoint) (found : Found) (next : Next WritePo
   pub unclosed : saw_open next.point ≡ true → saw_open point ≡ true
   pub plain : closes_round next.point ≡ false
 
-writer_moves-on : (none : Bool) (n : ℕ) (form : Form) (sum : ℕ) → IsNextWrite (WritePoint.CallSource form sum) (moved n) (writer_moved none n form sum)
-writer_moves-on true n form sum = record { settled = λ none. absurd (cc); store = omega arith; unclosed = λ saw. refl; plain = refl }
-writer_moves-on false n form sum = record { settled = refl; store = omega arith; unclosed = λ saw. refl; plain = refl }
-
 -- of the first look of a fill: what it finds open is open
 opens-on : (is_closed none : Bool) (l : Purpose) → saw_open (writer_is_open is_closed none l).point ≡ true → is_closed ≡ false
 opens-on is_closed none l saw = grind arith
-
-opens-settled : (is_closed none : Bool) (l : Purpose) → let next = writer_is_open is_closed none l in IsSettled next.answer (writer_state next.point)
-opens-settled is_closed none l = grind arith
 
 opens-store : (is_closed none : Bool) (l : Purpose) → tail_store (writer_is_open is_closed none l).point ≡ 0
 opens-store is_closed none l = grind arith
@@ -134,77 +89,13 @@ opens-plain : (is_closed none : Bool) (l : Purpose) → closes_round (writer_is_
 opens-plain is_closed none l = grind arith
 
 writes-on : (capacity room : ℕ) (point : WritePoint) (found : Found) → writer_state point ≡ Busy → is_first point ≡ false → closes_round point ≡ false → IsNextWrite point found (write_after capacity room point found)
-writes-on capacity room (WritePoint.LookClosed l) found busy later plain = absurd (cc)
-writes-on capacity room WritePoint.Idle found busy later plain = absurd (cc)
-writes-on capacity room WritePoint.Dropped found busy later plain = absurd (cc)
-writes-on capacity room (WritePoint.QueryHead query) (unread count) busy later plain = record { settled = refl; store = omega arith; unclosed = λ saw. absurd (cc); plain = refl }
-writes-on capacity room (WritePoint.QueryTail query count) found busy later plain = record { settled = λ none. absurd (cc); store = omega arith; unclosed = λ saw. absurd (cc); plain = refl }
-writes-on capacity room WritePoint.QueryClosed (flag is_closed) busy later plain = record { settled = λ none. absurd (cc); store = omega arith; unclosed = λ saw. absurd (cc); plain = refl }
-writes-on capacity room (WritePoint.LookHead Purpose.Poll) (index_loaded true) busy later plain = record { settled = refl; store = omega arith; unclosed = λ saw. absurd (cc); plain = refl }
-writes-on capacity room (WritePoint.LookHead Purpose.Poll) (index_loaded false) busy later plain = record { settled = refl; store = omega arith; unclosed = λ saw. absurd (cc); plain = refl }
-writes-on capacity room (WritePoint.LookHead (Purpose.Copy Try)) (index_loaded true) busy later plain = record { settled = refl; store = omega arith; unclosed = λ saw. refl; plain = refl }
-writes-on capacity room (WritePoint.LookHead (Purpose.Copy Try)) (index_loaded false) busy later plain = record { settled = refl; store = omega arith; unclosed = λ saw. refl; plain = refl }
-writes-on capacity room (WritePoint.LookHead (Purpose.Copy (Polling drawn))) (index_loaded true) busy later plain = record { settled = refl; store = omega arith; unclosed = λ saw. refl; plain = refl }
-writes-on capacity room (WritePoint.LookHead (Purpose.Copy (Polling drawn))) (index_loaded false) busy later plain = record { settled = refl; store = omega arith; unclosed = λ saw. refl; plain = refl }
-writes-on capacity room (WritePoint.LookRegister Purpose.Poll) (granted true) busy later plain = record { settled = refl; store = omega arith; unclosed = λ saw. absurd (cc); plain = refl }
-writes-on capacity room (WritePoint.LookRegister (Purpose.Copy Try)) (granted true) busy later plain = record { settled = refl; store = omega arith; unclosed = λ saw. refl; plain = refl }
-writes-on capacity room (WritePoint.LookRegister (Purpose.Copy (Polling drawn))) (granted true) busy later plain = record { settled = refl; store = omega arith; unclosed = λ saw. refl; plain = refl }
-writes-on capacity room (WritePoint.LookRegister l) (granted false) busy later plain = record { settled = λ none. absurd (cc); store = omega arith; unclosed = λ saw. absurd (cc); plain = refl }
-writes-on capacity room (WritePoint.LookHeadAgain Purpose.Poll) (index_loaded true) busy later plain = record { settled = refl; store = omega arith; unclosed = λ saw. absurd (cc); plain = refl }
-writes-on capacity room (WritePoint.LookHeadAgain Purpose.Poll) (index_loaded false) busy later plain = record { settled = refl; store = omega arith; unclosed = λ saw. absurd (cc); plain = refl }
-writes-on capacity room (WritePoint.LookHeadAgain (Purpose.Copy Try)) (index_loaded true) busy later plain = record { settled = refl; store = omega arith; unclosed = λ saw. refl; plain = refl }
-writes-on capacity room (WritePoint.LookHeadAgain (Purpose.Copy Try)) (index_loaded false) busy later plain = record { settled = refl; store = omega arith; unclosed = λ saw. refl; plain = refl }
-writes-on capacity room (WritePoint.LookHeadAgain (Purpose.Copy (Polling drawn))) (index_loaded true) busy later plain = record { settled = refl; store = omega arith; unclosed = λ saw. refl; plain = refl }
-writes-on capacity room (WritePoint.LookHeadAgain (Purpose.Copy (Polling drawn))) (index_loaded false) busy later plain = record { settled = refl; store = omega arith; unclosed = λ saw. refl; plain = refl }
-writes-on capacity room (WritePoint.LookClosedAgain l) (flag is_closed) busy later plain = record { settled = λ none. absurd (cc); store = omega arith; unclosed = λ saw. absurd (cc); plain = refl }
-writes-on capacity room (WritePoint.LookTake Purpose.Poll) found busy later plain = record { settled = λ none. absurd (cc); store = omega arith; unclosed = λ saw. absurd (cc); plain = refl }
-writes-on capacity room (WritePoint.LookTake (Purpose.Copy Try)) found busy later plain = record { settled = refl; store = omega arith; unclosed = λ saw. refl; plain = refl }
-writes-on capacity room (WritePoint.LookTake (Purpose.Copy (Polling true))) found busy later plain = record { settled = refl; store = omega arith; unclosed = λ saw. refl; plain = refl }
-writes-on capacity room (WritePoint.LookTake (Purpose.Copy (Polling false))) found busy later plain = record { settled = refl; store = omega arith; unclosed = λ saw. refl; plain = refl }
-writes-on capacity room WritePoint.Yield (granted is_granted) busy later plain = record { settled = λ none. absurd (cc); store = omega arith; unclosed = λ saw. absurd (cc); plain = refl }
-writes-on capacity room (WritePoint.CallSource form sum) (moved n) busy later plain = writer_moves-on (n == 0) n form sum
-writes-on capacity room (WritePoint.CallSource form sum) failed busy later plain = record { settled = λ none. absurd (cc); store = omega arith; unclosed = λ saw. absurd (cc); plain = refl }
-writes-on capacity room (WritePoint.RoundClosed n form sum) (flag true) busy later plain = record { settled = λ none. absurd (cc); store = omega arith; unclosed = λ saw. absurd (cc); plain = refl }
-writes-on capacity room (WritePoint.RoundClosed n form sum) (flag false) busy later plain = record { settled = refl; store = omega arith; unclosed = λ saw. refl; plain = refl }
-writes-on capacity room (WritePoint.StoreTail n AfterWrite.Answer) found busy later plain = record { settled = refl; store = omega arith; unclosed = λ saw. absurd (cc); plain = refl }
-writes-on capacity room (WritePoint.StoreTail n AfterWrite.Drop) found busy later plain = record { settled = refl; store = omega arith; unclosed = λ saw. absurd (cc); plain = refl }
-writes-on capacity room (WritePoint.StoreTail n AfterWrite.WakeWriter) found busy later plain = record { settled = refl; store = omega arith; unclosed = λ saw. absurd (cc); plain = refl }
-writes-on capacity room (WritePoint.StoreTail n (AfterWrite.Round form sum)) found busy later plain = record { settled = refl; store = omega arith; unclosed = λ saw. refl; plain = refl }
-writes-on capacity room (WritePoint.TakeReader AfterWrite.Answer) (waker false) busy later plain = record { settled = λ none. absurd (cc); store = omega arith; unclosed = λ saw. absurd (cc); plain = refl }
-writes-on capacity room (WritePoint.TakeReader AfterWrite.Answer) (waker true) busy later plain = record { settled = refl; store = omega arith; unclosed = λ saw. absurd (cc); plain = refl }
-writes-on capacity room (WritePoint.TakeReader AfterWrite.Drop) (waker false) busy later plain = record { settled = λ none. absurd (cc); store = omega arith; unclosed = λ saw. absurd (cc); plain = refl }
-writes-on capacity room (WritePoint.TakeReader AfterWrite.Drop) (waker true) busy later plain = record { settled = refl; store = omega arith; unclosed = λ saw. absurd (cc); plain = refl }
-writes-on capacity room (WritePoint.TakeReader AfterWrite.WakeWriter) (waker false) busy later plain = record { settled = refl; store = omega arith; unclosed = λ saw. absurd (cc); plain = refl }
-writes-on capacity room (WritePoint.TakeReader AfterWrite.WakeWriter) (waker true) busy later plain = record { settled = refl; store = omega arith; unclosed = λ saw. absurd (cc); plain = refl }
-writes-on capacity room (WritePoint.TakeReader (AfterWrite.Round form sum)) (waker false) busy later plain = record { settled = refl; store = omega arith; unclosed = λ saw. refl; plain = refl }
-writes-on capacity room (WritePoint.TakeReader (AfterWrite.Round form sum)) (waker true) busy later plain = record { settled = refl; store = omega arith; unclosed = λ saw. refl; plain = refl }
-writes-on capacity room (WritePoint.WakeReader AfterWrite.Answer) found busy later plain = record { settled = λ none. absurd (cc); store = omega arith; unclosed = λ saw. absurd (cc); plain = refl }
-writes-on capacity room (WritePoint.WakeReader AfterWrite.Drop) found busy later plain = record { settled = λ none. absurd (cc); store = omega arith; unclosed = λ saw. absurd (cc); plain = refl }
-writes-on capacity room (WritePoint.WakeReader AfterWrite.WakeWriter) found busy later plain = record { settled = refl; store = omega arith; unclosed = λ saw. absurd (cc); plain = refl }
-writes-on capacity room (WritePoint.WakeReader (AfterWrite.Round form sum)) found busy later plain = record { settled = refl; store = omega arith; unclosed = λ saw. refl; plain = refl }
-writes-on capacity room (WritePoint.StoreClosed AfterWrite.Answer) found busy later plain = record { settled = refl; store = omega arith; unclosed = λ saw. absurd (cc); plain = refl }
-writes-on capacity room (WritePoint.StoreClosed AfterWrite.Drop) found busy later plain = record { settled = refl; store = omega arith; unclosed = λ saw. absurd (cc); plain = refl }
-writes-on capacity room (WritePoint.StoreClosed AfterWrite.WakeWriter) found busy later plain = record { settled = refl; store = omega arith; unclosed = λ saw. absurd (cc); plain = refl }
-writes-on capacity room (WritePoint.StoreClosed (AfterWrite.Round form sum)) found busy later plain = absurd (cc)
-writes-on capacity room WritePoint.TakeWriter (waker false) busy later plain = record { settled = λ none. absurd (cc); store = omega arith; unclosed = λ saw. absurd (cc); plain = refl }
-writes-on capacity room WritePoint.TakeWriter (waker true) busy later plain = record { settled = refl; store = omega arith; unclosed = λ saw. absurd (cc); plain = refl }
-writes-on capacity room WritePoint.WakeWriter found busy later plain = record { settled = λ none. absurd (cc); store = omega arith; unclosed = λ saw. absurd (cc); plain = refl }
-writes-on capacity room point found busy later plain = record { settled = refl; store = omega arith; unclosed = λ saw. saw; plain = refl }
+writes-on capacity room point found busy later plain = grind arith
 
 given-within : (acts : List SourceAct) (lent : List ℕ) (form : Form) (sum : ℕ) (p : Pipe) → MayOffer (WritePoint.CallSource form sum) acts lent p → moved_in (found_of (given (length lent) acts)) ≤ p.room
-given-within [] lent form sum p may = omega arith
-given-within (SourceAct.Fail ∷ acts) lent form sum p may = omega arith
-given-within (SourceAct.Bytes [] ∷ acts) lent form sum p may = omega arith
-given-within (SourceAct.Bytes (byte ∷ bytes) ∷ acts) lent form sum p may = let most = may.at_most in omega arith
+given-within acts lent form sum p may = grind arith
 
 pub writer-settled : (point : WritePoint) (lent : List ℕ) (p : Pipe) → writer_state point ≡ Busy → closes_round point ≡ false → let s = fill_step point lent p in IsSettled s.answer (writer_state s.pipe.writer)
-writer-settled (WritePoint.LookClosed l) lent p busy plain = opens-settled p.is_closed (p.room == 0) l
-writer-settled (WritePoint.CallSource form sum) lent p busy plain = (writes-on p.capacity p.room (WritePoint.CallSource form sum) (found_of (given (length lent) p.source)) busy refl refl).settled
-writer-settled (WritePoint.StoreClosed AfterWrite.Answer) lent p busy plain = refl
-writer-settled (WritePoint.StoreClosed AfterWrite.Drop) lent p busy plain = refl
-writer-settled (WritePoint.StoreClosed AfterWrite.WakeWriter) lent p busy plain = refl
-writer-settled (WritePoint.StoreClosed (AfterWrite.Round form sum)) lent p busy plain = refl
-writer-settled point lent p busy plain = (writes-on p.capacity p.room point (found_by Writer (write_action point) p) busy refl refl).settled
+writer-settled point lent p busy plain = grind arith
 
 pub writer-valid : (point : WritePoint) (lent : List ℕ) (p : Pipe) → writer_state point ≡ Busy → closes_round point ≡ false → WriterValid point p → MayOffer point p.source lent (record p { writer = point })
     → let s = fill_step point lent p in WriterValid s.pipe.writer s.pipe × (closes_round s.pipe.writer ≡ false)

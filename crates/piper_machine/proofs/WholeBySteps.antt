@@ -19,7 +19,7 @@ use Rattle.piper_machine.specs.Lend.{Lendable, lending}
 use Rattle.piper_machine.specs.Refusal.{IsIdle, reader_state, writer_state, state_of, cannot_begin, cannot_go, unless, or_else, past, refusal_of}
 use Rattle.piper_machine.specs.Step.{began, opened, answer_at_once}
 use Rattle.piper_machine.specs.Run.{Made, Runs}
-use Rattle.piper_machine.specs.Alone.{Ended, read_steps, is_draining, read_wakes, resting, alone_of, is_copying, wakes_of}
+use Rattle.piper_machine.specs.Alone.{Ended, read_steps, resting, alone_of, is_copying, wakes_of}
 use Rattle.piper_machine.specs.BySteps.{names_of, whole, is_plain, found_alone, IsWholeBySteps, AreWholeBySteps}
 use Rattle.piper_machine.proofs.BySteps.{named, left_of, IsValid, no_more, finish}
 use Rattle.piper_machine.proofs.Going.{lends-some, comes-back}
@@ -30,27 +30,14 @@ abbrev pub HoldsNothing : Side → Pipe → Type 0
 HoldsNothing Reader p = p.reader ≡ ReadPoint.Idle → (p.reader_call ≡ no_call) × (p.destination ≡ Slice 0)
 HoldsNothing Writer p = p.writer ≡ WritePoint.Idle → (p.writer_call ≡ no_call) × (p.source ≡ [])
 
-reader-idle : (point : ReadPoint) → cannot_begin (reader_state point) ≡ None → point ≡ ReadPoint.Idle
-reader-idle point none = grind arith
-
 writer-idle : (point : WritePoint) → cannot_begin (writer_state point) ≡ None → point ≡ WritePoint.Idle
 writer-idle point none = grind arith
 
 idle-of : (side : Side) (p : Pipe) → cannot_begin (state_of side p) ≡ None → IsIdle side p
-idle-of Reader p none = reader-idle p.reader none
-idle-of Writer p none = writer-idle p.writer none
+idle-of side p none = grind arith
 
 rests-is : (side : Side) (p : Pipe) → HoldsNothing side p → IsIdle side p → p ≡ resting side p
-rests-is Reader p holds point =
-    let held = holds point in
-    let of_call = held.0 in
-    let destination = held.1 in
-    λ j. record p { reader = point j; reader_call = of_call j; destination = destination j }
-rests-is Writer p holds point =
-    let held = holds point in
-    let of_call = held.0 in
-    let source = held.1 in
-    λ j. record p { writer = point j; writer_call = of_call j; source = source j }
+rests-is side p holds point = grind arith
 
 -- a call that has a step is opened
 pub record IsOpened (c : Call) (lent others : List ℕ) (p : Pipe) : Type 0 where
@@ -70,9 +57,7 @@ looks-store knows_none l = grind arith
 
 -- the look of a drain, and its rounds
 looks-few : (knows_none : Bool) (form : Form) (unread known : ℕ) → (known == 0) ≡ knows_none → read_steps unread known (reader_looks_for knows_none (Purpose.Copy form)) ≤ 6 + 4 * (if known == 0 then unread else known)
-looks-few true form unread known test = let is = ap (λ (b : Bool). if b then unread else known) test in omega arith
-looks-few false Try unread known test = let is = ap (λ (b : Bool). if b then unread else known) test in omega arith
-looks-few false (Polling drawn) unread known test = let is = ap (λ (b : Bool). if b then unread else known) test in omega arith
+looks-few knows_none form unread known test = grind arith
 
 poll-few : (knows_none : Bool) (capacity known : ℕ) → read_steps capacity known (reader_looks_for knows_none Purpose.Poll) ≤ 5
 poll-few knows_none capacity known = grind arith
@@ -119,8 +104,7 @@ opens (Call.PollFill waker luck acts) lent others r stepped sound fits = record 
 opens c lent others r stepped sound fits = record { commutes = refl; at_once = refl; busy = refl; valid = (record { unread = sound.unread; start = sound.start; room = sound.room; store = omega arith; shut = sound.closed; unclosed = λ saw. absurd (cc) }, refl); rest = refl; unwoken = refl; few = omega arith }
 
 or_else-second : (first second : Option StepRefusal) → or_else first second ≡ None → second ≡ None
-or_else-second None second none = none
-or_else-second (Some r) second none = absurd (cc)
+or_else-second first second none = grind arith
 
 or_else-first : (first second : Option StepRefusal) → or_else first second ≡ None → first ≡ None
 or_else-first first second none = grind arith
@@ -186,35 +170,8 @@ pub record IsPlainOpened (c : Call) (p q : Pipe) : Type 0 where
   pub wakes : length q.woken + wakes_of (side_of c) q ≤ 2
   pub rest : alone_of (side_of c) q ≡ whole [] c p
 
-polls-plain : (knows_none : Bool) → (is_draining (reader_looks_for knows_none Purpose.Poll) ≡ false) × (read_wakes (reader_looks_for knows_none Purpose.Poll) ≡ 0)
-polls-plain knows_none = grind arith
-
-is-plain : (c : Call) (lent : List ℕ) (p : Pipe) → is_plain c ≡ true → let q = opened lent c p in (is_lending c ≡ false) × (is_copying (side_of c) q ≡ false) × (wakes_of (side_of c) q ≤ 2)
-unfolding is_lending
-is-plain (Call.Query Reader query) lent p plain = (refl, refl, omega arith)
-is-plain (Call.IsClosed Reader) lent p plain = (refl, refl, omega arith)
-is-plain (Call.Poll Reader waker luck) lent p plain = let polls = polls-plain (p.known == 0) in let none = polls.1 in (refl, polls.0, omega arith)
-is-plain (Call.Drop Reader) lent p plain = (refl, refl, omega arith)
-is-plain (Call.TryDrain size) lent p plain = absurd (cc)
-is-plain (Call.PollDrainBytes waker luck size) lent p plain = absurd (cc)
-is-plain (Call.PollDrain waker luck acts) lent p plain = absurd (cc)
-is-plain (Call.TryFill bytes) lent p plain = absurd (cc)
-is-plain (Call.PollFillBytes waker luck bytes) lent p plain = absurd (cc)
-is-plain (Call.PollFill waker luck acts) lent p plain = absurd (cc)
-is-plain (Call.WriteBuf most) lent p plain = absurd (cc)
-is-plain c lent p plain = (refl, refl, omega arith)
-
 pub plain-opens : (c : Call) (p b q : Pipe) → is_plain c ≡ true → IsSound p → p ≡ resting (side_of c) p → past c p ≡ None → b ≡ begun p → q ≡ opened q.lent c b → IsPlainOpened c p q
-plain-opens c p b q plain sound is fits begins opens_it =
-    let side = side_of c in
-    let lent = q.lent in
-    let r = opened lent c (begun p) in
-    let plainly = is-plain c lent (begun p) plain in
-    let opening = subst (λ (v : Pipe). IsOpened c lent [] v) (sym is) (opens c lent [] p plainly.0 (subst IsSound is sound) (subst (λ (v : Pipe). past c v ≡ None) is fits)) in
-    let few = plainly.2 in
-    let unwoken = ap (λ (names : List ℕ). length names) opening.unwoken in
-    let same : q ≡ r = opens_it ∙ ap (λ (v : Pipe). opened lent c v) begins in
-    subst (λ (v : Pipe). IsPlainOpened c p v) (sym same) (record { busy = opening.busy; moves = plainly.1; wakes = omega arith; rest = opening.rest })
+plain-opens c p b q plain sound is fits begins opens_it = grind arith
 
 -- a call of write_buf has no step
 lends : (most : ℕ) (p : Pipe) → IsSound p → IsWholeBySteps (Call.WriteBuf most) p
@@ -254,8 +211,7 @@ whole-by_steps c p sound holds = makes c p refl sound holds
 
 module _ (m : Inside) (i : IsMachine m) where
   holds-nothing : (side : Side) → HoldsNothing side (pipe_of m)
-  holds-nothing Reader = λ idle. (i.reader_call idle, i.destination idle)
-  holds-nothing Writer = λ idle. (i.writer_call idle, i.source idle)
+  holds-nothing side = grind arith
 
   pub by_steps : (p : Pipe) → pipe_of m ≡ p → AreWholeBySteps p
   by_steps p e = subst AreWholeBySteps e (λ c. whole-by_steps c (pipe_of m) (sound m i (pipe_of m) refl) (holds-nothing (side_of c)))

@@ -114,8 +114,7 @@ filled handed moved last left sum looks bytes count open_none closed_none =
 
 -- the first of some looks stays the first
 first-stays : (looks : List Seen) (look first : Seen) → first_look looks ≡ Some first → first_look (look ∷ looks) ≡ Some first
-first-stays [] look first is = absurd (cc)
-first-stays (before ∷ looks) look first is = is
+first-stays looks look first is = grind arith
 
 some_first : (look : Seen) (looks : List Seen) → first_look (look ∷ looks) ≡ None → ⊥
 some_first look [] none = absurd (cc)
@@ -154,10 +153,7 @@ module _ (capacity : ℕ) where
   fill-fails form c moved looks fills = absurd fills
 
   fill-moves : (form : Form) (c : Call) (moved left : List ℕ) (fails : Bool) → IsFill form c (moved ++ left) fails → MayHaveMoved c moved
-  fill-moves Try (Call.TryFill bytes) moved left fails fills = (left, fills.0)
-  fill-moves (Polling is_drawn) (Call.PollFillBytes waker luck bytes) moved left fails fills = (left, fills.0)
-  fill-moves (Polling is_drawn) (Call.PollFill waker luck acts) moved left fails fills = (left, fills.0)
-  fill-moves form c moved left fails fills = absurd fills
+  fill-moves form c moved left fails fills = grind arith
 
   -- where each step leads
 
@@ -166,25 +162,16 @@ module _ (capacity : ℕ) where
     waits first form answer looks = answers capacity t Writer looks.fill _ looks.is (fill-waits form looks.fill t.moved (bytes_given held) (ends_in_failure held) answer t.looks looks.fills looks.count)
 
     found-leads : (l : Purpose) → WriterLooks found_open l held t → WriterAt capacity (writer_found l) held (lent_then None) t
-    found-leads Purpose.Poll looks = looks
-    found-leads (Purpose.Copy Try) looks = looks
-    found-leads (Purpose.Copy (Polling is_drawn)) looks = looks
+    found-leads l looks = grind arith
 
     open-leads : (is_closed none : Bool) (l : Purpose) → WriterLooks (Some (Seen.Closed is_closed)) l held t → Leads capacity held lent_then (writer_is_open is_closed none l) t
-    open-leads true none Purpose.Poll looks = (poll-answers capacity Writer t (Ready false) looks, tt)
-    open-leads true none (Purpose.Copy form) looks = (waits _ form (Ready false) looks, tt)
-    open-leads false true l looks = (tt, looks)
-    open-leads false false l looks = (tt, found-leads l looks)
+    open-leads is_closed none l looks = grind arith
 
     looks-leads : (none : Bool) (l : Purpose) → WriterLooks found_open l held t → WriterAt capacity (writer_looked none l) held (lent_then None) t
-    looks-leads true Purpose.Poll looks = looks
-    looks-leads true (Purpose.Copy Try) looks = looks
-    looks-leads true (Purpose.Copy (Polling is_drawn)) looks = looks
-    looks-leads false l looks = found-leads l looks
+    looks-leads none l looks = grind arith
 
     again-leads : (none : Bool) (l : Purpose) → WriterLooks found_open l held t → WriterAt capacity (writer_looked_again none l) held (lent_then None) t
-    again-leads true l looks = looks
-    again-leads false l looks = found-leads l looks
+    again-leads none l looks = grind arith
 
     registers-leads : (is_granted : Bool) (l : Purpose) → WriterLooks found_open l held t → Leads capacity held lent_then (writer_registered is_granted l) t
     registers-leads true l looks = (tt, looks)
@@ -196,28 +183,20 @@ module _ (capacity : ℕ) where
     ends-leads is_closed (Purpose.Copy form) looks = waits found_open form (end_or_pending is_closed) looks
 
     true-leads : (l : Purpose) → WriterLooks found_open l held t → Leads capacity held lent_then (writer_is_true l) t
-    true-leads Purpose.Poll looks = (poll-answers capacity Writer t (Ready true) looks, tt)
-    true-leads (Purpose.Copy Try) looks = (tt, looks)
-    true-leads (Purpose.Copy (Polling true)) looks = (tt, looks)
-    true-leads (Purpose.Copy (Polling false)) looks = (tt, looks)
+    true-leads l looks = grind arith
 
     yields-leads : (is_granted : Bool) → Fills found_open (Polling true) held [] 0 t → AreRightFrom capacity Writer t (answer_event Writer (Some (yield_answer is_granted)))
     yields-leads true looks = waits found_open (Polling true) Pending looks
     yields-leads false looks = waits found_open (Polling true) Memory looks
 
     done-leads : (next : AfterWrite) → WriterAfter next held t → Leads capacity held lent_then (write_done next) t
-    done-leads AfterWrite.Answer noted = (answers capacity t Writer _ _ noted refl, tt)
-    done-leads AfterWrite.Drop noted = (answers capacity t Writer _ _ noted tt, tt)
-    done-leads AfterWrite.WakeWriter noted = (tt, noted)
-    done-leads (AfterWrite.Round form sum) noted = (tt, noted)
+    done-leads next noted = grind arith
 
     take-leads : (next : AfterWrite) (is_found : Bool) → WriterAfter next held t → Leads capacity held lent_then (reader_taken next is_found) t
-    take-leads next true noted = (tt, noted)
-    take-leads next false noted = done-leads next noted
+    take-leads next is_found noted = grind arith
 
     own-leads : (is_found : Bool) → t.call ≡ Some Call.Close → Leads capacity held lent_then (own_taken is_found) t
-    own-leads true noted = (tt, noted)
-    own-leads false noted = (answers capacity t Writer _ _ noted tt, tt)
+    own-leads is_found noted = grind arith
 
     rounds-leads : (is_closed : Bool) (n : ℕ) (form : Form) (sum : ℕ) (looks : List Seen) → t.looks ≡ Seen.Closed is_closed ∷ looks → Fills found_open form held (take n (lent_then None)) sum t → Leads capacity held lent_then (writer_rounds is_closed n form sum) t
     rounds-leads true n form sum looks is given =
@@ -227,8 +206,7 @@ module _ (capacity : ℕ) where
 
   -- what the log says of a look does not depend on what it found, but for the first one
   looked : (l : Purpose) (held : List SourceAct) (t : Noted) (look : Seen) → WriterLooks found_open l held t → WriterLooks found_open l held (record t { looks = look ∷ t.looks })
-  looked Purpose.Poll held t look looks = record { poll = looks.poll; is = looks.is; polls = looks.polls }
-  looked (Purpose.Copy form) held t look looks = record { fill = looks.fill; is = looks.is; fills = looks.fills; count = looks.count; found = first-stays t.looks look (Seen.Closed false) looks.found }
+  looked l held t look looks = grind arith
 
   first-looked : (l : Purpose) (held : List SourceAct) (t : Noted) (look : Seen) → WriterLooks None l held t → WriterLooks (Some look) l held (record t { looks = look ∷ t.looks })
   first-looked Purpose.Poll held t look looks = record { poll = looks.poll; is = looks.is; polls = looks.polls }

@@ -3,8 +3,8 @@
 use Rattle.std.proofs.Common.{◌≡◌, ℕ, ◌-◌, ◌≤◌, List, [], ◌++◌, length, take, Bool, true, false, Option, None, Some, ◌==◌, Result, Ok, Err, refl, sym, ap, subst, ◌∙◌, arith, length-append, length-take-le}
 use Rattle.std.specs.Bool.{⊤}
 use Rattle.std.proofs.lemmas.Bool.Decides.{nat_tests}
-use Rattle.piper_machine.specs.Types.{Query, Context, Failed, SourceAct, Form, Purpose, AfterWrite, WritePoint, Reader, Writer, Done, Try, Polling}
-use Rattle.piper_protocol.specs.Table.{Next, write_action, end_or_pending, look_answer, writer_is_open, writer_looked, writer_looked_again, writer_moved, writer_rounds, write_after, yield_answer, ends, write_done}
+use Rattle.piper_machine.specs.Types.{Query, Context, Failed, SourceAct, Form, Purpose, AfterWrite, WritePoint, Reader, Writer, Done}
+use Rattle.piper_protocol.specs.Table.{Next, write_action, end_or_pending, look_answer, writer_is_open, writer_looked, writer_looked_again, writer_rounds, write_after, yield_answer, ends, write_done}
 use Rattle.piper_machine.specs.Log.{answer_event}
 use Rattle.piper_machine.specs.Open.{is_yield_granted}
 use Rattle.piper_machine.specs.Pipe.{Pipe}
@@ -14,7 +14,7 @@ use Rattle.piper_machine.specs.Step.{call_after, went, offering}
 use Rattle.piper_machine.specs.Round.{given, found_of}
 use Rattle.piper_machine.specs.Waiting.{IsBlocked}
 use Rattle.piper_machine.specs.Wait.{Wait, wait_from}
-use Rattle.piper_machine.proofs.Watching.{Errand, wakes, write_errand, Watched, woken, calmly, taking, waking, holding, Same, same, Touch, rests, stores, finds, misses, calls, hears, hears-more, hears-it, hears-handed, rewatch, touched, touched-pending, IsHanded, HasBegun, Awaits, handed-touched, begun-touched, awaits-touched, awaits-more, has_begun, awaits, refused-noted, counted-noted, yielded, yield-heard, answered-passes, registration-passes, wake-heard, context_of, query-noted}
+use Rattle.piper_machine.proofs.Watching.{Errand, write_errand, Watched, same, Touch, rests, stores, finds, misses, calls, rewatch, IsHanded, HasBegun, Awaits, yielded, yield-heard, answered-passes, registration-passes, wake-heard, context_of, query-noted}
 
 -- what holds of the pipe while the waker is registered in the slot: nothing any more once the
 -- writer itself has closed; after its own take it is not there, and a close that wakes the reader
@@ -53,43 +53,8 @@ pub record WriteWaits (p : Pipe) (e : Errand) (w : Wait) : Type 0 where
 
 -- a step of the reader
 
-same-full : {p q : Pipe} → Same p q → length p.unread ≡ p.capacity → length q.unread ≡ q.capacity
-same-full same full = ap (λ (xs : List ℕ). length xs) same.unread ∙ full ∙ sym same.capacity
-
-same-blocked : {p q : Pipe} → Same p q → IsBlocked Writer p → IsBlocked Writer q
-same-blocked same b = (same-full same b.0, same.closed ∙ b.1)
-
-write_calm-same : {p q : Pipe} (point : WritePoint) → Same p q → write_calm point p → write_calm point q
-write_calm-same WritePoint.Dropped same c = tt
-write_calm-same (WritePoint.TakeReader AfterWrite.Drop) same c = tt
-write_calm-same (WritePoint.TakeReader AfterWrite.WakeWriter) same c = tt
-write_calm-same (WritePoint.WakeReader AfterWrite.Drop) same c = tt
-write_calm-same (WritePoint.WakeReader AfterWrite.WakeWriter) same c = tt
-write_calm-same WritePoint.TakeWriter same c = tt
-write_calm-same WritePoint.WakeWriter same c = c
-write_calm-same (WritePoint.StoreClosed AfterWrite.Answer) same c = c
-write_calm-same (WritePoint.StoreClosed (AfterWrite.Round form sum)) same c = c
-write_calm-same point same c = same-blocked same c
-
-look-touched : (p q : Pipe) (e e_after : Errand) (w v : Wait) (point : WritePoint) → q.writer_call ≡ p.writer_call → Touch p q p.writer_waker q.writer_waker e e_after w v → WriteLook point p e w → WriteLook point q e_after v
-look-touched p q e e_after w v (WritePoint.LookClosed l) same t h = rw same (begun-touched l p.writer_call.context t h)
-look-touched p q e e_after w v (WritePoint.LookHead l) same t h = rw same (begun-touched l p.writer_call.context t h)
-look-touched p q e e_after w v (WritePoint.LookRegister l) same t h = rw same (handed-touched p.writer_call.context t h)
-look-touched p q e e_after w v (WritePoint.LookHeadAgain l) same t h = (rw same (begun-touched l p.writer_call.context t h.0), awaits-touched l _ _ (λ s c. c) t h.1)
-look-touched p q e e_after w v (WritePoint.LookClosedAgain l) same t h = (rw same (begun-touched l p.writer_call.context t h.0), awaits-touched l _ _ same-full t h.1)
-look-touched p q e e_after w v (WritePoint.LookTake l) same t h = rw same (handed-touched p.writer_call.context t h)
-look-touched p q e e_after w v WritePoint.Yield same t h = rw same (handed-touched p.writer_call.context t h)
-look-touched p q e e_after w v point same t h = tt
-
-held-same : (p q : Pipe) → q.writer ≡ p.writer → q.writer_call ≡ p.writer_call → write_held q.writer q.writer_call.taken ≡ write_held p.writer p.writer_call.taken
-held-same p q point call = rw (point, call) refl
-
 pub writer-touched : (p q : Pipe) (e e_after : Errand) (w v : Wait) → q.writer ≡ p.writer → q.writer_call ≡ p.writer_call → Touch p q p.writer_waker q.writer_waker e e_after w v → WriteWaits p e w → WriteWaits q e_after v
-writer-touched p q e e_after w v point call t h = record {
-  waiting = λ pending. rewatch _ _ refl (held-same p q point call) refl (λ a. a) (λ c. c)
-      (touched _ _ (λ same c. subst (λ (at : WritePoint). write_calm at q) (sym point) (write_calm-same p.writer same c)) t (h.waiting (sym (touched-pending t) ∙ pending)));
-  look = subst (λ (at : WritePoint). WriteLook at q e_after v) (sym point) (look-touched p q e e_after w v p.writer call t h.look);
-}
+writer-touched p q e e_after w v point call t h = grind arith
 
 -- the writer's own steps
 
@@ -106,83 +71,48 @@ IsValid next source lent p e w =
     WriteWaits (record p { writer = next.point; writer_call = call_after next.answer p.writer_call; source = source; lent = lent }) e (wait_from Writer w (answer_event Writer next.answer))
 
 opens : (l : Purpose) (is_closed none : Bool) (source : List SourceAct) (lent : List ℕ) (p : Pipe) (e : Errand) (w : Wait) → WriteWaits (record p { writer = WritePoint.LookClosed l }) e w → IsValid (writer_is_open is_closed none l) source lent p e w
-opens Purpose.Poll true none source lent p e w h = record { waiting = h.waiting; look = tt }
-opens (Purpose.Copy Try) true none source lent p e w h = record { waiting = h.waiting; look = tt }
-opens (Purpose.Copy (Polling is_drawn)) true none source lent p e w h = record { waiting = h.waiting; look = tt }
-opens l false true source lent p e w h = record { waiting = h.waiting; look = h.look }
-opens Purpose.Poll false false source lent p e w h = record { waiting = h.waiting; look = h.look }
-opens (Purpose.Copy Try) false false source lent p e w h = record { waiting = h.waiting; look = tt }
-opens (Purpose.Copy (Polling is_drawn)) false false source lent p e w h = record { waiting = h.waiting; look = h.look }
+opens l is_closed none source lent p e w h = grind arith
 
 looked : (l : Purpose) (none : Bool) (p : Pipe) (e : Errand) (w : Wait) → WriteWaits (record p { writer = WritePoint.LookHead l }) e w → WriteWaits (record p { writer = writer_looked none l }) e w
-looked Purpose.Poll true p e w h = record { waiting = h.waiting; look = h.look }
-looked Purpose.Poll false p e w h = record { waiting = h.waiting; look = h.look }
-looked (Purpose.Copy Try) true p e w h = record { waiting = h.waiting; look = (tt, tt) }
-looked (Purpose.Copy Try) false p e w h = record { waiting = h.waiting; look = tt }
-looked (Purpose.Copy (Polling is_drawn)) true p e w h = record { waiting = h.waiting; look = h.look }
-looked (Purpose.Copy (Polling is_drawn)) false p e w h = record { waiting = h.waiting; look = h.look }
+looked l none p e w h = grind arith
 
 abbrev with_context : Option Context → Option ℕ → Purpose → Pipe → Pipe
 with_context context taken l p = record p { writer = WritePoint.LookRegister l; writer_call = record { context = context; taken = taken } }
 
 registers : (l : Purpose) (granted : Bool) (waker draw : ℕ) (yields : Bool) (taken : Option ℕ) (p : Pipe) (e : Errand) (w : Wait)
     → Goes (with_context (Some (context_of granted waker draw yields)) taken l p) e w
-registers l true waker draw yields taken p e w h = record {
-  waiting = λ pending. absurd (let never = h.look.0 in cc);
-  look = (has_begun l _ _ h.look, awaits l _ _ _ e (calmly (ap (λ (n : ℕ). Some n) (sym h.look.1)) tt));
-}
-registers l false waker draw yields taken p e w h = rw (refused-noted l w) (record { waiting = h.waiting; look = tt })
+registers l granted waker draw yields taken p e w h = grind arith
 
 registers-if : (l : Purpose) (context : Option Context) (taken : Option ℕ) (p : Pipe) (e : Errand) (w : Wait) → Goes (with_context context taken l p) e w
-registers-if l None taken p e w h = rw (refused-noted l w) (record { waiting = h.waiting; look = tt })
-registers-if l (Some cx) taken p e w h = registers l cx.luck.register_granted cx.waker cx.luck.draw cx.luck.yield_granted taken p e w h
+registers-if l context taken p e w h = grind arith
 
 -- the second load of head
 looked-again : (l : Purpose) (none : Bool) (p : Pipe) (e : Errand) (w : Wait) → (none ≡ true → length p.unread ≡ p.capacity) → WriteWaits (record p { writer = WritePoint.LookHeadAgain l }) e w
     → WriteWaits (record p { writer = writer_looked_again none l }) e w
-looked-again l true p e w full h = record { waiting = h.waiting; look = (h.look.0, awaits-more w p.writer_waker e l _ _ (λ c. full refl) h.look.1) }
-looked-again Purpose.Poll false p e w full h = record { waiting = h.waiting; look = h.look.0 }
-looked-again (Purpose.Copy Try) false p e w full h = record { waiting = h.waiting; look = tt }
-looked-again (Purpose.Copy (Polling is_drawn)) false p e w full h = record { waiting = h.waiting; look = h.look.0 }
+looked-again l none p e w full h = grind arith
 
 -- the last load of closed: without room in an open pipe the writer waits from now on
 closed-again : (l : Purpose) (is_closed : Bool) (source : List SourceAct) (lent : List ℕ) (p : Pipe) (e : Errand) (w : Wait) → p.is_closed ≡ is_closed → WriteWaits (record p { writer = WritePoint.LookClosedAgain l }) e w
     → IsValid (ends WritePoint.Idle (look_answer l (end_or_pending is_closed))) source lent p e w
-closed-again Purpose.Poll true source lent p e w flag h = record { waiting = h.waiting; look = tt }
-closed-again Purpose.Poll false source lent p e w flag h = record { waiting = λ pending. rewatch _ _ refl refl refl (λ a. a) (λ full. (full, flag)) h.look.1; look = tt }
-closed-again (Purpose.Copy Try) is_closed source lent p e w flag h = record { waiting = h.waiting; look = tt }
-closed-again (Purpose.Copy (Polling is_drawn)) true source lent p e w flag h = record { waiting = h.waiting; look = tt }
-closed-again (Purpose.Copy (Polling is_drawn)) false source lent p e w flag h = record { waiting = λ pending. rewatch _ _ refl refl refl (λ a. a) (λ full. (full, flag)) h.look.1; look = tt }
+closed-again l is_closed source lent p e w flag h = grind arith
 
 takes-own-room : (l : Purpose) (p : Pipe) (e : Errand) (w : Wait) → Goes (record p { writer = WritePoint.LookTake l }) e w
-takes-own-room Purpose.Poll p e w h = record { waiting = λ pending. absurd (let never = h.look.0 in cc); look = tt }
-takes-own-room (Purpose.Copy Try) p e w h = record { waiting = λ pending. absurd (let never = h.look.0 in cc); look = tt }
-takes-own-room (Purpose.Copy (Polling true)) p e w h = record { waiting = λ pending. absurd (let never = h.look.0 in cc); look = h.look }
-takes-own-room (Purpose.Copy (Polling false)) p e w h = record { waiting = λ pending. absurd (let never = h.look.0 in cc); look = tt }
+takes-own-room l p e w h = grind arith
 
 -- a yield: the call returns pending, and its waker was called
 yields : (granted : Bool) (waker draw : ℕ) (registers : Bool) (taken : Option ℕ) (p : Pipe) (e : Errand) (w : Wait)
     → Goes (record p { writer = WritePoint.Yield; writer_call = record { context = Some (record { waker = waker; luck = record { draw = draw; register_granted = registers; yield_granted = granted } }); taken = taken } }) e w
-yields true waker draw registers taken p e w h = record { waiting = λ pending. woken (hears-it (Some waker) w (ap (λ (n : ℕ). Some n) (sym h.look.1))); look = tt }
-yields false waker draw registers taken p e w h = record { waiting = h.waiting; look = tt }
+yields granted waker draw registers taken p e w h = grind arith
 
 yields-if : (context : Option Context) (taken : Option ℕ) (p : Pipe) (e : Errand) (w : Wait) → Goes (record p { writer = WritePoint.Yield; writer_call = record { context = context; taken = taken } }) e w
-yields-if None taken p e w h = record { waiting = h.waiting; look = tt }
-yields-if (Some cx) taken p e w h = yields cx.luck.yield_granted cx.waker cx.luck.draw cx.luck.register_granted taken p e w h
-
--- a round: it goes on, or the call returns a count or a failure
-moves-on : (none : Bool) (n : ℕ) (form : Form) (sum : ℕ) (source : List SourceAct) (lent : List ℕ) (p : Pipe) (e : Errand) (w : Wait) → WriteWaits (record p { writer = WritePoint.CallSource form sum }) e w → IsValid (writer_moved none n form sum) source lent p e w
-moves-on true n form sum source lent p e w h = rw (counted-noted form sum w) (record { waiting = h.waiting; look = tt })
-moves-on false n form sum source lent p e w h = record { waiting = h.waiting; look = tt }
+yields-if context taken p e w h = grind arith
 
 moves : (given : Result ℕ Failed) (form : Form) (sum : ℕ) (source : List SourceAct) (lent : List ℕ) (p : Pipe) (e : Errand) (w : Wait) → WriteWaits (record p { writer = WritePoint.CallSource form sum }) e w
     → IsValid (write_after p.capacity p.room (WritePoint.CallSource form sum) (found_of given)) source lent p e w
-moves (Ok n) form sum source lent p e w h = moves-on (n == 0) n form sum source lent p e w h
-moves (Err fails) form sum source lent p e w h = record { waiting = h.waiting; look = tt }
+moves given form sum source lent p e w h = grind arith
 
 rounds : (is_closed : Bool) (n : ℕ) (form : Form) (sum : ℕ) (source : List SourceAct) (lent : List ℕ) (p : Pipe) (e : Errand) (w : Wait) → WriteWaits (record p { writer = WritePoint.RoundClosed n form sum }) e w → IsValid (writer_rounds is_closed n form sum) source lent p e w
-rounds true n form sum source lent p e w h = rw (counted-noted form sum w) (record { waiting = h.waiting; look = tt })
-rounds false n form sum source lent p e w h = record { waiting = h.waiting; look = tt }
+rounds is_closed n form sum source lent p e w h = grind arith
 
 -- a full pipe has no room for a byte
 none_stored : (p : Pipe) (n : ℕ) → IsSound p → n ≤ length p.lent → length p.unread ≡ p.capacity → length (p.unread ++ take n p.lent) ≡ p.capacity
@@ -199,57 +129,19 @@ publishes (AfterWrite.Round form sum) n p e w sound h =
     record { waiting = λ pending. rewatch _ _ refl refl refl (λ a. a) (λ c. (none_stored (record p { writer = WritePoint.StoreTail n (AfterWrite.Round form sum) }) n sound sound.tail_store c.0, c.1)) (h.waiting pending); look = tt }
 
 takes-readers : (next : AfterWrite) (slot : Option ℕ) (p : Pipe) (e : Errand) (w : Wait) → Goes (record p { writer = WritePoint.TakeReader next; reader_waker = slot }) e w
-takes-readers AfterWrite.Answer None p e w h = record { waiting = h.waiting; look = tt }
-takes-readers AfterWrite.Drop None p e w h = record { waiting = h.waiting; look = tt }
-takes-readers AfterWrite.WakeWriter None p e w h = record { waiting = h.waiting; look = tt }
-takes-readers AfterWrite.Answer (Some waker) p e w h = record { waiting = h.waiting; look = tt }
-takes-readers AfterWrite.Drop (Some waker) p e w h = record { waiting = h.waiting; look = tt }
-takes-readers AfterWrite.WakeWriter (Some waker) p e w h = record { waiting = h.waiting; look = tt }
-takes-readers (AfterWrite.Round form sum) None p e w h = record { waiting = h.waiting; look = tt }
-takes-readers (AfterWrite.Round form sum) (Some waker) p e w h = record { waiting = h.waiting; look = tt }
+takes-readers next slot p e w h = grind arith
 
 wakes-reader : (next : AfterWrite) (context : Option Context) (name : Option ℕ) (p : Pipe) (e : Errand) (w : Wait) → Goes (record p { writer = WritePoint.WakeReader next; writer_call = record { context = context; taken = name } }) e w
-wakes-reader AfterWrite.Answer context None p e w h = record { waiting = h.waiting; look = tt }
-wakes-reader AfterWrite.Drop context None p e w h = record { waiting = h.waiting; look = tt }
-wakes-reader AfterWrite.WakeWriter context None p e w h = record { waiting = h.waiting; look = tt }
-wakes-reader AfterWrite.Answer context (Some waker) p e w h = record { waiting = λ pending. rewatch _ _ refl refl refl (hears-more (Some waker) w) (λ c. c) (h.waiting pending); look = tt }
-wakes-reader AfterWrite.Drop context (Some waker) p e w h = record { waiting = λ pending. rewatch _ _ refl refl refl (hears-more (Some waker) w) (λ c. c) (h.waiting pending); look = tt }
-wakes-reader AfterWrite.WakeWriter context (Some waker) p e w h = record { waiting = λ pending. rewatch _ _ refl refl refl (hears-more (Some waker) w) (λ c. c) (h.waiting pending); look = tt }
-wakes-reader (AfterWrite.Round form sum) context None p e w h = record { waiting = h.waiting; look = tt }
-wakes-reader (AfterWrite.Round form sum) context (Some waker) p e w h = record { waiting = λ pending. rewatch _ _ refl refl refl (hears-more (Some waker) w) (λ c. c) (h.waiting pending); look = tt }
+wakes-reader next context name p e w h = grind arith
 
 closes : (next : AfterWrite) (p : Pipe) (e : Errand) (w : Wait) → Goes (record p { writer = WritePoint.StoreClosed next }) e w
-closes AfterWrite.Answer p e w h = record { waiting = λ pending. rewatch _ _ refl refl refl (λ a. a) (λ c. absurd c) (h.waiting pending); look = tt }
-closes (AfterWrite.Round form sum) p e w h = record { waiting = λ pending. rewatch _ _ refl refl refl (λ a. a) (λ c. absurd c) (h.waiting pending); look = tt }
-closes AfterWrite.Drop p e w h = record { waiting = λ pending. rewatch _ _ refl refl refl (λ a. a) (λ c. tt) (h.waiting pending); look = tt }
-closes AfterWrite.WakeWriter p e w h = record { waiting = λ pending. rewatch _ _ refl refl refl (λ a. a) (λ c. tt) (h.waiting pending); look = tt }
-
--- after a close the writer empties its own slot: what was there it holds
-empties : {w : Wait} {e : Errand} (slot : Option ℕ) (calm : Type 0) → Watched w slot None calm e → Watched w None slot ⊥ e
-empties slot calm (woken h) = woken h
-empties slot calm (calmly h c) = holding h
-empties slot calm (taking h t) = holding h
-empties slot calm (waking t) = waking t
-empties slot calm (holding h) = absurd (cc)
-
-none_emptied : {w : Wait} {e : Errand} (calm : Type 0) → Watched w None None ⊥ e → Watched w None None calm e
-none_emptied calm h = rewatch ⊥ calm refl refl refl (λ a. a) (λ c. absurd c) h
+closes next p e w h = grind arith
 
 takes-own-slot : (slot : Option ℕ) (p : Pipe) (e : Errand) (w : Wait) → Goes (record p { writer = WritePoint.TakeWriter; writer_waker = slot }) e w
-takes-own-slot None p e w h = record { waiting = λ pending. none_emptied _ (empties None ⊤ (h.waiting pending)); look = tt }
-takes-own-slot (Some waker) p e w h = record { waiting = λ pending. empties (Some waker) ⊤ (h.waiting pending); look = tt }
-
--- and calls it
-hears-held : {w : Wait} {slot : Option ℕ} {e : Errand} (name : Option ℕ) (calm : Type 0) → Watched w slot name ⊥ e → Watched (hears name w) slot None calm e
-hears-held {w = w} name calm (woken h) = woken (hears-more name w h)
-hears-held name calm (calmly h c) = absurd c
-hears-held {w = w} name calm (taking h t) = taking (h ∙ ap (λ (n : ℕ). Some n) (sym (hears-handed name w))) t
-hears-held {w = w} name calm (waking t) = waking (t ∙ ap (λ (n : ℕ). wakes (Some n)) (sym (hears-handed name w)))
-hears-held {w = w} name calm (holding h) = woken (hears-it name w h)
+takes-own-slot slot p e w h = grind arith
 
 wakes-own : (context : Option Context) (name : Option ℕ) (p : Pipe) (e : Errand) (w : Wait) → Goes (record p { writer = WritePoint.WakeWriter; writer_call = record { context = context; taken = name } }) e w
-wakes-own context None p e w h = record { waiting = λ pending. hears-held None _ (h.waiting pending); look = tt }
-wakes-own context (Some waker) p e w h = record { waiting = λ pending. hears-held (Some waker) _ (h.waiting pending); look = tt }
+wakes-own context name p e w h = grind arith
 
 full_from : (p : Pipe) → IsSound p → (p.capacity - length p.unread == 0) ≡ true → length p.unread ≡ p.capacity
 full_from p sound none = let within = sound.unread in grind (arith, nat_tests)
@@ -293,10 +185,7 @@ takes-touch next None p w = misses refl refl (answered-passes Reader Writer w w 
 takes-touch next (Some waker) p w = finds waker refl refl refl refl
 
 closes-touch : (next : AfterWrite) (p : Pipe) (w : Wait) → Touches (record p { writer = WritePoint.StoreClosed next }) w
-closes-touch AfterWrite.Answer p w = stores refl refl refl refl
-closes-touch (AfterWrite.Round form sum) p w = stores refl refl refl refl
-closes-touch AfterWrite.Drop p w = stores refl refl refl refl
-closes-touch AfterWrite.WakeWriter p w = stores refl refl refl refl
+closes-touch next p w = grind arith
 
 abbrev pub TouchesOffered : List ℕ → Pipe → Wait → Type 0
 TouchesOffered offered p w =

@@ -3,7 +3,7 @@ use Rattle.std.proofs.Common.{◌≡◌, ℕ, ◌+◌, ◌≤◌, List, [], ◌�
 use Rattle.std.proofs.lemmas.List.{take-append-drop, take-append-le}
 use Rattle.std.proofs.Math.Seq.{take-append_seam, drop-append_seam}
 use Rattle.piper_machine.specs.Types.{Reader, Writer}
-use Rattle.piper_machine.specs.logs.Line.{Line, stored_head}
+use Rattle.piper_machine.specs.logs.Line.{Line}
 use Rattle.piper_machine.specs.logs.Moved.{consumed, consumed_by, published, published_by}
 use Rattle.piper_machine.specs.logs.OneList.{AreInOrder, AreOrdered, By, by, Finds, FindsCount, Words, did, words_after, words_of}
 use Rattle.piper_machine.specs.logs.OneRun.{AreCountedLogs, IsOneRun}
@@ -65,8 +65,7 @@ module _ (capacity : ℕ) where
 
   -- an access finds the bytes that are there
   finds-bytes : (line : Line) (s : Words) → FindsCount line s → consumed_by line ≡ take (length (consumed_by line)) (drop s.head s.sent) → Finds line s
-  finds-bytes (stored_head bytes) s finds same = same
-  finds-bytes line s finds same = finds
+  finds-bytes line s finds same = grind arith
 
   in-order : 1 ≤ capacity → (turns : List (By Line)) → AreOrdered FindsCount turns → AreReaderRuns capacity (did Reader turns) → AreWriterRuns capacity (did Writer turns)
       → (rest : List ℕ) → consumed (did Reader turns) ++ rest ≡ published (did Writer turns) → AreInOrder turns

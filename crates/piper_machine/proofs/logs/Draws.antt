@@ -5,7 +5,7 @@ use Rattle.piper_protocol.specs.Table.{Next, read_action, read_after, head_store
 use Rattle.piper_machine.specs.Log.{answer_event}
 use Rattle.piper_machine.specs.Refusal.{cannot_go, reader_state}
 use Rattle.piper_machine.specs.logs.Reading.{HasDrawn}
-use Rattle.piper_machine.proofs.logs.Joint.{reader_drawn, reader_point}
+use Rattle.piper_machine.proofs.logs.Joint.{reader_point}
 
 abbrev pub reader_next : Option Bool → Bool → Next ReadPoint → Next ReadPoint
 reader_next draw b next = record { point = reader_point draw b next.point; answer = next.answer }
@@ -27,9 +27,6 @@ ends-at capacity point f answer e = grind arith
 
 pub may-go : (point : ReadPoint) → (read_action point ≡ Action.Rest → ⊥) → cannot_go (reader_state point) ≡ None
 may-go point goes = grind arith
-
-pub rests-drawn : (b : Bool) (point : ReadPoint) → read_action point ≡ Action.Rest → reader_drawn b point ≡ point
-rests-drawn b point e = grind arith
 
 pub own-same : (capacity : ℕ) (point : ReadPoint) (f g : Found) → read_action point ≡ Action.Take Reader → read_after capacity point f ≡ read_after capacity point g
 own-same capacity point f g e = grind arith

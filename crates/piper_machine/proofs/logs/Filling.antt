@@ -1,7 +1,7 @@
 -- A list of the accesses of both sides, filled up with the lines that are no access.
 use Rattle.std.proofs.Common.{◌≡◌, List, [], ◌∷◌, Bool, true, false, refl, sym, ap, subst, ◌∙◌, arith}
 use Rattle.piper_machine.specs.Types.{Side, Reader, Writer}
-use Rattle.piper_machine.specs.logs.Line.{Line, stored_head}
+use Rattle.piper_machine.specs.logs.Line.{Line}
 use Rattle.piper_machine.specs.logs.OneList.{AreListed, AreOrdered, FindsCount, By, by, AreOneList, Finds, Words, accesses, did, is_access, is_same, kept_if, words_after, words_of}
 
 quiet : (line : Line) (s : Words) → is_access line ≡ false → words_after line s ≡ s
@@ -99,8 +99,7 @@ pub all-lines : (reader writer : List Line) → AreOneList reader writer → All
 all-lines reader writer list = lines-of Finds finds-any reader writer list
 
 counts-any : (line : Line) (s : Words) → is_access line ≡ false → FindsCount line s
-counts-any (stored_head bytes) s e = tt
-counts-any line s e = finds-any line s e
+counts-any line s e = grind arith
 
 pub counted-lines : (reader writer : List Line) → AreListed FindsCount reader writer → AllLines FindsCount reader writer
 counted-lines reader writer list = lines-of FindsCount counts-any reader writer list

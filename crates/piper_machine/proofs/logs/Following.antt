@@ -7,7 +7,7 @@ use Rattle.piper_machine.specs.Final.{IsOver}
 use Rattle.piper_machine.specs.Log.{answer_event}
 use Rattle.piper_protocol.specs.declared.answer.Answer.TheVariants.{Poll}
 use Rattle.piper_machine.specs.Refusal.{IsIdle}
-use Rattle.piper_machine.specs.Waiting.{is_between, is_waking_reader, is_waking_writer}
+use Rattle.piper_machine.specs.Waiting.{is_between}
 use Rattle.piper_machine.specs.logs.Reports.{events_of, reader_event, reader_reports, writer_reports}
 use Rattle.piper_machine.specs.logs.Follows.{AreInTurn, IsHonestEnd, IsNobodyForgotten, IsOneAwake, HasAnswered}
 use Rattle.piper_machine.specs.logs.Moved.{consumed, consumed_by, published, published_by}
@@ -110,8 +110,7 @@ module _ (capacity : ℕ) (reader writer : List Line) (run : IsOneWideRun capaci
       idle Writer = outside.1
 
       never : (side : Side) → is_between side run.pipe ≡ true → ⊥
-      never Reader e = absurd (let no : false ≡ true = ap is_waking_reader (sym outside.1) ∙ e in cc)
-      never Writer e = absurd (let no : false ≡ true = ap is_waking_writer (sym outside.0) ∙ e in cc)
+      never side e = grind arith
 
   pub one-awake : IsOneAwake run
   one-awake outside reads writes = run.safe.awake outside.0 outside.1 reads writes

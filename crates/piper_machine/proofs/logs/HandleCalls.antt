@@ -4,14 +4,14 @@ use Rattle.std.specs.Bool.{⊤}
 use Rattle.std.proofs.lemmas.List.{length-replicate}
 use Rattle.std.proofs.lemmas.Bool.Decides.{nat_tests}
 use Rattle.std.proofs.Math.Nat.{mod-add-mod, mod-eq_of_lt, mod-lt, mod_self}
-use Rattle.piper_machine.specs.Types.{Action, Found, Polling, Purpose, Side, Try, Reader, Writer}
+use Rattle.piper_machine.specs.Types.{Action, Found, Polling, Purpose, Side, Try}
 use Rattle.piper_protocol.specs.declared.table.Purpose.TheVariants.{Poll, Copy}
 use Rattle.piper_protocol.specs.Index.{offset_of}
 use Rattle.piper_protocol.specs.Lines as handle
 use Rattle.piper_protocol.specs.OneList as shared
 use Rattle.piper_protocol.specs.Table.{Next}
 use Rattle.piper_protocol.specs.declared.table.Point.{Point}
-use Rattle.piper_protocol.specs.Told.{alike, both, either, fits, has_drawn, is_idle, is_made, is_settled, may_draw, moved_in, passes, rests, seen_in, tickets_in, waits_in}
+use Rattle.piper_protocol.specs.Told.{alike, both, fits, has_drawn, is_idle, is_made, is_settled, may_draw, moved_in, passes, rests, seen_in, tickets_in, waits_in}
 use Rattle.piper_machine.specs.logs.Calling.{Calling}
 use Rattle.piper_machine.specs.logs.OfHandles.{given_or_any, of_length, taken_in, waker_in}
 
@@ -32,12 +32,8 @@ equal-is m n e = grind (arith, nat_tests)
 pub zero-is : (n : ℕ) → (n == 0) ≡ true → n ≡ 0
 zero-is n e = equal-is n 0 e
 
-pub below-is : (m n : ℕ) → nat_le m n ≡ true → m ≤ n
-below-is m n e = grind (arith, nat_tests)
-
 pub lent-within : (is_shut : Bool) (m n : ℕ) → nat_le m (if is_shut then 0 else n) ≡ true → m ≤ n
-lent-within true m n e = omega (arith, below-is m 0 e)
-lent-within false m n e = below-is m n e
+lent-within is_shut m n e = grind arith
 
 any-of : (b : Bool) (n : ℕ) (given : List ℕ) → (length given == n) ≡ b → length (given_or_any b n given) ≡ n
 any-of true n given e = equal-is (length given) n e
@@ -66,15 +62,8 @@ place-after c m n some within =
 pub not-true : (b : Bool) → not b ≡ true → b ≡ false
 not-true b e = grind arith
 
-pub none-drawn : (draw : Option Bool) → is_some draw ≡ false → draw ≡ None
-none-drawn draw e = grind arith
-
-pub either-first : (a : Bool) → either a false ≡ true → a ≡ true
-either-first a e = grind arith
-
 pub moved-within : (is_shut : Bool) (most m n : ℕ) → nat_le m (min most (if is_shut then 0 else n)) ≡ true → (m ≤ most) × (m ≤ n)
-moved-within true most m n e = (omega (arith, below-is m (min most 0) e), omega (arith, below-is m (min most 0) e))
-moved-within false most m n e = (omega (arith, below-is m (min most n) e), omega (arith, below-is m (min most n) e))
+moved-within is_shut most m n e = grind arith
 
 -- what a side counts, where `own` is that side
 pub record Counted (capacity : ℕ) (own : Side) (lines : List handle.Line) (moved seen place : ℕ) (waits : Bool) : Type 0 where
@@ -102,20 +91,15 @@ pub rests-idle : (next : Next Point) → rests next ≡ true → is_idle next.po
 rests-idle next e = second-of (is_some next.answer) (is_idle next.point) e
 
 pub goes-settled : (lines : List handle.Line) → (handle.action (handle.comes_to lines).point ≡ Action.Rest → ⊥) → is_settled lines ≡ true
-goes-settled [] acts = refl
-goes-settled (handle.access a ∷ before) acts = absurd (acts refl)
-goes-settled (line ∷ before) acts = refl
+goes-settled lines acts = grind arith
 
 pub rests-settled : (lines : List handle.Line) → rests (handle.comes_to lines) ≡ true → is_settled lines ≡ true
-rests-settled [] e = refl
-rests-settled (handle.access a ∷ before) e = absurd (let no : false ≡ true = e in cc)
-rests-settled (line ∷ before) e = refl
+rests-settled lines e = grind arith
 
 -- what is noted of a step is noted where a call is open
 
 rest-fits-none : (capacity : ℕ) (own : Side) (before : List handle.Line) (a : shared.Access) (f : Found) → fits capacity own before Action.Rest a f ≡ true → ⊥
-rest-fits-none capacity Reader before a f fit = let no : false ≡ true = fit in cc
-rest-fits-none capacity Writer before a f fit = let no : false ≡ true = fit in cc
+rest-fits-none capacity own before a f fit = grind arith
 
 module _ (capacity : ℕ) (own : Side) (before : List handle.Line) (action : Action) where
   pub fits-acts : (a : shared.Access) (f : Found) → fits capacity own before action a f ≡ true → action ≡ Action.Rest → ⊥
@@ -185,42 +169,10 @@ Calls stays k c Own = ⊤
 
 -- where a look leads that finds something, or nothing, and what follows a true one
 
-abbrev pub found : Purpose → Stage
-found (Copy Try) = moves true
-found purpose = takes purpose
-
-abbrev pub found_none : Purpose → Stage
-found_none (Copy Try) = looks (Copy Try)
-found_none purpose = registers purpose
-
 abbrev pub is_true : Purpose → Stage
 is_true Poll = stays
 is_true (Copy (Polling true)) = yields
 is_true (Copy form) = moves true
 
-pub opened : (l : Purpose) (k : Known) (c : Calling) (Own : Type 0) → Calls (opens l) k c Own → Calls (looks l) k c Own
-opened l k c Own h = (h.0, h.1, h.2)
-
-pub finds : (l : Purpose) (k : Known) (c : Calling) (Own : Type 0) → k.is_drawn ≡ false → Calls (looks l) k c Own → Calls (found l) k c Own
-finds Poll k c Own none h = (h.0, ap is_some h.1 ∙ sym none, tt)
-finds (Copy Try) k c Own none h = h.2
-finds (Copy (Polling is_drawn)) k c Own none h = (h.0, ap is_some h.1 ∙ sym none, h.2)
-
-pub finds-none : (l : Purpose) (k : Known) (c : Calling) (Own : Type 0) → Calls (opens l) k c Own → Calls (found_none l) k c Own
-finds-none Poll k c Own h = h
-finds-none (Copy Try) k c Own h = (h.0, h.1, h.2)
-finds-none (Copy (Polling is_drawn)) k c Own h = h
-
-pub registered : (l : Purpose) (k : Known) (c : Calling) (Own : Type 0) → (c.handed ≡ Some k.waker) × (c.draw ≡ None) × OfCopy l Own → Calls (looks l) k c Own
-registered Poll k c Own h = h
-registered (Copy Try) k c Own h = (tt, h.1, h.2)
-registered (Copy (Polling is_drawn)) k c Own h = h
-
 pub goes-true : (l : Purpose) (k : Known) (c : Calling) (Own : Type 0) → (c.handed ≡ Some k.waker) × OfCopy l Own → Calls (is_true l) k c Own
-goes-true Poll k c Own h = tt
-goes-true (Copy Try) k c Own h = h.1
-goes-true (Copy (Polling true)) k c Own h = h.0
-goes-true (Copy (Polling false)) k c Own h = h.1
-
-pub some-is : (draw : Option Bool) → is_some draw ≡ true → IsSome draw
-some-is draw e = grind arith
+goes-true l k c Own h = grind arith

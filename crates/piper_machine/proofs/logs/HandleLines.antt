@@ -53,12 +53,10 @@ accesses-same own given (handle.note said ∷ before) apart = (notes-none given 
 accesses-same own given (handle.met count ∷ before) apart = absurd (let no : true ≡ false = apart in cc)
 
 runs-before : (capacity : ℕ) (added : Option Line) (rest : List Line) → AreReaderRuns capacity (with_line added rest) → AreReaderRuns capacity rest
-runs-before capacity None rest runs = runs
-runs-before capacity (Some line) rest runs = runs.1
+runs-before capacity added rest runs = grind arith
 
 writes-before : (capacity : ℕ) (added : Option Line) (rest : List Line) → AreWriterRuns capacity (with_line added rest) → AreWriterRuns capacity rest
-writes-before capacity None rest runs = runs
-writes-before capacity (Some line) rest runs = runs.1
+writes-before capacity added rest runs = grind arith
 
 pub consumed-same : (capacity : ℕ) (given : List ℕ) (lines : List handle.Line) → have_met lines ≡ false → AreReaderRuns capacity (lines_with Reader given lines) → consumed (lines_with Reader given lines) ≡ moved_in lines
 unfolding have_met moved_in

@@ -1,19 +1,18 @@
 -- Where a reader is inside its call, by the log of its handle, and where a step leads.
 use Rattle.std.proofs.Common.{◌≡◌, ℕ, ◌-◌, ◌≤◌, min, List, Bool, true, false, not, Option, None, Some, is_some, refl, sym, subst, ◌∙◌, arith}
 use Rattle.std.specs.Bool.{⊤}
-use Rattle.piper_machine.specs.Types.{Action, AfterRead, Answer, Found, Polling, Purpose, ReadPoint, Try, Reader}
+use Rattle.piper_machine.specs.Types.{Action, AfterRead, Answer, Found, Purpose, ReadPoint, Reader}
 use Rattle.piper_protocol.specs.declared.table.Form.{Form}
 use Rattle.piper_protocol.specs.declared.table.Point.{Point}
-use Rattle.piper_protocol.specs.declared.table.Purpose.TheVariants.{Poll, Copy}
 use Rattle.piper_protocol.specs.Lines as handle
-use Rattle.piper_protocol.specs.Table.{Next, goes_on, read_action, read_after, read_done, read_row, reader_found, reader_found_none, reader_is_true, reader_looked, reader_looked_again, reader_moved}
-use Rattle.piper_protocol.specs.Told.{draws_at, either, has_drawn, is_idle, may_empty, rests}
-use Rattle.piper_machine.specs.logs.Calling.{Calling, calling_after, may_wait_after, no_calling}
+use Rattle.piper_protocol.specs.Table.{Next, goes_on, read_action, read_after, read_done, read_row, reader_is_true, reader_moved}
+use Rattle.piper_protocol.specs.Told.{has_drawn, is_idle, may_empty, rests}
+use Rattle.piper_machine.specs.logs.Calling.{Calling, calling_after, may_wait_after}
 use Rattle.piper_machine.specs.logs.Line.{Line}
 use Rattle.piper_machine.specs.logs.OfHandles.{of_length}
 use Rattle.piper_machine.specs.logs.Reading.{HasDrawn, IsReaderNext, ReaderAt, reader_after, reader_answered, reader_changed, reader_stepped, reader_told}
 use Rattle.piper_machine.proofs.logs.Draws.{ends-at}
-use Rattle.piper_machine.proofs.logs.HandleCalls.{Calls, Counted, Known, OfCopy, Stage, When, either-first, finds, finds-none, found, found_none, goes-true, is_dead, is_true, known_of, looks, moves, opened, opens, registers, some-is, stays, takes, wakes, yields}
+use Rattle.piper_machine.proofs.logs.HandleCalls.{Calls, Counted, Known, OfCopy, Stage, When, goes-true, is_dead, is_true, known_of, looks, moves, opens, registers, stays, takes, wakes, yields}
 
 abbrev pub is_round : AfterRead → Bool
 is_round (AfterRead.Round form sum) = true
@@ -34,45 +33,22 @@ stage point = stays
 
 -- the table leads to these stages
 
-pub stage-found : (l : Purpose) → stage (reader_found l) ≡ found l
-stage-found l = grind arith
-
-pub stage-none : (l : Purpose) → stage (reader_found_none l) ≡ found_none l
-stage-none l = grind arith
-
 pub stage-true : (l : Purpose) → stage (reader_is_true l).point ≡ is_true l
 stage-true l = grind arith
 
-pub stage-rests : (point : ReadPoint) → read_action point ≡ Action.Rest → stage point ≡ stays
-stage-rests point e = grind arith
-
 module _ (k : Known) (c : Calling) (Own : Type 0) where
-  pub looked : (none : Bool) (l : Purpose) → k.is_drawn ≡ false → Calls (opens l) k c Own → Calls (stage (reader_looked none l)) k c Own
-  looked true l new h = subst (λ (s : Stage). Calls s k c Own) (sym (stage-none l)) (finds-none l k c Own h)
-  looked false l new h = subst (λ (s : Stage). Calls s k c Own) (sym (stage-found l)) (finds l k c Own new (opened l k c Own h))
-
-  pub looked-again : (none was_closed : Bool) (l : Purpose) → k.is_drawn ≡ false → Calls (looks l) k c Own → Calls (stage (reader_looked_again none l was_closed).point) k c Own
-  looked-again true was_closed l new h = tt
-  looked-again false was_closed l new h = subst (λ (s : Stage). Calls s k c Own) (sym (stage-found l)) (finds l k c Own new h)
-
   pub emptied : (l : Purpose) → (c.handed ≡ Some k.waker) × OfCopy l Own → Calls (stage (reader_is_true l).point) k c Own
   emptied l h = subst (λ (s : Stage). Calls s k c Own) (sym (stage-true l)) (goes-true l k c Own h)
 
   pub done : (next : AfterRead) → When (is_round next) Own → Calls (stage (read_done next).point) k c Own
-  done AfterRead.Answer h = tt
-  done AfterRead.Drop h = tt
-  done (AfterRead.Round form sum) h = h
+  done next h = grind arith
 
   pub moved : (none : Bool) (n sum : ℕ) (form : Form) → Own → Calls (stage (reader_moved none n form sum).point) k c Own
-  moved true n sum form h = tt
-  moved false n sum form h = h
+  moved none n sum form h = grind arith
 
 -- a copy has drawn that empties its own slot
 pub has-drawn : (l : Purpose) (draw : Option Bool) (before : List handle.Line) → (handle.comes_to before).point ≡ Point.Reader (ReadPoint.LookTake l) → may_empty Reader Reader before ≡ true → is_some draw ≡ has_drawn before → HasDrawn (ReadPoint.LookTake l) draw
-has-drawn Poll draw before e may d = tt
-has-drawn (Copy Try) draw before e may d = tt
-has-drawn (Copy (Polling is_drawn)) draw before e may d =
-    some-is draw (d ∙ either-first (has_drawn before) (subst (λ (p : Point). either (has_drawn before) (not (draws_at p)) ≡ true) e may))
+has-drawn l draw before e may d = grind arith
 
 -- the bytes of the store that is next
 
@@ -94,8 +70,7 @@ pub row-stores : (point : ReadPoint) (f : Found) → (read_action point ≡ Acti
 row-stores point f other = grind arith
 
 pub moved-stores : (capacity : ℕ) (given : List ℕ) (none : Bool) (n sum start : ℕ) (form : Form) → n ≤ capacity - start → Stores capacity given (reader_moved none n form sum).point start (of_length n given)
-moved-stores capacity given true n sum start form within = tt
-moved-stores capacity given false n sum start form within = (within, refl)
+moved-stores capacity given none n sum start form within = grind arith
 
 pub takes-within : (n m shown most : ℕ) → m ≡ n → n ≤ shown → n ≤ most → m ≤ min shown most
 takes-within n m shown most e shows within = omega arith
@@ -108,9 +83,6 @@ pub record IsAt (capacity : ℕ) (lines : List handle.Line) (given : List ℕ) (
   pub counted : Counted capacity Reader lines r.head r.tail r.start r.may_wait
   pub stores : Stores capacity given r.point r.start r.given
   pub calls : Calls (stage r.point) (known_of lines) r.calling (r.size ≡ None)
-
-abbrev pub OwnSize : Option ℕ → Type 0
-OwnSize size = (size ≡ None)
 
 abbrev pub Arrives : ℕ → List handle.Line → List ℕ → ReadPoint → ReaderAt → Type 0
 Arrives capacity lines given point r = (Point.Reader point ≡ Point.Reader r.point) × IsAt capacity lines given r
@@ -125,15 +97,7 @@ module _ (capacity : ℕ) where
   pub answered : (lines : List handle.Line) (given : List ℕ) (r : ReaderAt) (point : ReadPoint) (calling : Calling) (answer : Option Answer) → ((a : Answer) → answer ≡ Some a → read_action point ≡ Action.Rest)
       → Counted capacity Reader lines r.head r.tail r.start r.may_wait → Stores capacity given point r.start r.given → Calls (stage point) (known_of lines) calling (r.size ≡ None)
       → Arrives capacity lines given point (reader_answered answer (record r { point = point; calling = calling }))
-  answered lines given r point calling None rests counted stores calls = (refl, record { counted = counted; stores = stores; calls = calls })
-  answered lines given r point calling (Some a) rests counted stores calls = (
-    refl,
-    record {
-      counted = counted;
-      stores = stores;
-      calls = subst (λ (s : Stage). Calls s (known_of lines) no_calling (OwnSize (Some 0))) (sym (stage-rests point (rests a refl))) tt;
-    },
-  )
+  answered lines given r point calling answer rests counted stores calls = grind arith
 
   module _ (lines : List handle.Line) (given : List ℕ) (line : Line) where
     -- a step of the table

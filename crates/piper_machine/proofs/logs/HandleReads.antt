@@ -8,13 +8,13 @@ use Rattle.piper_protocol.specs.declared.table.Purpose.TheVariants.{Poll, Copy}
 use Rattle.piper_protocol.specs.Lines as handle
 use Rattle.piper_protocol.specs.OneList as shared
 use Rattle.piper_protocol.specs.Table.{Next, read_action, reader_looks_for, reader_moved}
-use Rattle.piper_protocol.specs.Told.{IsTrueLog, alike, begins as call_begins, fits, has_drawn, is_idle, is_made, known_in, may_draw, may_empty, moved_in, passes, piece_in, reader_begins, rests, seen_in, shut_in, tickets_in, waits_in}
+use Rattle.piper_protocol.specs.Told.{IsTrueLog, alike, begins as call_begins, fits, is_idle, is_made, known_in, may_draw, may_empty, moved_in, passes, piece_in, reader_begins, rests, seen_in, shut_in, tickets_in, waits_in}
 use Rattle.piper_machine.specs.logs.Line.{Line, began, met_tail, knew_empty, took, failed, drew, refused, yielded, woke}
 use Rattle.piper_machine.specs.logs.Listed.{line_of}
 use Rattle.piper_machine.specs.logs.OfHandles.{given_by, line_made, lines_in, of_length, opening_at, reader_opening, taken_in, waker_in}
-use Rattle.piper_machine.specs.logs.Reading.{AreReaderRuns, fresh_reader, IsReaderNext, MayTake, ReaderAt, reader_after, reader_at, reader_begun, size_after}
-use Rattle.piper_machine.proofs.logs.HandleLogs.{AreRuns, runs-of, state_at}
-use Rattle.piper_machine.proofs.logs.HandleCalls.{Calls, Counted, first-of, kept, known_of, lent-within, moved-within, none-drawn, not-true, of-length, rests-idle, second-of, zero-is}
+use Rattle.piper_machine.specs.logs.Reading.{AreReaderRuns, fresh_reader, IsReaderNext, MayTake, ReaderAt, reader_after, reader_begun, size_after}
+use Rattle.piper_machine.proofs.logs.HandleLogs.{AreRuns, runs-of}
+use Rattle.piper_machine.proofs.logs.HandleCalls.{Calls, Counted, first-of, kept, known_of, lent-within, moved-within, not-true, of-length, rests-idle, second-of, zero-is}
 use Rattle.piper_machine.proofs.logs.HandleReader.{Arrives, Follows, IsAt, at, done, emptied, has-drawn, idle-point, leads, moved, moved-stores, row, stage, steps, takes-within}
 use Rattle.piper_machine.proofs.logs.HandleReaderTold.{pieces, told}
 
@@ -24,21 +24,7 @@ module _ (capacity : ℕ) (some : 1 ≤ capacity) where
     passed : (point : ReadPoint) (a : shared.Access) → (handle.comes_to before).point ≡ Point.Reader point → passes Reader before (read_action point) a ≡ true → IsAt capacity before (given_by given a) (at point r)
         → IsReaderNext capacity (line_of a) (at point r) × Arrives capacity (handle.note Note.Passed ∷ handle.access a ∷ before) given point (reader_after capacity (line_of a) (at point r))
     unfolding moved_in seen_in waits_in tickets_in
-    passed (ReadPoint.LookTake l) (shared.loaded_slot Reader true) e fit is = (
-      inl (refl, has-drawn l r.calling.draw before e fit is.calls.1),
-      (refl, record { counted = kept _ _ before _ _ _ _ _ refl refl refl is.counted; stores = tt; calls = is.calls }),
-    )
-    passed (ReadPoint.TakeWriter next) (shared.loaded_slot Writer true) e fit is = (
-      inl (refl, tt),
-      (refl, record { counted = kept _ _ before _ _ _ _ _ refl refl refl is.counted; stores = tt; calls = is.calls }),
-    )
-    passed (ReadPoint.LookRegister l) (shared.swapped Reader old None) e fit is = (
-      inr (refl, refl, is.counted.may_wait ∙ fit),
-      (refl, record { counted = record { moves = is.counted.moves; sees = is.counted.sees; lies = is.counted.lies; may_wait = refl }; stores = tt; calls = is.calls }),
-    )
-    passed point (shared.loaded_slot side true) e fit is = absurd (let no : false ≡ true = fit in cc)
-    passed point (shared.swapped side old None) e fit is = absurd (let no : false ≡ true = fit in cc)
-    passed point a e fit is = absurd (let no : false ≡ true = fit in cc)
+    passed point a e fit is = grind arith
 
     -- a step that is no access
     made : (point : ReadPoint) (f : Found) → (handle.comes_to before).point ≡ Point.Reader point → is_made capacity Reader before (read_action point) f ≡ true → IsAt capacity before given (at point r)
@@ -98,11 +84,7 @@ module _ (capacity : ℕ) (some : 1 ≤ capacity) where
     draws : (point : ReadPoint) (is_drawn : Bool) → may_draw (Point.Reader point) before ≡ true → IsAt capacity before given (at point r)
         → IsReaderNext capacity (drew is_drawn) (at point r) × ((handle.drawn is_drawn (Point.Reader point) ≡ Point.Reader (ReadPoint.LookTake (Copy (Polling is_drawn)))) × IsAt capacity (handle.note (Note.Drew is_drawn) ∷ before) given (reader_after capacity (drew is_drawn) (at point r)))
     unfolding moved_in seen_in waits_in tickets_in
-    draws (ReadPoint.LookTake (Copy (Polling false))) is_drawn may is = (
-      (refl, none-drawn r.calling.draw (is.calls.1 ∙ not-true (has_drawn before) may)),
-      (refl, record { counted = kept _ _ before _ _ _ _ _ refl refl refl is.counted; stores = tt; calls = (is.calls.0, refl, is.calls.2) }),
-    )
-    draws point is_drawn may is = absurd (let no : false ≡ true = may in cc)
+    draws point is_drawn may is = grind arith
 
     -- a call begins
     module _ (counted : Counted capacity Reader before r.head r.tail r.start r.may_wait) where
@@ -195,13 +177,8 @@ module _ (capacity : ℕ) (some : 1 ≤ capacity) where
   unfolding moved_in seen_in waits_in
   first-is given = record { counted = record { moves = refl; sees = refl; lies = sym (zero-mod capacity); may_wait = refl }; stores = tt; calls = tt }
 
-  same-at : (lines : List Line) → state_at ReaderAt fresh_reader (reader_after capacity) lines ≡ reader_at capacity lines
-  same-at [] = refl
-  same-at (line ∷ before) = ap (reader_after capacity line) (same-at before)
-
   same-runs : (lines : List Line) → AreRuns ReaderAt fresh_reader (reader_after capacity) (IsReaderNext capacity) lines → AreReaderRuns capacity lines
-  same-runs [] runs = tt
-  same-runs (line ∷ before) runs = (subst (IsReaderNext capacity line) (same-at before) runs.0, same-runs before runs.1)
+  same-runs lines runs = grind arith
 
   pub reads : (lines : List handle.Line) (moved : List ℕ) → IsTrueLog capacity Reader lines moved → AreReaderRuns capacity (lines_in Reader lines)
   reads lines moved log =

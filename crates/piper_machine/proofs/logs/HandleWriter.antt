@@ -1,19 +1,18 @@
 -- Where a writer is inside its call, by the log of its handle, and where a step leads.
 use Rattle.std.proofs.Common.{◌≡◌, ℕ, ◌-◌, ◌≤◌, min, List, [], Bool, true, false, not, Option, None, Some, is_some, refl, sym, subst, ◌∙◌, arith, nat_le, if◌then◌else◌}
 use Rattle.std.specs.Bool.{⊤}
-use Rattle.piper_machine.specs.Types.{Action, AfterWrite, Answer, Found, Polling, Purpose, Try, WritePoint, Writer}
+use Rattle.piper_machine.specs.Types.{Action, AfterWrite, Answer, Found, Purpose, WritePoint, Writer}
 use Rattle.piper_protocol.specs.declared.table.Form.{Form}
 use Rattle.piper_protocol.specs.declared.table.Point.{Point}
-use Rattle.piper_protocol.specs.declared.table.Purpose.TheVariants.{Poll, Copy}
 use Rattle.piper_protocol.specs.Lines as handle
-use Rattle.piper_protocol.specs.Table.{Next, ends_fill, goes_on, write_action, write_after, write_done, write_row, writer_found, writer_found_none, writer_is_open, writer_is_true, writer_looked, writer_looked_again, writer_moved, writer_rounds}
-use Rattle.piper_protocol.specs.Told.{draws_at, either, has_drawn, is_idle, may_empty, shut_in}
-use Rattle.piper_machine.specs.logs.Calling.{Calling, calling_after, may_wait_after, no_calling}
+use Rattle.piper_protocol.specs.Table.{Next, ends_fill, goes_on, write_action, write_after, write_done, write_row, writer_is_open, writer_is_true, writer_moved}
+use Rattle.piper_protocol.specs.Told.{has_drawn, may_empty, shut_in}
+use Rattle.piper_machine.specs.logs.Calling.{Calling, calling_after, may_wait_after}
 use Rattle.piper_machine.specs.logs.Line.{Line}
 use Rattle.piper_machine.specs.logs.OfHandles.{of_length}
-use Rattle.piper_machine.specs.logs.Writing.{HasDrawn, IsWriterNext, Source, WriterAt, nothing, own, room_to, unless, writer_after, writer_answered, writer_changed, writer_stepped, writer_told}
+use Rattle.piper_machine.specs.logs.Writing.{HasDrawn, IsWriterNext, WriterAt, own, room_to, unless, writer_after, writer_answered, writer_changed, writer_stepped, writer_told}
 use Rattle.piper_machine.proofs.logs.WriterDraws.{ends-at}
-use Rattle.piper_machine.proofs.logs.HandleCalls.{Calls, Counted, Known, OfCopy, Stage, When, below-is, either-first, finds, finds-none, found, found_none, goes-true, is_dead, is_true, known_of, looks, moves, opened, opens, registers, some-is, stays, takes, wakes, yields}
+use Rattle.piper_machine.proofs.logs.HandleCalls.{Calls, Counted, Known, OfCopy, Stage, When, goes-true, is_dead, is_true, known_of, looks, moves, opens, registers, stays, takes, wakes, yields}
 
 abbrev pub is_round : AfterWrite → Bool
 is_round (AfterWrite.Round form sum) = true
@@ -38,55 +37,25 @@ stage point = stays
 
 -- the table leads to these stages
 
-pub stage-found : (l : Purpose) → stage (writer_found l) ≡ found l
-stage-found l = grind arith
-
-pub stage-none : (l : Purpose) → stage (writer_found_none l) ≡ found_none l
-stage-none l = grind arith
-
 pub stage-true : (l : Purpose) → stage (writer_is_true l).point ≡ is_true l
 stage-true l = grind arith
 
-pub stage-rests : (point : WritePoint) → write_action point ≡ Action.Rest → stage point ≡ stays
-stage-rests point e = grind arith
-
 module _ (k : Known) (c : Calling) (Own : Type 0) where
-  pub looked : (none : Bool) (l : Purpose) → k.is_drawn ≡ false → Calls (opens l) k c Own → Calls (stage (writer_looked none l)) k c Own
-  looked true l new h = subst (λ (s : Stage). Calls s k c Own) (sym (stage-none l)) (finds-none l k c Own h)
-  looked false l new h = subst (λ (s : Stage). Calls s k c Own) (sym (stage-found l)) (finds l k c Own new (opened l k c Own h))
-
-  pub looked-again : (none : Bool) (l : Purpose) → k.is_drawn ≡ false → Calls (looks l) k c Own → Calls (stage (writer_looked_again none l)) k c Own
-  looked-again true l new h = h
-  looked-again false l new h = subst (λ (s : Stage). Calls s k c Own) (sym (stage-found l)) (finds l k c Own new h)
-
   pub is-open : (is_closed none : Bool) (l : Purpose) → k.is_drawn ≡ false → Calls (opens l) k c Own → Calls (stage (writer_is_open is_closed none l).point) k c Own
-  is-open true none l new h = tt
-  is-open false true l new h = h
-  is-open false false l new h = looked false l new h
+  is-open is_closed none l new h = grind arith
 
   pub emptied : (l : Purpose) → (c.handed ≡ Some k.waker) × OfCopy l Own → Calls (stage (writer_is_true l).point) k c Own
   emptied l h = subst (λ (s : Stage). Calls s k c Own) (sym (stage-true l)) (goes-true l k c Own h)
 
   pub done : (next : AfterWrite) → When (is_round next) Own → Calls (stage (write_done next).point) k c Own
-  done AfterWrite.Answer h = tt
-  done AfterWrite.Drop h = tt
-  done AfterWrite.WakeWriter h = tt
-  done (AfterWrite.Round form sum) h = h
+  done next h = grind arith
 
   pub moved : (none : Bool) (n sum : ℕ) (form : Form) → Own → Calls (stage (writer_moved none n form sum).point) k c Own
-  moved true n sum form h = tt
-  moved false n sum form h = h
-
-  pub rounds : (is_closed : Bool) (n sum : ℕ) (form : Form) → Own → Calls (stage (writer_rounds is_closed n form sum).point) k c Own
-  rounds true n sum form h = tt
-  rounds false n sum form h = h
+  moved none n sum form h = grind arith
 
 -- a copy has drawn that empties its own slot
 pub has-drawn : (l : Purpose) (draw : Option Bool) (before : List handle.Line) → (handle.comes_to before).point ≡ Point.Writer (WritePoint.LookTake l) → may_empty Writer Writer before ≡ true → is_some draw ≡ has_drawn before → HasDrawn (WritePoint.LookTake l) draw
-has-drawn Poll draw before e may d = tt
-has-drawn (Copy Try) draw before e may d = tt
-has-drawn (Copy (Polling is_drawn)) draw before e may d =
-    some-is draw (d ∙ either-first (has_drawn before) (subst (λ (p : Point). either (has_drawn before) (not (draws_at p)) ≡ true) e may))
+has-drawn l draw before e may d = grind arith
 
 -- the bytes of the store that is next
 
@@ -115,30 +84,17 @@ row point f = write_row (goes_on WritePoint.Idle) point f
 pub row-stores : (point : WritePoint) (f : Found) → is_given point ≡ false → is_store (row point f).point ≡ false
 row-stores point f other = grind arith
 
-pub rests-store : (point : WritePoint) → write_action point ≡ Action.Rest → is_store point ≡ false
-rests-store point e = grind arith
-
 pub open-stores : (is_closed none : Bool) (l : Purpose) → is_store (writer_is_open is_closed none l).point ≡ false
 open-stores is_closed none l = grind arith
 
 pub moved-stores : (capacity : ℕ) (given : List ℕ) (none : Bool) (n sum end : ℕ) (form : Form) → n ≤ capacity - end → Stores capacity given (writer_moved none n form sum).point end (of_length n given)
-moved-stores capacity given true n sum end form within = tt
-moved-stores capacity given false n sum end form within = (within, refl)
-
-pub round-stores : (capacity : ℕ) (given : List ℕ) (is_closed : Bool) (n sum end : ℕ) (bytes : List ℕ) (form : Form) → (n ≤ capacity - end) × (bytes ≡ of_length n given) → Stores capacity given (writer_rounds is_closed n form sum).point end bytes
-round-stores capacity given true n sum end bytes form h = tt
-round-stores capacity given false n sum end bytes form h = h
+moved-stores capacity given none n sum end form within = grind arith
 
 pub lent-so : (is_shut : Bool) (n piece most : ℕ) → nat_le n (min most (if is_shut then 0 else piece)) ≡ true → n ≤ min most (unless is_shut piece)
-lent-so true n piece most e = below-is n (min most 0) e
-lent-so false n piece most e = below-is n (min most piece) e
+lent-so is_shut n piece most e = grind arith
 
 pub lends-so : (is_shut : Bool) (n piece : ℕ) → nat_le n (if is_shut then 0 else piece) ≡ true → (n ≤ unless is_shut piece) × (n ≤ piece)
-lends-so true n piece e = (below-is n 0 e, omega (arith, below-is n 0 e))
-lends-so false n piece e = (below-is n piece e, below-is n piece e)
-
-pub idle-point : (point : WritePoint) → is_idle (Point.Writer point) ≡ true → point ≡ WritePoint.Idle
-idle-point point e = grind arith
+lends-so is_shut n piece e = grind arith
 
 -- the writer is where these lines say, if the next store moves these bytes
 pub record IsAt (capacity : ℕ) (lines : List handle.Line) (given : List ℕ) (w : WriterAt) : Type 0 where
@@ -146,9 +102,6 @@ pub record IsAt (capacity : ℕ) (lines : List handle.Line) (given : List ℕ) (
   pub shut : w.is_shut ≡ shut_in lines
   pub stores : Stores capacity given w.point w.end w.given
   pub calls : Calls (stage w.point) (known_of lines) w.calling (w.source ≡ own)
-
-abbrev pub OwnSource : Source → Type 0
-OwnSource from = (from ≡ own)
 
 abbrev pub Arrives : ℕ → List handle.Line → List ℕ → WritePoint → WriterAt → Type 0
 Arrives capacity lines given point w = (Point.Writer point ≡ Point.Writer w.point) × IsAt capacity lines given w
@@ -163,25 +116,7 @@ module _ (capacity : ℕ) where
   pub answered : (lines : List handle.Line) (given : List ℕ) (w : WriterAt) (point : WritePoint) (calling : Calling) (is_fill : Bool) (answer : Option Answer) → ((a : Answer) → answer ≡ Some a → write_action point ≡ Action.Rest)
       → Counted capacity Writer lines w.tail w.head w.end w.may_wait → w.is_shut ≡ shut_in lines → Stores capacity given point w.end w.given → Calls (stage point) (known_of lines) calling (w.source ≡ own)
       → Arrives capacity lines given point (writer_answered is_fill answer (record w { point = point; calling = calling }))
-  answered lines given w point calling is_fill None ended counted shut stores calls = (refl, record { counted = counted; shut = shut; stores = stores; calls = calls })
-  answered lines given w point calling false (Some a) ended counted shut stores calls = (
-    refl,
-    record {
-      counted = counted;
-      shut = shut;
-      stores = stores;
-      calls = subst (λ (s : Stage). Calls s (known_of lines) no_calling (OwnSource nothing)) (sym (stage-rests point (ended a refl))) tt;
-    },
-  )
-  answered lines given w point calling true (Some a) ended counted shut stores calls = (
-    refl,
-    record {
-      counted = counted;
-      shut = shut;
-      stores = stores-none capacity given point w.end [] (rests-store point (ended a refl));
-      calls = subst (λ (s : Stage). Calls s (known_of lines) no_calling (OwnSource nothing)) (sym (stage-rests point (ended a refl))) tt;
-    },
-  )
+  answered lines given w point calling is_fill answer ended counted shut stores calls = grind arith
 
   module _ (lines : List handle.Line) (given : List ℕ) (line : Line) where
     -- a step of the table

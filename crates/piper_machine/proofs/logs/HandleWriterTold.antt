@@ -1,21 +1,20 @@
 -- Where an access of the writer leads, which says what it found.
 use Rattle.std.proofs.Common.{◌≡◌, inl, inr, ℕ, suc, ◌+◌, ◌-◌, ◌%◌, ◌≤◌, ◌==◌, List, ◌∷◌, length, Bool, true, false, None, Some, refl, sym, ap, subst, ◌∙◌, arith, length-append}
-use Rattle.piper_machine.specs.Types.{Action, AfterWrite, Answer, Found, Purpose, WritePoint, Reader, Writer}
+use Rattle.piper_machine.specs.Types.{Action, AfterWrite, Found, Purpose, WritePoint, Reader, Writer}
 use Rattle.piper_protocol.specs.declared.log.Note.{Note}
 use Rattle.piper_protocol.specs.declared.table.Form.{Form}
 use Rattle.piper_protocol.specs.declared.table.Point.{Point}
 use Rattle.piper_protocol.specs.Index.{offset_of}
 use Rattle.piper_protocol.specs.Lines as handle
 use Rattle.piper_protocol.specs.OneList as shared
-use Rattle.piper_protocol.specs.Table.{end_or_pending, ends, goes_on, look_answer, write_action, writer_looked, writer_looked_again, writer_rounds}
+use Rattle.piper_protocol.specs.Table.{write_action}
 use Rattle.piper_protocol.specs.Told.{fits, known_in, may_empty, moved_in, piece_in, seen_in, shut_in, tickets_in, waits_in}
-use Rattle.piper_machine.specs.logs.Calling.{calling_after}
-use Rattle.piper_machine.specs.logs.Line.{loaded_head, loaded_closed, stored_tail, stored_closed, loaded_slot, swapped}
+use Rattle.piper_machine.specs.logs.Line.{stored_tail, loaded_slot, swapped}
 use Rattle.piper_machine.specs.logs.Listed.{line_of}
 use Rattle.piper_machine.specs.logs.OfHandles.{given_by}
-use Rattle.piper_machine.specs.logs.Writing.{WriterAt, contiguous, own, room_to}
-use Rattle.piper_machine.proofs.logs.HandleCalls.{Counted, alike-is, equal-is, kept, known_of, of-own-length, place-after, registered, second-of}
-use Rattle.piper_machine.proofs.logs.HandleWriter.{Follows, IsAt, at, done, emptied, has-drawn, leads, looked, looked-again, round-stores, rounds, row, steps}
+use Rattle.piper_machine.specs.logs.Writing.{WriterAt, contiguous, room_to}
+use Rattle.piper_machine.proofs.logs.HandleCalls.{Counted, equal-is, kept, of-own-length, place-after, second-of}
+use Rattle.piper_machine.proofs.logs.HandleWriter.{Follows, IsAt, at, done, emptied, has-drawn, row, steps}
 
 module _ (capacity : ℕ) (some : 1 ≤ capacity) where
   module _ (w : WriterAt) (before : List handle.Line) (given : List ℕ) where
@@ -35,60 +34,31 @@ module _ (capacity : ℕ) (some : 1 ≤ capacity) where
 
     told-head : (l : Purpose) (a : shared.Access) (f : Found) → ToldAt (WritePoint.LookHead l) a f
     unfolding moved_in seen_in waits_in tickets_in shut_in
-    told-head l (shared.loaded_head count) (Found.IndexLoaded none) = λ e fit is. (
-      refl,
-      λ alive. steps capacity _ given (loaded_head count) (WritePoint.LookHead l) (Found.IndexLoaded none) w refl (ap (λ (b : Bool). goes_on (writer_looked b l)) (sym (alike-is none (capacity - (length (moved_in before) - count) == 0) fit ∙ ap (λ (n : ℕ). capacity - (n - count) == 0) (sym is.counted.moves)))) (record { moves = is.counted.moves; sees = refl; lies = is.counted.lies; may_wait = is.counted.may_wait }) is.shut (looked _ _ _ none l refl is.calls),
-    )
-    told-head l a f = λ e fit is. absurd (let no : false ≡ true = fit in cc)
+    told-head l a f = grind arith
 
     told-head-again : (l : Purpose) (a : shared.Access) (f : Found) → ToldAt (WritePoint.LookHeadAgain l) a f
     unfolding moved_in seen_in waits_in tickets_in shut_in
-    told-head-again l (shared.loaded_head count) (Found.IndexLoaded none) = λ e fit is. (
-      refl,
-      λ alive. steps capacity _ given (loaded_head count) (WritePoint.LookHeadAgain l) (Found.IndexLoaded none) w refl (ap (λ (b : Bool). goes_on (writer_looked_again b l)) (sym (alike-is none (capacity - (length (moved_in before) - count) == 0) fit ∙ ap (λ (n : ℕ). capacity - (n - count) == 0) (sym is.counted.moves)))) (record { moves = is.counted.moves; sees = refl; lies = is.counted.lies; may_wait = is.counted.may_wait }) is.shut (looked-again _ _ _ none l refl is.calls),
-    )
-    told-head-again l a f = λ e fit is. absurd (let no : false ≡ true = fit in cc)
+    told-head-again l a f = grind arith
 
     told-closed : (l : Purpose) (a : shared.Access) (f : Found) → ToldAt (WritePoint.LookClosed l) a f
     unfolding moved_in seen_in waits_in tickets_in shut_in
-    told-closed l (shared.loaded_closed b) (Found.Flag said) = λ e fit is. (
-      refl,
-      λ alive. absurd (let no : true ≡ false = alive in cc),
-    )
-    told-closed l a f = λ e fit is. absurd (let no : false ≡ true = fit in cc)
+    told-closed l a f = grind arith
 
     told-closed-again : (l : Purpose) (a : shared.Access) (f : Found) → ToldAt (WritePoint.LookClosedAgain l) a f
     unfolding moved_in seen_in waits_in tickets_in shut_in
-    told-closed-again l (shared.loaded_closed b) (Found.Flag said) = λ e fit is. (
-      refl,
-      λ alive. steps capacity _ given (loaded_closed b) (WritePoint.LookClosedAgain l) (Found.Flag said) w refl (ap (λ (x : Bool). ends WritePoint.Idle (look_answer l (end_or_pending x))) (alike-is b said fit)) (kept _ _ before _ _ _ _ _ refl refl refl is.counted) is.shut tt,
-    )
-    told-closed-again l a f = λ e fit is. absurd (let no : false ≡ true = fit in cc)
+    told-closed-again l a f = grind arith
 
     told-query : (a : shared.Access) (f : Found) → ToldAt WritePoint.QueryClosed a f
     unfolding moved_in seen_in waits_in tickets_in shut_in
-    told-query (shared.loaded_closed b) (Found.Flag said) = λ e fit is. (
-      refl,
-      λ alive. steps capacity _ given (loaded_closed b) WritePoint.QueryClosed (Found.Flag said) w refl (ap (λ (x : Bool). ends WritePoint.Idle (Answer.Flag x)) (alike-is b said fit)) (kept _ _ before _ _ _ _ _ refl refl refl is.counted) is.shut tt,
-    )
-    told-query a f = λ e fit is. absurd (let no : false ≡ true = fit in cc)
+    told-query a f = grind arith
 
     told-round : (n : ℕ) (form : Form) (sum : ℕ) (a : shared.Access) (f : Found) → ToldAt (WritePoint.RoundClosed n form sum) a f
     unfolding moved_in seen_in waits_in tickets_in shut_in
-    told-round n form sum (shared.loaded_closed b) (Found.Flag said) = λ e fit is. (
-      refl,
-      λ alive. leads capacity _ given (loaded_closed b) (at (WritePoint.RoundClosed n form sum) w) (row (WritePoint.RoundClosed n form sum) (Found.Flag said)) (ap (λ (x : Bool). writer_rounds x n form sum) (alike-is b said fit)) (kept _ _ before _ _ _ _ _ refl refl refl is.counted) is.shut (round-stores capacity given said n sum w.end w.given form is.stores) (rounds _ _ _ said n sum form is.calls),
-    )
-    told-round n form sum a f = λ e fit is. absurd (let no : false ≡ true = fit in cc)
+    told-round n form sum a f = grind arith
 
     told-register : (l : Purpose) (a : shared.Access) (f : Found) → ToldAt (WritePoint.LookRegister l) a f
     unfolding moved_in seen_in waits_in tickets_in shut_in
-    told-register l (shared.swapped Writer old (Some ticket)) (Found.Granted true) = λ e fit is. (
-      (refl, refl, is.calls.0 ∙ ap Some (is.calls.4 ∙ sym (equal-is ticket (suc (tickets_in before)) fit)), is.calls.3),
-      λ alive. steps capacity _ given (swapped Writer old (Some ticket)) (WritePoint.LookRegister l) (Found.Granted true) w refl refl (record { moves = is.counted.moves; sees = is.counted.sees; lies = is.counted.lies; may_wait = refl }) is.shut (registered l (known_of (handle.note (Note.Told (Found.Granted true)) ∷ handle.access (shared.swapped Writer old (Some ticket)) ∷ before)) (calling_after (swapped Writer old (Some ticket)) w.calling) (w.source ≡ own) (is.calls.0, is.calls.1, is.calls.2)),
-    )
-    told-register l (shared.swapped side old (Some ticket)) (Found.Granted true) = λ e fit is. absurd (let no : false ≡ true = fit in cc)
-    told-register l a f = λ e fit is. absurd (let no : false ≡ true = fit in cc)
+    told-register l a f = grind arith
 
     told-take : (l : Purpose) (a : shared.Access) (f : Found) → ToldAt (WritePoint.LookTake l) a f
     unfolding moved_in seen_in waits_in tickets_in shut_in
@@ -158,51 +128,11 @@ module _ (capacity : ℕ) (some : 1 ≤ capacity) where
 
     told-take-own : (a : shared.Access) (f : Found) → ToldAt WritePoint.TakeWriter a f
     unfolding moved_in seen_in waits_in tickets_in shut_in
-    told-take-own (shared.loaded_slot Writer false) (Found.Waker false) = λ e fit is. (
-      inl (refl, tt),
-      λ alive. steps capacity _ given (loaded_slot Writer false) WritePoint.TakeWriter (Found.Waker false) w refl refl (record { moves = is.counted.moves; sees = is.counted.sees; lies = is.counted.lies; may_wait = refl }) is.shut tt,
-    )
-    told-take-own (shared.loaded_slot Writer false) Found.Nothing = λ e fit is. (
-      inl (refl, tt),
-      λ alive. absurd (let no : true ≡ false = alive in cc),
-    )
-    told-take-own (shared.swapped Writer None None) (Found.Waker false) = λ e fit is. (
-      inl (refl, tt),
-      λ alive. steps capacity _ given (swapped Writer None None) WritePoint.TakeWriter (Found.Waker false) w refl refl (record { moves = is.counted.moves; sees = is.counted.sees; lies = is.counted.lies; may_wait = refl }) is.shut tt,
-    )
-    told-take-own (shared.swapped Writer (Some waker) None) (Found.Waker true) = λ e fit is. (
-      inl (refl, tt),
-      λ alive. steps capacity _ given (swapped Writer (Some waker) None) WritePoint.TakeWriter (Found.Waker true) w refl refl (record { moves = is.counted.moves; sees = is.counted.sees; lies = is.counted.lies; may_wait = refl }) is.shut (refl, tt),
-    )
-    told-take-own (shared.swapped Writer old None) Found.Nothing = λ e fit is. (
-      inl (refl, tt),
-      λ alive. absurd (let no : true ≡ false = alive in cc),
-    )
-    told-take-own (shared.loaded_slot side is_filled) (Found.Waker false) = λ e fit is. absurd (let no : false ≡ true = fit in cc)
-    told-take-own (shared.loaded_slot side is_filled) Found.Nothing = λ e fit is. absurd (let no : false ≡ true = fit in cc)
-    told-take-own (shared.swapped side old None) (Found.Waker said) = λ e fit is. absurd (let no : false ≡ true = fit in cc)
-    told-take-own (shared.swapped side old None) Found.Nothing = λ e fit is. absurd (let no : false ≡ true = fit in cc)
-    told-take-own a f = λ e fit is. absurd (let no : false ≡ true = fit in cc)
+    told-take-own a f = grind arith
 
     told-close : (next : AfterWrite) (a : shared.Access) (f : Found) → ToldAt (WritePoint.StoreClosed next) a f
     unfolding moved_in seen_in waits_in tickets_in shut_in
-    told-close AfterWrite.WakeWriter shared.stored_closed Found.Nothing = λ e fit is. (
-      inr refl,
-      λ alive. steps capacity _ given stored_closed (WritePoint.StoreClosed AfterWrite.WakeWriter) Found.Nothing w refl refl (kept _ _ before _ _ _ _ _ refl refl refl is.counted) (rw e refl) tt,
-    )
-    told-close AfterWrite.Answer shared.stored_closed Found.Nothing = λ e fit is. (
-      inl refl,
-      λ alive. steps capacity _ given stored_closed (WritePoint.StoreClosed AfterWrite.Answer) Found.Nothing w refl refl (kept _ _ before _ _ _ _ _ refl refl refl is.counted) (rw e is.shut) tt,
-    )
-    told-close AfterWrite.Drop shared.stored_closed Found.Nothing = λ e fit is. (
-      inl refl,
-      λ alive. steps capacity _ given stored_closed (WritePoint.StoreClosed AfterWrite.Drop) Found.Nothing w refl refl (kept _ _ before _ _ _ _ _ refl refl refl is.counted) (rw e is.shut) tt,
-    )
-    told-close (AfterWrite.Round form sum) shared.stored_closed Found.Nothing = λ e fit is. (
-      inl refl,
-      λ alive. steps capacity _ given stored_closed (WritePoint.StoreClosed (AfterWrite.Round form sum)) Found.Nothing w refl refl (kept _ _ before _ _ _ _ _ refl refl refl is.counted) (rw e is.shut) is.calls,
-    )
-    told-close next a f = λ e fit is. absurd (let no : false ≡ true = fit in cc)
+    told-close next a f = grind arith
 
     -- an access, with the note that says what it found
     pub told : (point : WritePoint) (a : shared.Access) (f : Found) → ToldAt point a f

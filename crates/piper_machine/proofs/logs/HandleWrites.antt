@@ -8,14 +8,14 @@ use Rattle.piper_protocol.specs.declared.table.Purpose.TheVariants.{Poll, Copy}
 use Rattle.piper_protocol.specs.Lines as handle
 use Rattle.piper_protocol.specs.OneList as shared
 use Rattle.piper_protocol.specs.Table.{Next, write_action, writer_is_open, writer_moved}
-use Rattle.piper_protocol.specs.Told.{IsTrueLog, alike, begins as call_begins, fits, has_drawn, is_idle, is_made, known_in, may_draw, moved_in, passes, piece_in, rests, seen_in, shut_in, tickets_in, waits_in, writer_begins}
+use Rattle.piper_protocol.specs.Told.{IsTrueLog, alike, begins as call_begins, fits, is_made, known_in, may_draw, moved_in, passes, piece_in, rests, seen_in, shut_in, tickets_in, waits_in, writer_begins}
 use Rattle.piper_machine.specs.logs.Line.{Line, began, loaded_closed, met_head, knew_empty, gave, failed, drew, refused, yielded, woke}
 use Rattle.piper_machine.specs.logs.Listed.{line_of}
 use Rattle.piper_machine.specs.logs.OfHandles.{given_by, line_made, lines_in, of_length, opening_at, writer_opening, taken_in, waker_in}
-use Rattle.piper_machine.specs.logs.Writing.{AreWriterRuns, IsWriterNext, MayGive, Source, WriterAt, contiguous, fresh_writer, most_lent, own, room_to, source_after, unless, writer_after, writer_at, writer_begun}
-use Rattle.piper_machine.proofs.logs.HandleLogs.{AreRuns, runs-of, state_at}
-use Rattle.piper_machine.proofs.logs.HandleCalls.{Calls, Counted, alike-is, first-of, is_dead, kept, known_of, moved-within, none-drawn, not-true, of-length, rests-idle, second-of}
-use Rattle.piper_machine.proofs.logs.HandleWriter.{Arrives, Follows, IsAt, at, done, emptied, has-drawn, idle-point, is-open, leads, lends-so, lent-so, moved, moved-stores, open-stores, row, stage, steps, stores-none}
+use Rattle.piper_machine.specs.logs.Writing.{AreWriterRuns, IsWriterNext, MayGive, Source, WriterAt, contiguous, fresh_writer, most_lent, own, room_to, source_after, unless, writer_after, writer_begun}
+use Rattle.piper_machine.proofs.logs.HandleLogs.{AreRuns, runs-of}
+use Rattle.piper_machine.proofs.logs.HandleCalls.{Calls, Counted, alike-is, first-of, is_dead, kept, known_of, moved-within, not-true, of-length, second-of}
+use Rattle.piper_machine.proofs.logs.HandleWriter.{Arrives, Follows, IsAt, at, done, emptied, has-drawn, is-open, leads, lends-so, lent-so, moved, moved-stores, open-stores, row, stage, steps, stores-none}
 use Rattle.piper_machine.proofs.logs.HandleWriterTold.{pieces, rooms, told}
 
 module _ (capacity : ℕ) (some : 1 ≤ capacity) where
@@ -24,20 +24,7 @@ module _ (capacity : ℕ) (some : 1 ≤ capacity) where
     passed : (point : WritePoint) (a : shared.Access) → (handle.comes_to before).point ≡ Point.Writer point → passes Writer before (write_action point) a ≡ true → IsAt capacity before (given_by given a) (at point w)
         → IsWriterNext capacity (line_of a) (at point w) × Arrives capacity (handle.note Note.Passed ∷ handle.access a ∷ before) given point (writer_after capacity (line_of a) (at point w))
     unfolding moved_in seen_in waits_in tickets_in shut_in
-    passed (WritePoint.LookTake l) (shared.loaded_slot Writer true) e fit is = (
-      inl (refl, has-drawn l w.calling.draw before e fit is.calls.1),
-      (refl, record { counted = (kept _ _ before _ _ _ _ _ refl refl refl is.counted); shut = is.shut; stores = tt; calls = is.calls }),
-    )
-    passed (WritePoint.TakeReader next) (shared.loaded_slot Reader true) e fit is = (inl (refl, tt), (refl, record { counted = (kept _ _ before _ _ _ _ _ refl refl refl is.counted); shut = is.shut; stores = tt; calls = is.calls }))
-    passed WritePoint.TakeWriter (shared.loaded_slot Writer true) e fit is = (inl (refl, tt), (refl, record { counted = (kept _ _ before _ _ _ _ _ refl refl refl is.counted); shut = is.shut; stores = tt; calls = tt }))
-    passed (WritePoint.LookRegister l) (shared.swapped Writer old None) e fit is = (
-      inr (refl, refl, is.counted.may_wait ∙ fit),
-      (refl, record { counted = (record { moves = is.counted.moves; sees = is.counted.sees; lies = is.counted.lies; may_wait = refl }); shut = is.shut; stores = tt; calls = is.calls }),
-    )
-    passed (WritePoint.StoreClosed AfterWrite.WakeWriter) a e fit is = absurd (let no : false ≡ true = fit in cc)
-    passed point (shared.loaded_slot side true) e fit is = absurd (let no : false ≡ true = fit in cc)
-    passed point (shared.swapped side old None) e fit is = absurd (let no : false ≡ true = fit in cc)
-    passed point a e fit is = absurd (let no : false ≡ true = fit in cc)
+    passed point a e fit is = grind arith
 
     -- the load of closed that a look begins with
     looks-first : (point : WritePoint) (a : shared.Access) (none is_closed : Bool) → (handle.comes_to before).point ≡ Point.Writer point → alike none (known_in capacity Writer before == 0) ≡ true → fits capacity Writer before (write_action point) a (Found.Flag is_closed) ≡ true → IsAt capacity before (given_by given a) (at point w)
@@ -119,11 +106,7 @@ module _ (capacity : ℕ) (some : 1 ≤ capacity) where
     draws : (point : WritePoint) (is_drawn : Bool) → may_draw (Point.Writer point) before ≡ true → IsAt capacity before given (at point w)
         → IsWriterNext capacity (drew is_drawn) (at point w) × ((handle.drawn is_drawn (Point.Writer point) ≡ Point.Writer (WritePoint.LookTake (Copy (Polling is_drawn)))) × IsAt capacity (handle.note (Note.Drew is_drawn) ∷ before) given (writer_after capacity (drew is_drawn) (at point w)))
     unfolding moved_in seen_in waits_in tickets_in shut_in
-    draws (WritePoint.LookTake (Copy (Polling false))) is_drawn may is = (
-      (refl, none-drawn w.calling.draw (is.calls.1 ∙ not-true (has_drawn before) may)),
-      (refl, record { counted = (kept _ _ before _ _ _ _ _ refl refl refl is.counted); shut = is.shut; stores = tt; calls = (is.calls.0, refl, is.calls.2) }),
-    )
-    draws point is_drawn may is = absurd (let no : false ≡ true = may in cc)
+    draws point is_drawn may is = grind arith
 
     -- a call begins
     begins : (start : WritePoint) → writer_begins capacity start before ≡ true → Counted capacity Writer before w.tail w.head w.end w.may_wait → w.is_shut ≡ shut_in before
@@ -161,16 +144,10 @@ module _ (capacity : ℕ) (some : 1 ≤ capacity) where
   Meets p w = (p ≡ Point.Writer w.point) ⊎ ((p ≡ Point.Reader ReadPoint.Idle) × (w.point ≡ WritePoint.Idle))
 
   acting : (p : Point) (w : WriterAt) → Meets p w → (handle.action p ≡ Action.Rest → ⊥) → p ≡ Point.Writer w.point
-  acting p w there acts = elim there [
-    | inl e ↦ e
-    | inr e ↦ absurd (acts (ap handle.action e.0))
-  ]
+  acting p w there acts = grind arith
 
   idle-at : (w : WriterAt) (next : Next Point) → Meets next.point w → rests next ≡ true → WritePoint.Idle ≡ w.point
-  idle-at w next there resting = elim there [
-    | inl e ↦ sym (idle-point w.point (subst (λ (p : Point). is_idle p ≡ true) e (rests-idle next resting)))
-    | inr e ↦ sym e.1
-  ]
+  idle-at w next there resting = grind arith
 
   begins-at : (w : WriterAt) (before : List handle.Line) (given : List ℕ) (start : Point) → Meets (handle.comes_to before).point w → rests (handle.comes_to before) ≡ true → call_begins capacity Writer start before ≡ true → IsAt capacity before given w
       → let opening = opening_at (suc (tickets_in before)) given start in IsWriterNext capacity (began opening) w × ((start ≡ Point.Writer (writer_begun opening w).point) × IsAt capacity (handle.note (Note.Began start) ∷ before) given (writer_begun opening w))
@@ -199,13 +176,8 @@ module _ (capacity : ℕ) (some : 1 ≤ capacity) where
   unfolding moved_in seen_in waits_in shut_in
   first-is given = record { counted = record { moves = refl; sees = refl; lies = sym (zero-mod capacity); may_wait = refl }; shut = refl; stores = tt; calls = tt }
 
-  same-at : (lines : List Line) → state_at WriterAt fresh_writer (writer_after capacity) lines ≡ writer_at capacity lines
-  same-at [] = refl
-  same-at (line ∷ before) = ap (writer_after capacity line) (same-at before)
-
   same-runs : (lines : List Line) → AreRuns WriterAt fresh_writer (writer_after capacity) (IsWriterNext capacity) lines → AreWriterRuns capacity lines
-  same-runs [] runs = tt
-  same-runs (line ∷ before) runs = (subst (IsWriterNext capacity line) (same-at before) runs.0, same-runs before runs.1)
+  same-runs lines runs = grind arith
 
   pub writes : (lines : List handle.Line) (moved : List ℕ) → IsTrueLog capacity Writer lines moved → AreWriterRuns capacity (lines_in Writer lines)
   writes lines moved log =

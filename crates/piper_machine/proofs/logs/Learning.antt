@@ -1,7 +1,6 @@
 -- The laws of a run that hold however much a side knows, and though it empties its slot to register.
 use Rattle.std.proofs.Common.{◌≡◌, ℕ, ◌-◌, ◌≤◌, List, [], ◌∷◌, ◌++◌, length, Bool, true, false, Option, None, refl, sym, ap, subst, ◌∙◌, arith}
-use Rattle.piper_machine.specs.Types.{Action, AfterRead, AfterWrite, Call, ReadPoint, Side, WritePoint, OpenCall, Step, DestAct, SourceAct, Destination, Event, Reader, Writer, Begin, Acts}
-use Rattle.piper_protocol.specs.Table.{read_action, write_action}
+use Rattle.piper_machine.specs.Types.{Action, Call, Side, Step, DestAct, SourceAct, Destination, Event, Reader, Writer, Begin, Acts}
 use Rattle.piper_machine.specs.Action.{index_loaded_by, with_waker_in}
 use Rattle.piper_machine.specs.Conservation.{IsConserved}
 use Rattle.piper_machine.specs.Pipe.{Pipe, fresh}
@@ -9,103 +8,29 @@ use Rattle.piper_machine.specs.Refusal.{IsIdle}
 use Rattle.piper_machine.specs.Run.{Made}
 use Rattle.piper_machine.specs.Sound.{IsSound}
 use Rattle.piper_machine.specs.Step.{action_of}
-use Rattle.piper_machine.specs.Wait.{Wait}
 use Rattle.piper_machine.proofs.Conserving.{conserved-step}
-use Rattle.piper_machine.proofs.Disjointness.{disjoint}
 use Rattle.piper_machine.proofs.Finality.{Final, final_none, final_more}
 use Rattle.piper_machine.proofs.Fronts.{conserved_none, sound-fresh}
 use Rattle.piper_machine.proofs.Honesty.{Honest, honest_none, honest_more}
 use Rattle.piper_machine.proofs.Keeping.{Keeps, keeps_none, keeps_more}
-use Rattle.piper_machine.proofs.ReaderWaits.{ReadLook, ReadWaits, read_calm, reader-touched}
 use Rattle.piper_machine.proofs.Remembering.{Remembers, remembers_none, remembers_more}
 use Rattle.piper_machine.proofs.Stopping.{Stops, stops_none, stops_more}
-use Rattle.piper_machine.proofs.Waking.{awake}
-use Rattle.piper_machine.proofs.Watching.{Errand, away, read_errand, write_errand, Watched, woken, calmly, taking, waking, holding, rests, same}
-use Rattle.piper_machine.proofs.WriterWaits.{WriteLook, WriteWaits, write_calm, writer-touched}
 use Rattle.piper_machine.specs.logs.Wide.{Act, makes, learns, withdraws, drains, fills, IsSafe, RunsWith}
 
 -- a pipe of which the sides know so much, with these slots, and this destination and source
 abbrev varied : ℕ → ℕ → Option ℕ → Option ℕ → Destination → List SourceAct → Pipe → Pipe
 varied known room reads writes destination script p = record p { known = known; room = room; reader_waker = reads; writer_waker = writes; destination = destination; source = script }
 
-watched : (w : Wait) (slot held : Option ℕ) (calm other : Type 0) (e : Errand) → (calm → other) → Watched w slot held calm e → Watched w slot held other e
-watched w slot held calm other e f (woken was) = woken was
-watched w slot held calm other e f (calmly here is) = calmly here (f is)
-watched w slot held calm other e f (taking here is) = taking here is
-watched w slot held calm other e f (waking is) = waking is
-watched w slot held calm other e f (holding is) = holding is
-
 module _ (known room : ℕ) (destination : Destination) (script : List SourceAct) (p : Pipe) where
   abbrev spread : Pipe
   spread = varied known room p.reader_waker p.writer_waker destination script p
 
-  read-calm : (point : ReadPoint) → read_calm point p → read_calm point spread
-  read-calm ReadPoint.Dropped c = c
-  read-calm (ReadPoint.TakeWriter AfterRead.Drop) c = c
-  read-calm (ReadPoint.WakeWriter AfterRead.Drop) c = c
-  read-calm point c = c
-
-  read-look : (point : ReadPoint) (e : Errand) (w : Wait) → ReadLook point p e w → ReadLook point spread e w
-  read-look (ReadPoint.LookTail l) e w h = h
-  read-look (ReadPoint.LookRegister l) e w h = h
-  read-look (ReadPoint.LookClosed l) e w h = h
-  read-look (ReadPoint.LookTailAgain l was_closed) e w h = h
-  read-look (ReadPoint.LookTake l) e w h = h
-  read-look ReadPoint.Yield e w h = h
-  read-look point e w h = tt
-
-  read-waits : (e : Errand) (w : Wait) → ReadWaits p e w → ReadWaits spread e w
-  read-waits e w h = record {
-    waiting = λ pending. watched w _ _ _ _ e (read-calm p.reader) (h.waiting pending);
-    look = read-look p.reader e w h.look;
-  }
-
-  write-calm : (point : WritePoint) → write_calm point p → write_calm point spread
-  write-calm WritePoint.Dropped c = c
-  write-calm (WritePoint.TakeReader AfterWrite.Drop) c = c
-  write-calm (WritePoint.TakeReader AfterWrite.WakeWriter) c = c
-  write-calm (WritePoint.WakeReader AfterWrite.Drop) c = c
-  write-calm (WritePoint.WakeReader AfterWrite.WakeWriter) c = c
-  write-calm WritePoint.TakeWriter c = c
-  write-calm WritePoint.WakeWriter c = c
-  write-calm (WritePoint.StoreClosed AfterWrite.Answer) c = c
-  write-calm (WritePoint.StoreClosed (AfterWrite.Round form sum)) c = c
-  write-calm point c = c
-
-  write-look : (point : WritePoint) (e : Errand) (w : Wait) → WriteLook point p e w → WriteLook point spread e w
-  write-look (WritePoint.LookClosed l) e w h = h
-  write-look (WritePoint.LookHead l) e w h = h
-  write-look (WritePoint.LookRegister l) e w h = h
-  write-look (WritePoint.LookHeadAgain l) e w h = h
-  write-look (WritePoint.LookClosedAgain l) e w h = h
-  write-look (WritePoint.LookTake l) e w h = h
-  write-look WritePoint.Yield e w h = h
-  write-look point e w h = tt
-
-  write-waits : (e : Errand) (w : Wait) → WriteWaits p e w → WriteWaits spread e w
-  write-waits e w h = record {
-    waiting = λ pending. watched w _ _ _ _ e (write-calm p.writer) (h.waiting pending);
-    look = write-look p.writer e w h.look;
-  }
-
   remembers-still : (events : List Event) → Remembers p events → Remembers spread events
-  remembers-still events h = record {
-    keeps = record { reader = read-waits _ _ h.keeps.reader; writer = write-waits _ _ h.keeps.writer };
-    remembered = elim [ Reader ↦ h.remembered Reader | Writer ↦ h.remembered Writer ];
-  }
+  remembers-still events h = grind arith
 
 module _ (known room : ℕ) (reads writes : Option ℕ) (destination : Destination) (script : List SourceAct) (p : Pipe) (events : List Event) where
   final-still : Final p events → Final (varied known room reads writes destination script p) events
-  final-still h = record {
-    lasts = record {
-      known = h.lasts.known;
-      caused = h.lasts.caused;
-      over = λ ended. let o = h.lasts.over ended in record { closed = o.closed; ended = o.ended; unread = o.unread; valid = o.valid };
-      sees = h.lasts.sees;
-    };
-    so_far = h.so_far;
-    final = record { found = h.final.found; noted = h.final.noted };
-  }
+  final-still h = grind arith
 
   honest-still : Honest p events → Honest (varied known room reads writes destination script p) events
   honest-still h = record { honest = h.honest; aware = record { flag = h.aware.flag; saw = h.aware.saw } }
@@ -118,40 +43,8 @@ module _ (known room : ℕ) (reads writes : Option ℕ) (destination : Destinati
 
 -- a side that is about to register does not wait: nothing is promised of its own slot
 
-read-withdraws : (point : ReadPoint) (p : Pipe) (e : Errand) (w : Wait) → read_action point ≡ Action.Register → ReadWaits (record p { reader = point }) e w → ReadWaits (record p { reader = point; reader_waker = None }) e w
-read-withdraws (ReadPoint.LookRegister l) p e w to h = record { waiting = λ pending. absurd (let never = h.look.0 in cc); look = h.look }
-read-withdraws point p e w to h = absurd (cc)
-
-write-withdraws : (point : WritePoint) (p : Pipe) (e : Errand) (w : Wait) → write_action point ≡ Action.Register → WriteWaits (record p { writer = point }) e w → WriteWaits (record p { writer = point; writer_waker = None }) e w
-write-withdraws (WritePoint.LookRegister l) p e w to h = record { waiting = λ pending. absurd (let never = h.look.0 in cc); look = h.look }
-write-withdraws point p e w to h = absurd (grind arith)
-
-read-away : (point : ReadPoint) (c : OpenCall) → read_action point ≡ Action.Register → read_errand point c ≡ away
-read-away point c to = grind arith
-
-write-away : (point : WritePoint) (c : OpenCall) → write_action point ≡ Action.Register → write_errand point c ≡ away
-write-away (WritePoint.LookRegister l) c to = refl
-write-away point c to = absurd (grind arith)
-
 remembers-withdrawn : (side : Side) (p : Pipe) (events : List Event) → action_of side p ≡ Action.Register → Remembers p events → Remembers (with_waker_in side None p) events
-remembers-withdrawn Reader p events to h =
-    let q : Pipe = record p { reader_waker = None } in
-    record {
-      keeps = record {
-        reader = read-withdraws p.reader p _ _ to h.keeps.reader;
-        writer = writer-touched p q _ _ _ _ refl refl (rests None (same p q refl refl refl) refl (read-away p.reader p.reader_call to) refl) h.keeps.writer;
-      };
-      remembered = elim [ Reader ↦ λ idle. absurd (let no = ap read_action (sym idle) ∙ to in cc) | Writer ↦ h.remembered Writer ];
-    }
-remembers-withdrawn Writer p events to h =
-    let q : Pipe = record p { writer_waker = None } in
-    record {
-      keeps = record {
-        reader = reader-touched p q _ _ _ _ refl refl (rests None (same p q refl refl refl) refl (write-away p.writer p.writer_call to) refl) h.keeps.reader;
-        writer = write-withdraws p.writer p _ _ to h.keeps.writer;
-      };
-      remembered = elim [ Reader ↦ h.remembered Reader | Writer ↦ λ idle. absurd (let no = ap write_action (sym idle) ∙ to in cc) ];
-    }
+remembers-withdrawn side p events to h = grind arith
 
 -- the acts
 
@@ -274,13 +167,4 @@ module _ (capacity : ℕ) (acts : List Act) (p mid : Pipe) (before after : List 
       (stops_more p mid s before after kept.stops made) (remembers-still mid.known mid.room mid.destination script mid after (remembers_more p mid s before after kept.sound kept.remembers made))
 
 pub safe-of : (capacity : ℕ) (acts : List Act) (p : Pipe) (events : List Event) → Kept capacity acts p events → IsSafe p events
-safe-of capacity acts p events kept = record {
-  conserved = kept.conserved;
-  disjoint = disjoint p kept.sound;
-  honest = kept.honest.honest;
-  finality = kept.final.final;
-  stops = kept.stops.stops;
-  remembered = kept.remembers.remembered;
-  awake = awake p events kept.sound kept.remembers.remembered;
-  sound = kept.sound;
-}
+safe-of capacity acts p events kept = grind arith

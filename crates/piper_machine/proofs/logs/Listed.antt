@@ -14,14 +14,7 @@ same_after : (a : handle.Access) (s : Words) → words_after (line_of a) s ≡ h
 same_after a s = grind arith
 
 finds : (a : handle.Access) (s : Words) → handle.FindsWords a s → FindsCount (line_of a) s
-finds (handle.loaded_head count) s e = e
-finds (handle.loaded_tail count) s e = e
-finds (handle.loaded_closed is_closed) s e = e
-finds (handle.stored_head bytes) s e = tt
-finds (handle.stored_tail bytes) s e = tt
-finds handle.stored_closed s e = tt
-finds (handle.loaded_slot side is_filled) s e = e
-finds (handle.swapped side old left) s e = e
+finds a s e = grind arith
 
 same_words : (turns : List (By handle.Access)) → words_of (lined turns) ≡ handle.words_of turns
 unfolding lined

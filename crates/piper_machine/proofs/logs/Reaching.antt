@@ -79,22 +79,7 @@ module _ (capacity : ℕ) where
         (pipe_at capacity (reader_at capacity (did Reader turns)) (writer_at capacity (did Writer turns)) (words_of turns) k acts l sources)
 
   pub first-fits : 1 ≤ capacity → Fits capacity fresh_reader fresh_writer fresh_words
-  first-fits some = record {
-    counts = record {
-      some = some;
-      reads = refl;
-      writes = refl;
-      reader_head = omega arith;
-      reader_tail = omega arith;
-      writer_head = omega arith;
-      writer_tail = omega arith;
-      first = omega arith;
-      last = grind arith;
-    };
-    reads = record { shown = omega arith; draws = refl };
-    writes = record { lent = omega arith; stores = omega arith; shut = λ x. refl; draws = refl };
-    shares = record { closed = λ x. absurd cc; reader_rests = λ x. refl; writer_rests = λ x. refl };
-  }
+  first-fits some = grind arith
 
   first : 1 ≤ capacity → Reached []
   first some = record {
@@ -103,8 +88,7 @@ module _ (capacity : ℕ) where
   }
 
   counted : (line : Line) (s : Words) → Finds line s → FindsCount line s
-  counted (stored_head bytes) s finds = tt
-  counted line s finds = finds
+  counted line s finds = grind arith
 
   reader-more : (line : Line) (before : List (By Line)) → IsReaderNext capacity line (reader_at capacity (did Reader before)) → Finds line (words_of before) → Reached before → Reached (by Reader line ∷ before)
   reader-more line before next finds reached =

@@ -1,6 +1,6 @@
 -- Each call of the reader begins in the machine.
-use Rattle.std.proofs.Common.{◌≡◌, ℕ, ◌-◌, List, [], ◌∷◌, ◌++◌, length, Bool, true, Option, None, Some, ◌==◌, refl, ap, ◌∙◌}
-use Rattle.piper_machine.specs.Types.{Kind, ReadPoint, Call, Event, Luck, DestAct, SourceAct, StepRefusal, Reader, Begin, Slice, Acts, Began}
+use Rattle.std.proofs.Common.{◌≡◌, ℕ, ◌-◌, List, [], ◌∷◌, ◌++◌, length, Bool, true, Option, None, Some, ◌==◌, refl, ap, ◌∙◌, arith}
+use Rattle.piper_machine.specs.Types.{Kind, ReadPoint, Call, Event, Luck, DestAct, SourceAct, Reader, Begin, Slice, Acts, Began}
 use Rattle.piper_machine.specs.Pipe.{Pipe}
 use Rattle.piper_machine.specs.Refusal.{reader_state, refusal_of, cannot_begin, or_else, past, unless}
 use Rattle.piper_machine.specs.logs.Line.{Opening, polls, try_drains, try_drains_with, poll_drains_bytes, poll_drains, consumes, drops, began}
@@ -9,7 +9,7 @@ use Rattle.piper_machine.specs.logs.Reading.{IsReaderNext, ReaderAt, reader_begu
 use Rattle.piper_machine.specs.logs.Writing.{WriterAt}
 use Rattle.piper_machine.proofs.logs.Joint.{Chance, Fits, number_of, pipe_at}
 use Rattle.piper_machine.proofs.logs.Fitting.{sound}
-use Rattle.piper_machine.proofs.logs.ReaderOpens.{good-draw, idle-same, polls-at, tries-at, copies-at, stores-at, closes-at, within}
+use Rattle.piper_machine.proofs.logs.ReaderOpens.{good-draw, polls-at, tries-at, copies-at, stores-at, closes-at, within}
 use Rattle.piper_machine.specs.declared.refusals.StepRefusal.TheVariants.{BadDraw, PastPeek}
 use Rattle.piper_machine.specs.Step.{stepped}
 use Rattle.piper_machine.specs.Look.{context}
@@ -32,21 +32,7 @@ module _ (capacity : ℕ) (w : WriterAt) (l : Chance) (sources : List SourceAct)
         → ((lent : List ℕ) → kind ∷ [] ≡ (stepped lent (Begin c) (at_first k acts')).events)
         → ((lent : List ℕ) (q : Pipe) → Rattle.piper_machine.specs.Step.MayLend lent (Begin c) q)
         → (before : List Event) → Made (at_first k acts') (Begin c) (pipe_at capacity (reader_begun opening r) w s k acts l sources) before (before ++ kind ∷ [])
-    opened k acts acts' opening c kind next refusal draw past_none pipe events may before =
-        let p : Pipe = at_first k acts' in
-        let q : Pipe = pipe_at capacity (reader_begun opening r) w s k acts l sources in
-        let idle : p.reader ≡ ReadPoint.Idle = idle-same r.calling.draw k.draws r.point next.0 in
-        record {
-          accepted = refusal
-              ∙ ap (λ (x : ReadPoint). or_else (cannot_begin (reader_state x)) (or_else (unless (has_good_draw c) BadDraw) (past c p))) idle
-              ∙ ap (λ (x : Option StepRefusal). or_else x (past c p)) draw
-              ∙ past_none;
-          made = record {
-            lent = may q.lent p;
-            pipe = pipe q.lent;
-            events = ap (λ (es : List Event). before ++ es) (events q.lent);
-          };
-        }
+    opened k acts acts' opening c kind next refusal draw past_none pipe events may before = grind arith
 
     opens : (k : Chance) (acts acts' : List DestAct) (opening : Opening) (c : Call) (kind : Event)
         → IsReaderNext capacity (began opening) r

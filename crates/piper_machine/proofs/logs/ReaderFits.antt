@@ -11,7 +11,7 @@ use Rattle.piper_machine.specs.logs.OneList.{FindsCount, Words, words_after}
 use Rattle.piper_machine.specs.logs.Reading.{HasDrawn, IsReaderNext, MayTake, ReaderAt, reader_after, reader_answered, reader_begun, reader_changed, reader_empties, reader_stepped, reader_told, shown, size_after}
 use Rattle.piper_machine.specs.logs.Writing.{WriterAt}
 use Rattle.piper_machine.proofs.logs.Joint.{Fits, Shares, reader_drawn, reader_point}
-use Rattle.piper_machine.proofs.logs.Draws.{ends-at, next-same, rests-drawn, stores-moved}
+use Rattle.piper_machine.proofs.logs.Draws.{ends-at, next-same, stores-moved}
 use Rattle.piper_machine.proofs.logs.Contexts.{none-of}
 use Rattle.piper_machine.proofs.logs.ReaderOpens.{polls-at, tries-at, copies-at, stores-at, closes-at}
 
@@ -21,15 +21,8 @@ store-is point n e = grind arith
 looks-store-none : (none : Bool) (l : Purpose) → head_store (reader_looks_for none l) ≡ 0
 looks-store-none none l = grind arith
 
-start-below : (c start n : ℕ) → start < c → n ≤ c - start → offset_of c (start + n) < c
-start-below c start n below within = grind (arith, nat_tests)
-
-end-stays : (c start n u : ℕ) → start < c → n ≤ u → u ≤ c → n ≤ c - start → offset_of c (start + u) ≡ offset_of c (offset_of c (start + n) + (u - n))
-end-stays c start n u below within fits flat = grind (arith, nat_tests)
-
 taken-within : (most : ℕ) (size : Option ℕ) (n : ℕ) → MayTake most size n → n ≤ most
-taken-within most None n may = may
-taken-within most (Some size) n may = omega (arith, may)
+taken-within most size n may = grind arith
 
 abbrev at_rest : ReaderAt → ReaderAt
 at_rest r = record r { point = ReadPoint.Idle; calling = no_calling }
@@ -38,17 +31,11 @@ module _ (capacity : ℕ) (w : WriterAt) where
   -- another point of the call, if what it is about to do stays within what the reader knows
   goes-on : (r : ReaderAt) (s : Words) (point : ReadPoint) (calling : Calling) (size : Option ℕ) (given : List ℕ) → head_store point ≤ shown capacity r → reader_point calling.draw false point ≡ point
       → Fits capacity r w s → Fits capacity (record r { point = point; calling = calling; size = size; given = given }) w s
-  goes-on r s point calling size given within draws fits = record {
-    counts = fits.counts;
-    reads = record { shown = within; draws = draws };
-    writes = fits.writes;
-    shares = fits.shares;
-  }
+  goes-on r s point calling size given within draws fits = grind arith
 
   answer-fits : (r : ReaderAt) (s : Words) (point : ReadPoint) (calling : Calling) (answer : Option Answer) → ((a : Answer) → answer ≡ Some a → read_action point ≡ Action.Rest) → head_store point ≤ shown capacity r → reader_point calling.draw false point ≡ point
       → Fits capacity (at_rest r) w s → Fits capacity (reader_answered answer (record r { point = point; calling = calling })) w s
-  answer-fits r s point calling None rests within draws fits = goes-on (at_rest r) s point calling r.size r.given within draws fits
-  answer-fits r s point calling (Some a) rests within draws fits = goes-on (at_rest r) s point no_calling (Some 0) r.given within (rests-drawn false point (rests a refl)) fits
+  answer-fits r s point calling answer rests within draws fits = grind arith
 
   module _ (r : ReaderAt) (s : Words) (fits : Fits capacity r w s) where
     rest-fits : Fits capacity (at_rest r) w s
@@ -82,52 +69,15 @@ module _ (capacity : ℕ) (w : WriterAt) where
 
     -- the tail is seen where it is
     tail-fits : (count : ℕ) → count ≡ length s.sent → Fits capacity (at_rest (record r { tail = count })) w s
-    tail-fits count e = record {
-      counts = record {
-        some = fits.counts.some;
-        reads = fits.counts.reads;
-        writes = fits.counts.writes;
-        reader_head = omega (arith, fits.counts.reader_head, fits.counts.reader_tail);
-        reader_tail = omega arith;
-        writer_head = fits.counts.writer_head;
-        writer_tail = fits.counts.writer_tail;
-        first = fits.counts.first;
-        last = fits.counts.last;
-      };
-      reads = record { shown = omega arith; draws = refl };
-      writes = fits.writes;
-      shares = fits.shares;
-    }
+    tail-fits count e = grind arith
 
     -- the head goes past n bytes
     head-fits : (n : ℕ) → n ≤ shown capacity r → Fits capacity (at_rest (record r { head = r.head + n; start = offset_of capacity (r.start + n) })) w (record s { head = s.head + n })
-    head-fits n within =
-        let stays = end-stays capacity r.start n (length s.sent - s.head) fits.counts.first (omega (arith, fits.counts.reads, fits.counts.reader_tail)) (omega (arith, fits.counts.writes, fits.counts.writer_tail, fits.counts.writer_head)) (omega arith) in
-        record {
-          counts = record {
-            some = fits.counts.some;
-            reads = omega (arith, fits.counts.reads);
-            writes = fits.counts.writes;
-            reader_head = omega (arith, fits.counts.reader_head);
-            reader_tail = fits.counts.reader_tail;
-            writer_head = omega (arith, fits.counts.writer_head);
-            writer_tail = fits.counts.writer_tail;
-            first = start-below capacity r.start n fits.counts.first (omega arith);
-            last = fits.counts.last ∙ stays ∙ ap (λ (x : ℕ). offset_of capacity (offset_of capacity (r.start + n) + x)) (let e : length s.sent - s.head - n ≡ length s.sent - (s.head + n) = omega arith in e);
-          };
-          reads = record { shown = omega arith; draws = refl };
-          writes = fits.writes;
-          shares = fits.shares;
-        }
+    head-fits n within = grind arith
 
     -- what both share besides the counts
     share-fits : (waits : Bool) (s' : Words) → s'.sent ≡ s.sent → s'.head ≡ s.head → Shares w.is_shut s'.is_closed waits w.may_wait s'.reader_slot s'.writer_slot → Fits capacity (at_rest (record r { may_wait = waits })) w s'
-    share-fits waits s' sent head shares = record {
-      counts = rw (sent, head) fits.counts;
-      reads = record { shown = omega arith; draws = refl };
-      writes = fits.writes;
-      shares = shares;
-    }
+    share-fits waits s' sent head shares = grind arith
 
     -- a line by which a slot was found empty, or emptied
     empties-fit : (line : Line) (action : Action) → read_action r.point ≡ action → Fits capacity (reader_empties capacity action line r) w (words_after line s) → Fits capacity (reader_empties capacity (read_action r.point) line r) w (words_after line s)
@@ -135,12 +85,7 @@ module _ (capacity : ℕ) (w : WriterAt) where
 
     -- before it registers
     withdraws-fit : (slot : Option ℕ) → slot ≡ None → Fits capacity (record r { may_wait = false }) w (record s { reader_slot = slot })
-    withdraws-fit slot none = record {
-      counts = fits.counts;
-      reads = record { shown = fits.reads.shown; draws = fits.reads.draws };
-      writes = fits.writes;
-      shares = record { closed = fits.shares.closed; reader_rests = λ x. none; writer_rests = fits.shares.writer_rests };
-    }
+    withdraws-fit slot none = grind arith
 
     pub reader-fits : (line : Line) → IsReaderNext capacity line r → FindsCount line s → Fits capacity (reader_after capacity line r) w (words_after line s)
     reader-fits (began opening) next finds = begin-fits opening next

@@ -11,12 +11,10 @@ use Rattle.piper_machine.proofs.logs.Joint.{destination_at, number_of, reader_dr
 
 module _ (round n : ℕ) (acts : List DestAct) where
   pub left-taken : (size : Option ℕ) → MayTake round size n → left_of_destination round (destination_at size (DestAct.Take n ∷ acts)) ≡ destination_at (size_after n size) acts
-  left-taken None may = refl
-  left-taken (Some size) may = ap (λ (x : ℕ). destination_at (Some (size - x)) acts) (sym may)
+  left-taken size may = grind arith
 
   pub found-taken : (size : Option ℕ) → MayTake round size n → found_of (taken round (destination_at size (DestAct.Take n ∷ acts))) ≡ Found.Moved n
-  found-taken None may = ap Found.Moved (let all : min n round ≡ n = omega arith in all)
-  found-taken (Some size) may = ap Found.Moved (sym may)
+  found-taken size may = grind arith
 
 pub left-failed : (round : ℕ) (acts : List DestAct) (size : Option ℕ) → size ≡ None → left_of_destination round (destination_at size (DestAct.Fail ∷ acts)) ≡ destination_at size acts
 left-failed round acts size e = grind arith

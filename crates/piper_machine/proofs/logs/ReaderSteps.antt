@@ -1,10 +1,9 @@
 -- Each line of the reader is a step of the machine, or none.
 use Rattle.std.proofs.Common.{◌≡◌, inl, inr, ℕ, ◌+◌, ◌-◌, min, List, [], ◌∷◌, ◌++◌, length, drop, Bool, true, false, Option, None, Some, ◌==◌, is_some, refl, sym, ap, subst, ◌∙◌, arith, length-drop}
 use Rattle.std.proofs.lemmas.List.{drop-drop}
-use Rattle.piper_machine.specs.Types.{Seen, Answer, Action, Found, ReadPoint, Side, Event, Luck, DestAct, SourceAct, Destination, Reader, Writer, MOST_A_ROUND, Go, Consumed, Looked, Slice}
+use Rattle.piper_machine.specs.Types.{Seen, Answer, Action, Found, ReadPoint, Side, Event, Luck, DestAct, SourceAct, Destination, Reader, Writer, MOST_A_ROUND, Go, Consumed, Looked}
 use Rattle.piper_protocol.specs.Table.{Next, read_action, read_after}
 use Rattle.piper_machine.specs.Log.{answer_event}
-use Rattle.piper_machine.specs.Open.{no_call}
 use Rattle.piper_machine.specs.Action.{found_by, logged_of, performed}
 use Rattle.piper_machine.specs.Pipe.{Pipe}
 use Rattle.piper_machine.specs.Sound.{IsSound}
@@ -23,9 +22,6 @@ use Rattle.piper_machine.proofs.logs.Fitting.{sound}
 use Rattle.piper_machine.proofs.logs.ReaderOpens.{idle-same, left-taken, found-taken, left-failed, found-failed}
 use Rattle.piper_machine.proofs.logs.Leading.{Leads, LeadsBy, leads-learned, leads-none, leads-step, leads-withdrawn}
 
-rest-same : (draw : Option Bool) (b : Bool) (point : ReadPoint) → read_action point ≡ Action.Rest → reader_point draw b point ≡ point
-rest-same draw b point e = grind arith
-
 -- the pipe after a step that changed it so and leads there
 abbrev drained : Pipe → Next ReadPoint → Pipe
 drained p next = record p {
@@ -38,10 +34,7 @@ module _ (capacity : ℕ) (w : WriterAt) (l : Chance) (sources : List SourceAct)
   answers : (r : ReaderAt) (s : Words) (k : Chance) (acts : List DestAct) (old point : ReadPoint) (answer : Option Answer) → ((a : Answer) → answer ≡ Some a → read_action point ≡ Action.Rest)
       → drained (record (pipe_at capacity r w s k acts l sources) { reader = old }) (reader_next r.calling.draw k.draws (record { point = point; answer = answer }))
       ≡ pipe_at capacity (reader_answered answer (record r { point = point })) w s k acts l sources
-  answers r s k acts old point None rests = refl
-  answers r s k acts old point (Some a) rests =
-      ap (λ (x : ReadPoint). record (pipe_at capacity r w s k acts l sources) { reader = x; reader_call = no_call; destination = Slice 0 })
-      (rest-same r.calling.draw k.draws point (rests a refl) ∙ sym (rest-same None k.draws point (rests a refl)))
+  answers r s k acts old point answer rests = grind arith
 
   module _ (r : ReaderAt) (s : Words) where
     abbrev at_first : Chance → List DestAct → Pipe

@@ -2,9 +2,8 @@
 -- that are put into it, before the call that publishes them.
 use Rattle.std.proofs.Common.{◌≡◌, ℕ, ◌+◌, ◌≤◌, List, [], ◌∷◌, ◌++◌, length, replicate, Bool, true, Option, None, Some, nat_lt, refl, sym, ap, subst, ◌∙◌, arith, suc, length-append}
 use Rattle.std.proofs.lemmas.List.{append-nil, length-replicate, append_assoc}
-use Rattle.piper_machine.specs.Types.{Kind, WritePoint, Call, Event, Luck, StepRefusal, DestAct, SourceAct, Lent, Polling, Writer, Begin, Answered, Began, Put}
+use Rattle.piper_machine.specs.Types.{Kind, WritePoint, Call, Event, Luck, DestAct, SourceAct, Lent, Polling, Writer, Begin, Answered, Began, Put}
 use Rattle.piper_protocol.specs.declared.table.Purpose.TheVariants.{Copy}
-use Rattle.piper_protocol.specs.Table.{tail_store}
 use Rattle.piper_machine.specs.Call.{has_good_draw}
 use Rattle.piper_machine.specs.declared.refusals.StepRefusal.TheVariants.{BadDraw, PastLent}
 use Rattle.piper_machine.specs.Lend.{Lendable}
@@ -38,21 +37,7 @@ module _ (capacity : ℕ) (r : ReaderAt) (k : Chance) (acts : List DestAct) (w :
         → ((lent : List ℕ) → kind ∷ [] ≡ (stepped lent (Begin c) (at_first l sources)).events)
         → ((lent : List ℕ) (q : Pipe) → MachineMayLend lent (Begin c) q)
         → (before : List Event) → Made (at_first l sources) (Begin c) (pipe_at capacity r (writer_begun opening w) s k acts l sources) before (before ++ kind ∷ [])
-    opened l sources opening c kind next refusal draw past_none pipe events may before =
-        let p : Pipe = at_first l sources in
-        let q : Pipe = pipe_at capacity r (writer_begun opening w) s k acts l sources in
-        let idle : p.writer ≡ WritePoint.Idle = writer-idle-same w.calling.draw l.draws w.point next.0 in
-        record {
-          accepted = refusal
-              ∙ ap (λ (x : WritePoint). or_else (cannot_begin (writer_state x)) (or_else (unless (has_good_draw c) BadDraw) (past c p))) idle
-              ∙ ap (λ (x : Option StepRefusal). or_else x (past c p)) draw
-              ∙ past_none;
-          made = record {
-            lent = may q.lent p;
-            pipe = pipe q.lent;
-            events = ap (λ (es : List Event). before ++ es) (events q.lent);
-          };
-        }
+    opened l sources opening c kind next refusal draw past_none pipe events may before = grind arith
 
     opens : (l : Chance) (sources : List SourceAct) (opening : Opening) (c : Call) (kind : Event)
         → IsWriterNext capacity (began opening) w
@@ -72,14 +57,7 @@ module _ (capacity : ℕ) (r : ReaderAt) (k : Chance) (acts : List DestAct) (w :
 
     -- the writer idle, and lent these bytes and so many more places
     lent-fits : (given : List ℕ) (spare : ℕ) → w.point ≡ WritePoint.Idle → length given + spare ≤ contiguous capacity w → (w.is_shut ≡ true → length given + spare ≡ 0) → Fits capacity r (record w { given = given; spare = spare }) s
-    lent-fits given spare rests within shut =
-        let none : tail_store w.point ≡ 0 = ap tail_store rests in
-        record {
-          counts = fits.counts;
-          reads = fits.reads;
-          writes = record { lent = within; stores = omega arith; shut = shut; draws = fits.writes.draws };
-          shares = fits.shares;
-        }
+    lent-fits given spare rests within shut = grind arith
 
     abbrev lent_pipe : Chance → List SourceAct → List ℕ → ℕ → Pipe
     lent_pipe l sources given spare = pipe_at capacity r (record w { given = given; spare = spare }) s k acts l sources

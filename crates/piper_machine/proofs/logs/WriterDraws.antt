@@ -6,7 +6,7 @@ use Rattle.piper_machine.specs.Log.{answer_event}
 use Rattle.piper_machine.specs.Refusal.{cannot_go, writer_state}
 use Rattle.piper_machine.specs.Step.{filled_out, lent_after, lent_at}
 use Rattle.piper_machine.specs.logs.Writing.{HasDrawn}
-use Rattle.piper_machine.proofs.logs.Joint.{writer_drawn, writer_point}
+use Rattle.piper_machine.proofs.logs.Joint.{writer_point}
 
 abbrev pub writer_next : Option Bool → Bool → Next WritePoint → Next WritePoint
 writer_next draw b next = record { point = writer_point draw b next.point; answer = next.answer }
@@ -36,12 +36,6 @@ ends-at capacity room point f answer e = grind arith
 pub may-go : (point : WritePoint) → (write_action point ≡ Action.Rest → ⊥) → cannot_go (writer_state point) ≡ None
 may-go point goes = grind arith
 
-pub rests-drawn : (b : Bool) (point : WritePoint) → write_action point ≡ Action.Rest → writer_drawn b point ≡ point
-rests-drawn b point e = grind arith
-
-pub rests-none : (point : WritePoint) → write_action point ≡ Action.Rest → tail_store point ≡ 0
-rests-none point e = grind arith
-
 -- only a fill's own steps leave nothing lent
 pub leaves-lent : (point : WritePoint) (answer : Option Answer) (lent : List ℕ) → lent_after (write_action point) point answer lent ≡ filled_out (ends_fill point) answer lent
 leaves-lent point answer lent = grind arith
@@ -51,5 +45,4 @@ offers-none point lent before other = grind arith
 
 -- no call returns before it registers
 pub stays : (capacity room : ℕ) (point : WritePoint) (b : Bool) → write_action point ≡ Action.Register → answer_event Writer (write_after capacity room point (Found.Waker b)).answer ≡ []
-stays capacity room (WritePoint.LookRegister l) b e = refl
-stays capacity room point b e = absurd (grind arith)
+stays capacity room point b e = grind arith

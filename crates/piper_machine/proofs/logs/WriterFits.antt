@@ -5,23 +5,17 @@ use Rattle.piper_machine.specs.Types.{Answer, Action, Found, WritePoint, Reader,
 use Rattle.piper_protocol.specs.Index.{offset_of}
 use Rattle.piper_protocol.specs.Table.{Next, ends_fill, moved_in, tail_store, write_action, write_after}
 use Rattle.piper_machine.specs.logs.Calling.{Calling, calling_after, may_wait_after, no_calling}
-use Rattle.piper_machine.specs.logs.Line.{met_head, met_tail, Opening, polls, try_fills, try_fills_with, poll_fills_bytes, poll_fills, produces, closes, drops, Line, began, loaded_head, loaded_tail, loaded_closed, stored_head, stored_tail, stored_closed, loaded_slot, swapped, knew_empty, took, gave, failed, drew, refused, yielded, woke}
+use Rattle.piper_machine.specs.logs.Line.{met_head, met_tail, Opening, Line, began, loaded_head, loaded_tail, loaded_closed, stored_head, stored_tail, stored_closed, loaded_slot, swapped, knew_empty, took, gave, failed, drew, refused, yielded, woke}
 use Rattle.piper_machine.specs.logs.OneList.{FindsCount, Words, words_after}
 use Rattle.piper_machine.specs.logs.Reading.{ReaderAt}
-use Rattle.piper_machine.specs.logs.Writing.{Source, nothing, HasDrawn, IsWriterNext, WriterAt, contiguous, room_to, shut_at, source_after, writer_after, writer_answered, writer_begun, writer_changed, writer_empties, writer_stepped, writer_told, lent_for, most_lent}
+use Rattle.piper_machine.specs.logs.Writing.{Source, HasDrawn, IsWriterNext, WriterAt, contiguous, room_to, shut_at, source_after, writer_after, writer_answered, writer_begun, writer_changed, writer_empties, writer_stepped, writer_told, lent_for, most_lent}
 use Rattle.piper_machine.proofs.logs.Joint.{Fits, Shares, writer_point}
-use Rattle.piper_machine.proofs.logs.WriterDraws.{ends-at, next-same, rests-drawn, rests-none, stored-none, stores-moved}
+use Rattle.piper_machine.proofs.logs.WriterDraws.{ends-at, next-same, stored-none, stores-moved}
 use Rattle.piper_machine.proofs.logs.Contexts.{none-of}
-use Rattle.piper_machine.proofs.logs.WriterOpens.{gives-so, lends-so, lends-these, closes-at, gives-within, shuts, shuts-not, shuts-at, stores-at}
-
-store-is : (point : WritePoint) (n : ℕ) → write_action point ≡ Action.StoreTail n → tail_store point ≡ n
-store-is point n e = grind arith
+use Rattle.piper_machine.proofs.logs.WriterOpens.{gives-so, lends-so, gives-within, shuts, shuts-not}
 
 source-stores-none : (point : WritePoint) → write_action point ≡ Action.CallSource → tail_store point ≡ 0
 source-stores-none point e = grind arith
-
-close-stores-none : (b : Bool) (point : WritePoint) → write_action point ≡ Action.StoreClosed b → tail_store point ≡ 0
-close-stores-none b point e = grind arith
 
 end-goes-on : (c start u n : ℕ) → start < c → u + n ≤ c → n ≤ c - offset_of c (start + u) → offset_of c (offset_of c (start + u) + n) ≡ offset_of c (start + (u + n))
 end-goes-on c start u n below fits flat = grind (arith, nat_tests)
@@ -40,12 +34,7 @@ module _ (capacity : ℕ) (r : ReaderAt) where
   goes-on : (w : WriterAt) (s : Words) (point : WritePoint) (calling : Calling) (from : Source) (given : List ℕ) (spare : ℕ)
       → length given + spare ≤ contiguous capacity w → (w.is_shut ≡ true → length given + spare ≡ 0) → tail_store point ≤ length given → writer_point calling.draw false point ≡ point
       → Fits capacity r w s → Fits capacity r (record w { point = point; calling = calling; source = from; given = given; spare = spare }) s
-  goes-on w s point calling from given spare lent shut stores draws fits = record {
-    counts = fits.counts;
-    reads = fits.reads;
-    writes = record { lent = lent; stores = stores; shut = shut; draws = draws };
-    shares = fits.shares;
-  }
+  goes-on w s point calling from given spare lent shut stores draws fits = grind arith
 
   -- it is lent and given the same there
   keeps-on : (w : WriterAt) (s : Words) (point : WritePoint) (calling : Calling) (from : Source) → tail_store point ≤ length w.given → writer_point calling.draw false point ≡ point
@@ -54,11 +43,7 @@ module _ (capacity : ℕ) (r : ReaderAt) where
 
   answer-fits : (w : WriterAt) (s : Words) (point : WritePoint) (calling : Calling) (is_fill : Bool) (answer : Option Answer) → ((a : Answer) → answer ≡ Some a → write_action point ≡ Action.Rest) → tail_store point ≤ length w.given → writer_point calling.draw false point ≡ point
       → Fits capacity r (at_rest w) s → Fits capacity r (writer_answered is_fill answer (record w { point = point; calling = calling })) s
-  answer-fits w s point calling is_fill None rests stores draws fits = keeps-on (at_rest w) s point calling w.source stores draws fits
-  answer-fits w s point calling false (Some a) rests stores draws fits = keeps-on (at_rest w) s point no_calling nothing stores (rests-drawn false point (rests a refl)) fits
-  answer-fits w s point calling true (Some a) rests stores draws fits =
-      let none = rests-none point (rests a refl) in
-      goes-on (at_rest w) s point no_calling nothing [] 0 (omega arith) (λ x. refl) (omega arith) (rests-drawn false point (rests a refl)) fits
+  answer-fits w s point calling is_fill answer rests stores draws fits = grind arith
 
   module _ (w : WriterAt) (s : Words) (fits : Fits capacity r w s) where
     rest-fits : Fits capacity r (at_rest w) s
@@ -86,35 +71,11 @@ module _ (capacity : ℕ) (r : ReaderAt) where
         steps-fit line action e drawn kept (omega (arith, fits.writes.stores)) rest
 
     pub begin-fits : (opening : Opening) → IsWriterNext capacity (began opening) w → Fits capacity r (writer_begun opening w) s
-    begin-fits (polls waker) next = keeps-on w s _ _ w.source (omega arith) refl fits
-    begin-fits (try_fills bytes) next = keeps-on w s _ _ _ (omega arith) refl fits
-    begin-fits try_fills_with next = keeps-on w s _ _ _ (omega arith) refl fits
-    begin-fits (poll_fills_bytes waker bytes) next = keeps-on w s _ _ _ (omega arith) refl fits
-    begin-fits (poll_fills waker) next = keeps-on w s _ _ _ (omega arith) refl fits
-    begin-fits (produces bytes) next =
-        goes-on w s _ w.calling w.source bytes 0 (let lends = lends-these capacity (length bytes) w next.1 in omega (arith, lends.at_most)) (λ x. let lends = lends-these capacity (length bytes) w next.1 in let none = lends.shut x in omega arith) (omega arith) (stores-at w.calling.draw false (length bytes)) fits
-    begin-fits closes next = keeps-on w s _ w.calling w.source (omega arith) (shuts-at w.calling.draw false) fits
-    begin-fits drops next = keeps-on w s _ w.calling w.source (omega arith) (closes-at w.calling.draw false) fits
-    begin-fits opening next = absurd next.1
+    begin-fits opening next = grind arith
 
     -- the head is seen where it is
     head-fits : (count : ℕ) → count ≡ s.head → Fits capacity r (at_rest (record w { head = count })) s
-    head-fits count e = record {
-      counts = record {
-        some = fits.counts.some;
-        reads = fits.counts.reads;
-        writes = fits.counts.writes;
-        reader_head = fits.counts.reader_head;
-        reader_tail = fits.counts.reader_tail;
-        writer_head = omega arith;
-        writer_tail = omega (arith, fits.counts.writer_head, fits.counts.writer_tail);
-        first = fits.counts.first;
-        last = fits.counts.last;
-      };
-      reads = fits.reads;
-      writes = record { lent = omega (arith, fits.writes.lent, fits.counts.writer_head, fits.counts.writer_tail); stores = omega arith; shut = fits.writes.shut; draws = refl };
-      shares = fits.shares;
-    }
+    head-fits count e = grind arith
 
     -- the tail goes past the bytes that are given
     tail-fits : (bytes : List ℕ) → bytes ≡ w.given → Fits capacity r (at_rest (record w { tail = w.tail + length bytes; end = offset_of capacity (w.end + length bytes); given = [] })) (record s { sent = s.sent ++ bytes })
@@ -148,29 +109,16 @@ module _ (capacity : ℕ) (r : ReaderAt) where
 
     -- what both share besides the counts
     share-fits : (waits : Bool) (s' : Words) → s'.sent ≡ s.sent → s'.head ≡ s.head → Shares w.is_shut s'.is_closed r.may_wait waits s'.reader_slot s'.writer_slot → Fits capacity r (at_rest (record w { may_wait = waits })) s'
-    share-fits waits s' sent head shares = record {
-      counts = rw (sent, head) fits.counts;
-      reads = fits.reads;
-      writes = record { lent = fits.writes.lent; stores = omega arith; shut = fits.writes.shut; draws = refl };
-      shares = shares;
-    }
+    share-fits waits s' sent head shares = grind arith
 
     closed-fits : Fits capacity r (at_rest w) (record s { is_closed = true })
     closed-fits = share-fits w.may_wait (record s { is_closed = true }) refl refl (record { closed = λ x. refl; reader_rests = fits.shares.reader_rests; writer_rests = fits.shares.writer_rests })
 
     shut-fits : Fits capacity r (record (at_rest w) { is_shut = true; given = []; spare = 0 }) (record s { is_closed = true })
-    shut-fits = record {
-      counts = fits.counts;
-      reads = fits.reads;
-      writes = record { lent = omega arith; stores = omega arith; shut = λ x. refl; draws = refl };
-      shares = record { closed = λ x. refl; reader_rests = fits.shares.reader_rests; writer_rests = fits.shares.writer_rests };
-    }
+    shut-fits = grind arith
 
     close-fits : (b : Bool) → write_action w.point ≡ Action.StoreClosed b → Fits capacity r (at_rest (record (shut_at w.point w) { may_wait = w.may_wait })) (record s { is_closed = true }) → Fits capacity r (writer_after capacity stored_closed w) (words_after stored_closed s)
-    close-fits b e rest =
-        let moved = stores-moved capacity (room_to capacity w) w.point (writer_told capacity stored_closed w) in
-        let none = close-stores-none b w.point e in
-        steps-fit stored_closed (Action.StoreClosed b) e (λ x. absurd cc) refl (omega arith) rest
+    close-fits b e rest = grind arith
 
     -- a line by which a slot was found empty, or emptied
     empties-fit : (line : Line) (action : Action) → write_action w.point ≡ action → Fits capacity r (writer_empties capacity action line w) (words_after line s) → Fits capacity r (writer_empties capacity (write_action w.point) line w) (words_after line s)
@@ -178,12 +126,7 @@ module _ (capacity : ℕ) (r : ReaderAt) where
 
     -- before it registers
     withdraws-fit : (slot : Option ℕ) → slot ≡ None → Fits capacity r (record w { may_wait = false }) (record s { writer_slot = slot })
-    withdraws-fit slot none = record {
-      counts = fits.counts;
-      reads = fits.reads;
-      writes = record { lent = fits.writes.lent; stores = fits.writes.stores; shut = fits.writes.shut; draws = fits.writes.draws };
-      shares = record { closed = fits.shares.closed; reader_rests = fits.shares.reader_rests; writer_rests = λ x. none };
-    }
+    withdraws-fit slot none = grind arith
 
     pub writer-fits : (line : Line) → IsWriterNext capacity line w → FindsCount line s → Fits capacity r (writer_after capacity line w) (words_after line s)
     writer-fits (began opening) next finds = begin-fits opening next

@@ -14,7 +14,7 @@ use Rattle.piper_machine.specs.Source.{bytes_of}
 use Rattle.piper_machine.specs.Step.{MayOffer, lent_at as lent_to}
 use Rattle.piper_machine.specs.logs.OneList.{Words}
 use Rattle.piper_machine.specs.logs.Reading.{ReaderAt}
-use Rattle.piper_machine.specs.logs.Writing.{Source, own, these, nothing, source_of, MayGive, WriterAt, contiguous, shut_at, source_after, lent_for, most_lent, lendable, unless}
+use Rattle.piper_machine.specs.logs.Writing.{Source, own, these, nothing, source_of, MayGive, WriterAt, shut_at, source_after, lent_for, most_lent, lendable}
 use Rattle.piper_machine.proofs.logs.Fitting.{length-unread}
 use Rattle.piper_machine.proofs.logs.Joint.{Gives, MayLend, Chance, Fits, number_of, pipe_at, source_at, writer_point}
 
@@ -41,20 +41,13 @@ pub offers : (point : WritePoint) (lent before : List ℕ) → write_action poin
 offers point lent before e = grind arith
 
 pub may-offer : (point : WritePoint) (acts : List SourceAct) (lent : List ℕ) (p : Pipe) → ((b : ℕ) (bs : List ℕ) (rest : List SourceAct) → acts ≡ SourceAct.Bytes (b ∷ bs) ∷ rest → Lendable MOST_A_ROUND p (length lent)) → MayOffer point acts lent p
-may-offer (WritePoint.CallSource form sum) (SourceAct.Bytes (b ∷ bs) ∷ acts) lent p lendable = lendable b bs acts refl
-may-offer point acts lent p lendable = tt
+may-offer point acts lent p lendable = grind arith
 
 pub may-go : (point : WritePoint) (acts : List SourceAct) (lent : List ℕ) (p : Pipe) → (write_action point ≡ Action.CallSource → ⊥) → MayOffer point acts lent p
-may-go (WritePoint.CallSource form sum) acts lent p other = absurd (other refl)
-may-go point acts lent p other = tt
+may-go point acts lent p other = grind arith
 
 source_at-point : (point : WritePoint) → write_action point ≡ Action.CallSource → (form : Form) × (sum : ℕ) × (point ≡ WritePoint.CallSource form sum)
-source_at-point (WritePoint.CallSource form sum) e = (form, sum, refl)
-source_at-point (WritePoint.StoreClosed AfterWrite.WakeWriter) e = absurd cc
-source_at-point (WritePoint.StoreClosed AfterWrite.Answer) e = absurd cc
-source_at-point (WritePoint.StoreClosed AfterWrite.Drop) e = absurd cc
-source_at-point (WritePoint.StoreClosed (AfterWrite.Round form sum)) e = absurd cc
-source_at-point point e = absurd cc
+source_at-point point e = grind arith
 
 pub is-source : (point : WritePoint) → write_action point ≡ Action.CallSource → (form : Form) × (sum : ℕ) × (point ≡ WritePoint.CallSource form sum)
 is-source = source_at-point
@@ -62,9 +55,7 @@ is-source = source_at-point
 -- what may be lent by the log, may be lent by the machine
 module _ (capacity : ℕ) (r : ReaderAt) (w : WriterAt) (s : Words) (k : Chance) (acts : List DestAct) (l : Chance) (sources : List SourceAct) (fits : Fits capacity r w s) where
   pub end-below : w.end < capacity
-  end-below =
-      let below : offset_of capacity (r.start + (length s.sent - s.head)) < capacity = grind (arith, nat_tests, fits.counts.first, fits.counts.writes, fits.counts.writer_tail, fits.counts.writer_head) in
-      omega (arith, fits.counts.last)
+  end-below = grind arith
 
   pub may-lend : (most n : ℕ) → MayLend capacity most w n → Lendable most (pipe_at capacity r w s k acts l sources) n
   may-lend most n may =
@@ -79,9 +70,7 @@ module _ (capacity : ℕ) (r : ReaderAt) (w : WriterAt) (s : Words) (k : Chance)
       }
 
 pub gives-within : (lent : ℕ) (from : Source) (bytes : List ℕ) → Gives lent from bytes → length bytes ≤ lent
-gives-within lent own bytes may = may
-gives-within lent nothing bytes may = let none : length bytes ≡ 0 = ap length may in omega arith
-gives-within lent (these all) bytes may = omega (arith, may.0)
+gives-within lent from bytes may = grind arith
 
 take-all : (xs : List ℕ) → take (length xs) xs ≡ xs
 take-all xs = ap (take (length xs)) (sym (append-nil xs)) ∙ take-append_seam xs []
@@ -96,9 +85,7 @@ rest-is bytes acts = grind arith
 -- what a source that is lent as many places gives, and what is left of it
 module _ (lent : ℕ) (sources : List SourceAct) (bytes : List ℕ) where
   pub given-is : (from : Source) → Gives lent from bytes → given lent (source_at from (SourceAct.Bytes bytes ∷ sources)) ≡ Ok (length bytes)
-  given-is own may = ap Ok (let all : min lent (length bytes) ≡ length bytes = omega arith in all)
-  given-is nothing may = ap Ok (sym (ap length may))
-  given-is (these all) may = ap Ok (sym may.0)
+  given-is from may = grind arith
 
   pub bytes-are : (from : Source) → Gives lent from bytes → take (length bytes) (bytes_of (source_at from (SourceAct.Bytes bytes ∷ sources))) ≡ bytes
   bytes-are own may = take-all bytes
@@ -111,43 +98,22 @@ module _ (lent : ℕ) (sources : List SourceAct) (bytes : List ℕ) where
   left-is (these all) = rest-is (drop (length bytes) all) sources
 
 pub gives-none : (lent : ℕ) (from : Source) → Gives lent from [] → given 0 (source_at from []) ≡ Ok 0
-gives-none lent own may = refl
-gives-none lent nothing may = refl
-gives-none lent (these all) may = ap Ok (let none : min 0 (length all) ≡ 0 = omega arith in none)
+gives-none lent from may = grind arith
 
 -- if bytes are left that are not given, nothing was lent
 pub lends-none : (lent : ℕ) (from : Source) (b : ℕ) (bs : List ℕ) (rest : List SourceAct) → Gives lent from [] → source_at from [] ≡ SourceAct.Bytes (b ∷ bs) ∷ rest → lent ≡ 0
-lends-none lent own b bs rest may e = absurd cc
-lends-none lent nothing b bs rest may e = absurd cc
-lends-none lent (these all) b bs rest may e =
-    let same : length all ≡ length (b ∷ bs) = ap (λ (x : List SourceAct). length (bytes_of x)) e in
-    omega (arith, may.0)
+lends-none lent from b bs rest may e = grind arith
 
 -- what a log says of a lend, in the machine's words
 
 taken-short : (n : ℕ) (xs ys : List ℕ) → ys ≡ take n xs → length ys ≤ length xs
 taken-short n xs ys e = let long : length ys ≡ min n (length xs) = ap length e ∙ length-take n xs in omega arith
 
-open-pipe : (shut : Bool) (n m : ℕ) → n ≤ unless shut m → (n ≤ m) × (shut ≡ true → n ≡ 0)
-open-pipe true n m within = (omega arith, λ x. omega arith)
-open-pipe false n m within = (within, λ x. absurd cc)
-
-open-least : (shut : Bool) (m : ℕ) → shut ≡ false → unless shut m ≡ m
-open-least shut m e = grind arith
-
 pub lends-these : (capacity n : ℕ) (w : WriterAt) → n ≤ lendable capacity w → MayLend capacity n w n
-lends-these capacity n w within =
-    let parts = open-pipe w.is_shut n (contiguous capacity w) within in
-    record { at_most = omega (arith, parts.0); at_least = λ is_open. omega arith; shut = parts.1 }
+lends-these capacity n w within = grind arith
 
 lends-most : (capacity n : ℕ) (w : WriterAt) → n ≤ most_lent capacity w → (w.is_shut ≡ false → min 4096 (most_lent capacity w) ≤ n) → MayLend capacity MOST_A_ROUND w n
-lends-most capacity n w within least =
-    let parts = open-pipe w.is_shut n (contiguous capacity w) (omega arith) in
-    record {
-      at_most = omega (arith, parts.0);
-      at_least = λ is_open. let same = open-least w.is_shut (contiguous capacity w) is_open in let bound = least is_open in omega arith;
-      shut = parts.1;
-    }
+lends-most capacity n w within least = grind arith
 
 module _ (capacity : ℕ) (w : WriterAt) (bytes : List ℕ) where
   lends-for : (b : Bool) (all : List ℕ) → (length bytes == length all) ≡ b → MayGive (most_lent capacity w) (these all) bytes

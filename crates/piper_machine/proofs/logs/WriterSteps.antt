@@ -5,7 +5,6 @@ use Rattle.std.proofs.Math.Seq.{take-append_seam, drop-append_seam}
 use Rattle.piper_machine.specs.Types.{Seen, Answer, Action, Found, Side, WritePoint, Event, Luck, DestAct, SourceAct, Reader, Writer, Go, Looked, Published}
 use Rattle.piper_protocol.specs.Table.{Next, ends_fill, write_action, write_after}
 use Rattle.piper_machine.specs.Log.{answer_event}
-use Rattle.piper_machine.specs.Open.{no_call}
 use Rattle.piper_machine.specs.Action.{found_by, logged_of, performed}
 use Rattle.piper_machine.specs.Pipe.{Pipe}
 use Rattle.piper_machine.specs.Sound.{IsSound}
@@ -26,9 +25,6 @@ use Rattle.piper_machine.proofs.logs.WriterDraws.{action-same, ends-at, fill-sam
 use Rattle.piper_machine.proofs.logs.WriterDraws as W
 use Rattle.piper_machine.proofs.logs.WriterOpens.{may-go, shuts, shuts-not}
 
-rest-same : (draw : Option Bool) (b : Bool) (point : WritePoint) → write_action point ≡ Action.Rest → writer_point draw b point ≡ point
-rest-same draw b point e = grind arith
-
 -- the pipe after a step that changed it so and leads there
 abbrev filled : Bool → Pipe → Next WritePoint → Pipe
 filled is_fill p next = record p {
@@ -42,14 +38,7 @@ module _ (capacity : ℕ) (r : ReaderAt) (k : Chance) (acts : List DestAct) wher
   answers : (w : WriterAt) (s : Words) (l : Chance) (sources : List SourceAct) (old point : WritePoint) (answer : Option Answer) (is_fill : Bool) → ((a : Answer) → answer ≡ Some a → write_action point ≡ Action.Rest)
       → filled is_fill (record (pipe_at capacity r w s k acts l sources) { writer = old }) (writer_next w.calling.draw l.draws (record { point = point; answer = answer }))
       ≡ pipe_at capacity r (writer_answered is_fill answer (record w { point = point })) s k acts l sources
-  answers w s l sources old point None true rests = refl
-  answers w s l sources old point None false rests = refl
-  answers w s l sources old point (Some a) true rests =
-      ap (λ (x : WritePoint). record (pipe_at capacity r w s k acts l sources) { writer = x; writer_call = no_call; source = []; lent = [] })
-      (rest-same w.calling.draw l.draws point (rests a refl) ∙ sym (rest-same None l.draws point (rests a refl)))
-  answers w s l sources old point (Some a) false rests =
-      ap (λ (x : WritePoint). record (pipe_at capacity r w s k acts l sources) { writer = x; writer_call = no_call; source = [] })
-      (rest-same w.calling.draw l.draws point (rests a refl) ∙ sym (rest-same None l.draws point (rests a refl)))
+  answers w s l sources old point answer is_fill rests = grind arith
 
   module _ (w : WriterAt) (s : Words) where
     abbrev pub at_first : Chance → List SourceAct → Pipe

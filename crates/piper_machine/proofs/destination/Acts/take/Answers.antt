@@ -1,4 +1,4 @@
-use Rattle.std.proofs.Common.{sym}
+use Rattle.std.proofs.Common.{sym, arith}
 use Rattle.piper_machine.proofs.Draining.{next-act}
 use Rattle.piper_machine.proofs.destination.Acts.take.Goals as goal
 use Rattle.piper_machine.proofs.destination.Acts.take.Goals.{in-Some-Take, in-Some-Fail, in-None}

@@ -3,7 +3,7 @@ use Rattle.piper_machine.specs.Types.{DestAct, Acts}
 use Rattle.piper_machine.specs.Round.{found_of, taken_by_acts}
 use Rattle.piper_machine.specs.Action.{round_count}
 use Rattle.piper_machine.specs.Step.{drain_opened}
-use Rattle.piper_machine.proofs.Draining.{IsGone, IsGoneOn, opened, goes-on, called, goes, ends, wake-room}
+use Rattle.piper_machine.proofs.Draining.{IsGone, IsGoneOn, opened, goes-on, called, goes, wake-room}
 use Rattle.piper_machine.proofs.machine.Machine.drain_script.Goals as goal
 use Rattle.piper_machine.proofs.machine.Machine.drain_script.Goals.{Joined-action, in-CallDestination, in_default}
 
@@ -46,6 +46,4 @@ pub steps-smaller : goal.steps-smaller
 steps-smaller c = (goes (gone (goal.at.steps-smaller c).Joined-action) c.in-None.is).1
 
 pub returns-in-Some : goal.returns-in-Some
-returns-in-Some c =
-    let ended = ends (gone (goal.at.returns-in-Some c).Joined-action) c.in-Some.is in
-    record { answer = ended.answer_is; after = ended.after }
+returns-in-Some c = grind arith

@@ -4,14 +4,12 @@ use Rattle.piper_machine.specs.Types.{Answer, Action, Slice}
 use Rattle.piper_protocol.specs.Table.{read_action}
 use Rattle.piper_machine.specs.Action.{round_count}
 use Rattle.piper_machine.specs.Step.{drain_opened}
-use Rattle.piper_machine.proofs.Draining.{IsGone, IsReadOn, IsCopied, opened-slice, goes-along, goes, ends, takes-in, took, took-none, copies, wake-room, calls-store, drained-bytes}
+use Rattle.piper_machine.proofs.Draining.{IsGone, IsReadOn, IsCopied, goes-along, goes, ends, takes-in, took, took-none, copies, wake-room, calls-store, drained-bytes}
 use Rattle.piper_machine.proofs.machine.Machine.drain_slice.Goals as goal
 use Rattle.piper_machine.proofs.machine.Machine.drain_slice.Goals.{After-reader_goes, in-CallDestination, in_default}
 
 pub steps-init : goal.steps-init
-steps-init c =
-    let opened = opened-slice c.args.context (length c.args.dest.now) c.args.self.now c.open_drain.new.self c.open_drain.ensures.sound c.requires.woken c.open_drain.ensures.after in
-    record { within = omega arith; known = omega arith; bytes = refl; read = opened.1; draining = opened.0 }
+steps-init c = grind arith
 
 pub hear-requires : goal.hear-requires
 hear-requires c =

@@ -1,10 +1,9 @@
-use Rattle.std.proofs.Common.{◌≡◌, ◌∙◌, ℕ, List, length, take, min, sym, ap}
+use Rattle.std.proofs.Common.{◌≡◌, ◌∙◌, ℕ, List, length, take, min, sym, ap, arith}
 use Rattle.std.proofs.lemmas.List.{take_rest}
-use Rattle.piper_machine.specs.Types.{SourceAct}
 use Rattle.piper_machine.specs.Round.{given, unspent}
 use Rattle.piper_machine.specs.Step.{fill_opened}
 use Rattle.piper_machine.proofs.Sources.{lent-anew}
-use Rattle.piper_machine.proofs.Filling.{IsGone, opened, goes-on, goes, ends, gave, gives, fails, wake-room}
+use Rattle.piper_machine.proofs.Filling.{IsGone, goes-on, goes, ends, gave, gives, fails, wake-room}
 use Rattle.piper_machine.proofs.machine.Machine.fill_whole.Goals as goal
 use Rattle.piper_machine.proofs.machine.Machine.fill_whole.Goals.{Joined-action, in-CallSource, then-is_failing, else-is_failing, in_default}
 
@@ -38,10 +37,7 @@ gone c =
     }
 
 pub steps-init : goal.steps-init
-steps-init c =
-    let p = c.args.self.now in
-    let acts = unspent c.args.bytes.now c.args.acts.now in
-    record { filling = opened c.args.context acts p c.open_fill-2.new.self c.open_fill-2.ensures.sound c.requires.woken (c.open_fill-2.ensures.after ∙ ap (λ (held : List SourceAct). fill_opened c.args.context held p) c.none.ensures) }
+steps-init c = grind arith
 
 pub source_called-answer-requires-clause-lent : goal.source_called-answer-requires-clause-lent
 source_called-answer-requires-clause-lent c = lent-anew c.steps.self c.write_round-count.new.self c.write_round-count.ensures.lent c.write_round-count.ensures.after

@@ -5,10 +5,7 @@ use Rattle.piper_machine.proofs.Sources.{source-called}
 use Rattle.piper_machine.proofs.machine.Machine.offer_source.Goals as goal
 
 pub returns-clause-lent : goal.returns-clause-lent
-returns-clause-lent c =
-    let long = ap (λ (p : Pipe). length p.lent) c.self-2.view_is in
-    let lent = c.write_round-count.ensures.lent in
-    rw (← c.self.view_is) (rw long (record { at_most = lent.at_most; at_least = lent.at_least; some = lent.some; shut = lent.shut }))
+returns-clause-lent c = grind arith
 
 pub returns-clause-after : goal.returns-clause-after
 returns-clause-after c =

@@ -1,22 +1,12 @@
-use Rattle.std.proofs.Common.{◌∙◌, ap}
+use Rattle.std.proofs.Common.{◌∙◌, ap, arith}
 use Rattle.piper_machine.specs.Types.{Call}
-use Rattle.piper_protocol.specs.Answer.{copied_in}
-use Rattle.piper_machine.specs.Look.{context}
-use Rattle.piper_machine.specs.Alone.{Ended}
-use Rattle.piper_machine.proofs.Resting.{drains-to}
 use Rattle.piper_machine.proofs.machine.Machine.r_poll_drain.Goals as goal
 
 pub returns-clause-answer : goal.returns-clause-answer
-returns-clause-answer c =
-    let begins = c.begin_whole.ensures in
-    let ended = drains-to (context c.args.waker c.args.luck) c.args.acts.now c.args.self.now c.begin_whole.new.self begins.after begins.rests in
-    c.copied.ensures ∙ ap copied_in c.drain_script.ensures.answer ∙ ap (λ (e : Ended). copied_in e.answer) ended
+returns-clause-answer c = grind arith
 
 pub returns-clause-after : goal.returns-clause-after
-returns-clause-after c =
-    let begins = c.begin_whole.ensures in
-    let ended = drains-to (context c.args.waker c.args.luck) c.args.acts.now c.args.self.now c.begin_whole.new.self begins.after begins.rests in
-    c.drain_script.ensures.after ∙ ap (λ (e : Ended). e.pipe) ended
+returns-clause-after c = grind arith
 
 pub returns-clause-by_steps : goal.returns-clause-by_steps
 returns-clause-by_steps c = c.begin_whole.ensures.by_steps (Call.PollDrain c.args.waker c.args.luck c.args.acts.now)

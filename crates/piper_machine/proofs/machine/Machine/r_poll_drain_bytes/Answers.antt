@@ -1,23 +1,15 @@
-use Rattle.std.proofs.Common.{◌≡◌, ◌∙◌, List, ℕ, length, Some, sym, ap, subst}
+use Rattle.std.proofs.Common.{◌≡◌, ◌∙◌, List, ℕ, length, Some, sym, ap, subst, arith}
 use Rattle.piper_machine.specs.Types.{Call}
-use Rattle.piper_protocol.specs.Answer.{copied_in}
 use Rattle.piper_machine.specs.Look.{context}
 use Rattle.piper_machine.specs.Copy.{drain, count_of}
 use Rattle.piper_machine.specs.Alone.{Ended}
 use Rattle.piper_machine.specs.BySteps.{without_failure}
 use Rattle.piper_machine.proofs.Draining.{IsCounted, drain-counts, counted-bytes}
-use Rattle.piper_machine.proofs.Resting.{drains, without_failure-unfailing}
+use Rattle.piper_machine.proofs.Resting.{drains}
 use Rattle.piper_machine.proofs.machine.Machine.r_poll_drain_bytes.Goals as goal
 
 pub returns-clause-answer : goal.returns-clause-answer
-returns-clause-answer c =
-    let cx = context c.args.waker c.args.luck in
-    let size = length c.args.dest.now in
-    let begins = c.begin_whole.ensures in
-    let ended = drains cx size c.args.self.now c.begin_whole.new.self begins.after begins.rests in
-    c.without_failure.ensures
-    ∙ ap without_failure (c.copied.ensures ∙ ap copied_in c.drain_slice.ensures.answer ∙ ap (λ (e : Ended). copied_in e.answer) ended)
-    ∙ without_failure-unfailing (drain (Some cx) size c.args.self.now).answer
+returns-clause-answer c = grind arith
 
 pub returns-clause-bytes : goal.returns-clause-bytes
 returns-clause-bytes c =
@@ -34,10 +26,7 @@ returns-clause-bytes c =
     counted-bytes (count_of c.without_failure.result) p.unread c.drain_slice.new.self.unread c.args.dest.now c.drain_slice.new.dest is (rw begins.after at c.drain_slice.ensures.bytes)
 
 pub returns-clause-after : goal.returns-clause-after
-returns-clause-after c =
-    let begins = c.begin_whole.ensures in
-    let ended = drains (context c.args.waker c.args.luck) (length c.args.dest.now) c.args.self.now c.begin_whole.new.self begins.after begins.rests in
-    c.drain_slice.ensures.after ∙ ap (λ (e : Ended). e.pipe) ended
+returns-clause-after c = grind arith
 
 pub returns-clause-by_steps : goal.returns-clause-by_steps
 returns-clause-by_steps c = c.begin_whole.ensures.by_steps (Call.PollDrainBytes c.args.waker c.args.luck (length c.args.dest.now))

@@ -1,4 +1,4 @@
-use Rattle.std.proofs.Common.{◌≡◌, ◌∙◌, List, ℕ, length, None, sym, ap, subst}
+use Rattle.std.proofs.Common.{◌≡◌, ◌∙◌, List, ℕ, length, None, sym, ap, subst, arith}
 use Rattle.piper_machine.specs.Types.{Call}
 use Rattle.piper_protocol.specs.Answer.{count_in}
 use Rattle.piper_machine.specs.Copy.{try_drain, count_of}
@@ -8,10 +8,7 @@ use Rattle.piper_machine.proofs.Resting.{try_drains}
 use Rattle.piper_machine.proofs.machine.Machine.r_try_drain.Goals as goal
 
 pub returns-clause-count : goal.returns-clause-count
-returns-clause-count c =
-    let begins = c.begin_whole.ensures in
-    let ended = try_drains (length c.args.dest.now) c.args.self.now c.begin_whole.new.self begins.after begins.rests in
-    c.count.ensures ∙ ap count_in c.drain_slice.ensures.answer ∙ ap (λ (e : Ended). count_in e.answer) ended
+returns-clause-count c = grind arith
 
 pub returns-clause-bytes : goal.returns-clause-bytes
 returns-clause-bytes c =
@@ -27,10 +24,7 @@ returns-clause-bytes c =
     counted-bytes c.count.result p.unread c.drain_slice.new.self.unread c.args.dest.now c.drain_slice.new.dest is (rw begins.after at c.drain_slice.ensures.bytes)
 
 pub returns-clause-after : goal.returns-clause-after
-returns-clause-after c =
-    let begins = c.begin_whole.ensures in
-    let ended = try_drains (length c.args.dest.now) c.args.self.now c.begin_whole.new.self begins.after begins.rests in
-    c.drain_slice.ensures.after ∙ ap (λ (e : Ended). e.pipe) ended
+returns-clause-after c = grind arith
 
 pub returns-clause-by_steps : goal.returns-clause-by_steps
 returns-clause-by_steps c = c.begin_whole.ensures.by_steps (Call.TryDrain (length c.args.dest.now))

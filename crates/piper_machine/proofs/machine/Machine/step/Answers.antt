@@ -1,11 +1,10 @@
-use Rattle.std.proofs.Common.{rules, Result, Ok, Err, OnOk}
+use Rattle.std.proofs.Common.{rules, Result, Ok, Err, OnOk, arith}
 use Rattle.piper_machine.proofs.Disjointness.{tried-keeps}
 use Rattle.piper_machine.proofs.Soundness.{sound}
 use Rattle.piper_machine.proofs.machine.Machine.step.Goals as goal
 
 on_ok : {A E : Type 0} (r : Result A E) (P : Type 0) → P → OnOk r P
-on_ok (Ok x) P holds = holds
-on_ok (Err e) P holds = tt
+on_ok r P holds = grind arith
 
 pub returns-clause-made : goal.returns-clause-made
 returns-clause-made c = search rules

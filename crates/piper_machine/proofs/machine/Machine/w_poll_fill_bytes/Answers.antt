@@ -1,4 +1,4 @@
-use Rattle.std.proofs.Common.{◌∙◌, Some, ap}
+use Rattle.std.proofs.Common.{◌∙◌, Some, ap, arith}
 use Rattle.piper_machine.specs.Types.{Call}
 use Rattle.piper_protocol.specs.Answer.{copied_in}
 use Rattle.piper_machine.specs.Look.{context}

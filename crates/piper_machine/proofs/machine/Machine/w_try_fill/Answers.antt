@@ -1,4 +1,4 @@
-use Rattle.std.proofs.Common.{◌∙◌, ap}
+use Rattle.std.proofs.Common.{◌∙◌, ap, arith}
 use Rattle.piper_machine.specs.Types.{Call}
 use Rattle.piper_protocol.specs.Answer.{count_in}
 use Rattle.piper_machine.specs.Alone.{Ended}

@@ -1,22 +1,13 @@
-use Rattle.std.proofs.Common.{◌∙◌, ap, true}
+use Rattle.std.proofs.Common.{◌∙◌, ap, true, arith}
 use Rattle.piper_machine.specs.Types.{Action, Found, Writer}
 use Rattle.piper_machine.specs.Action.{found_by, performed}
 use Rattle.piper_machine.specs.Pipe.{Pipe}
-use Rattle.piper_machine.specs.Step.{round_answer, round_left}
+use Rattle.piper_machine.specs.Step.{round_answer}
 use Rattle.piper_machine.proofs.Making.{writer-makes}
 use Rattle.piper_machine.proofs.machine.Machine.writer_goes.Goals as goal
 
 pub returns-in_default-clause-after : goal.returns-in_default-clause-after
-returns-in_default-clause-after c =
-    let p = c.args.self.now in
-    let finds = c.writer_finds-found.ensures in
-    let found = c.writer_finds-found.result in
-    let makes = writer-makes p (λ is. c.in_default.not-LoadIndex (c.requires ∙ is)) (λ n is. c.in_default.not-StoreTail n (c.requires ∙ is)) (λ is. c.in_default.not-StoreClosed true (c.requires ∙ is)) (λ is. c.in_default.not-CallSource (c.requires ∙ is)) in
-    c.writer_found.ensures.after
-    ∙ ap (λ (q : Pipe). round_left found q) finds.after
-    ∙ ap (λ (f : Found). round_left f (performed Writer c.args.action p)) finds.found
-    ∙ ap (λ (action : Action). round_left (found_by Writer action p) (performed Writer action p)) c.requires
-    ∙ makes.after c.writer_found.new.self.lent
+returns-in_default-clause-after c = grind arith
 
 pub returns-in_default-clause-answer : goal.returns-in_default-clause-answer
 returns-in_default-clause-answer c =
