@@ -1,6 +1,7 @@
 -- What remains of a scripted copy after one act.
-use Rattle.std.proofs.Common.{◌≡◌, ℕ, ◌+◌, ◌-◌, ◌<◌, ◌≤◌, min, List, [], ◌∷◌, ◌++◌, take, drop, length, Bool, true, false, ◌==◌, if◌then◌else◌, Result, Ok, Err, nat_lt, refl, sym, ap, ◌∙◌, arith, append_assoc, length-append, length-take-le}
-use Rattle.std.proofs.lemmas.List.{take-append-le, take-append-drop}
+use Rattle.std.proofs.lemmas.Grind.{common_steps}
+use Rattle.std.proofs.Common.{◌≡◌, ℕ, ◌+◌, ◌-◌, ◌<◌, ◌≤◌, min, List, ◌∷◌, ◌++◌, take, drop, length, Bool, true, false, ◌==◌, if◌then◌else◌, Result, Ok, Err, nat_lt, refl, sym, ap, ◌∙◌, arith, append_assoc, length-append, length-take-le, []}
+use Rattle.std.proofs.lemmas.List.{take-append-drop}
 use Rattle.std.proofs.Math.Seq.{take-append-add}
 use Rattle.std.proofs.lemmas.Bool.Decides.{nat_tests}
 use Rattle.piper_machine.specs.Types.{SourceAct, Failed, Ready}
@@ -8,14 +9,7 @@ use Rattle.piper_machine.specs.Pipe.{Pipe}
 use Rattle.piper_machine.specs.Copy.{Copied, answered, filled}
 use Rattle.piper_machine.specs.Scripted.{bytes_given, ends_in_failure, source_answer, fill_moves_more}
 use Rattle.piper_machine.specs.Round.{unspent}
-use Rattle.piper_machine.proofs.Rounds.{filled-filled, filled_nothing}
-
--- what a source gives fits, or does not
-fits : (room count : ℕ) → count ≤ room → nat_lt room count ≡ false
-fits room count within = grind (arith, nat_tests)
-
-passes : (room count : ℕ) → room < count → nat_lt room count ≡ true
-passes room count past = grind (arith, nat_tests)
+use Rattle.piper_machine.proofs.Rounds.{filled-filled}
 
 past-rest : (room first more : ℕ) → first ≤ room → nat_lt room (first + more) ≡ nat_lt (room - first) more
 past-rest room first more within = grind (arith, nat_tests)
@@ -76,26 +70,12 @@ give-part sum n bytes acts p some within fitting =
 pub give-ends : (sum n : ℕ) (bytes : List ℕ) (acts : List SourceAct) (p : Pipe) → (length bytes ≡ 0 → ⊥) → n ≡ min (length bytes) p.room → n < length bytes
     → fill_moves_more sum (SourceAct.Bytes bytes ∷ acts) p ≡ answered (Ready (Ok (sum + n))) (filled (take n bytes) p)
 unfolding moved_by
-give-ends sum n bytes acts p some is short =
-    let more = bytes_given acts in
-    let long = length-append bytes more in
-    let count : min (length (bytes ++ more)) p.room ≡ n = omega arith in
-    by_bytes sum (SourceAct.Bytes bytes ∷ acts) p
-    ∙ ap (λ (given : List ℕ). moved_by sum given (ends_in_failure (SourceAct.Bytes bytes ∷ acts)) p) (bytes_given-cons bytes acts some)
-    ∙ ap (λ (b : Bool). answered (Ready (source_answer b (ends_in_failure (SourceAct.Bytes bytes ∷ acts)) (sum + min (length (bytes ++ more)) p.room))) (filled (take (min (length (bytes ++ more)) p.room) (bytes ++ more)) p)) (passes p.room (length (bytes ++ more)) (omega arith))
-    ∙ ap (λ (j : ℕ). answered (Ready (Ok (sum + j))) (filled (take j (bytes ++ more)) p)) count
-    ∙ ap (λ (given : List ℕ). answered (Ready (Ok (sum + n))) (filled given p)) (take-append-le n bytes more (omega arith))
+give-ends sum n bytes acts p some is short = grind (arith, common_steps)
 
 -- nothing more is given
 nothing_given : (sum : ℕ) (fails : Bool) (p : Pipe) → p.lent ≡ [] → moved_by sum [] fails p ≡ answered (Ready (source_answer false fails sum)) p
 unfolding moved_by
-nothing_given sum fails p unlent =
-    let none : min 0 p.room ≡ 0 = omega arith in
-    let same : sum + 0 ≡ sum = omega arith in
-    ap (λ (b : Bool). answered (Ready (source_answer b fails (sum + min 0 p.room))) (filled (take (min 0 p.room) []) p)) (fits p.room 0 (omega arith))
-    ∙ ap (λ (j : ℕ). answered (Ready (source_answer false fails (sum + j))) (filled (take j []) p)) none
-    ∙ ap (λ (j : ℕ). answered (Ready (source_answer false fails j)) (filled [] p)) same
-    ∙ ap (λ (q : Pipe). answered (Ready (source_answer false fails sum)) q) (filled_nothing p unlent)
+nothing_given sum fails p unlent = grind (arith, common_steps)
 
 pub give-nothing : (sum : ℕ) (acts : List SourceAct) (p : Pipe) → p.lent ≡ [] → fill_moves_more sum (SourceAct.Bytes [] ∷ acts) p ≡ answered (Ready (Ok sum)) p
 give-nothing sum acts p unlent = by_bytes sum (SourceAct.Bytes [] ∷ acts) p ∙ nothing_given sum false p unlent

@@ -1,6 +1,7 @@
 -- After an end that was found: where the reader can be, what its steps log and answer, and what it
 -- has seen of the close.
-use Rattle.std.proofs.Common.{◌≡◌, inl, inr, ℕ, zero, suc, List, [], length, take, Bool, true, false, Option, None, Some, ◌==◌, is_some, Result, Ok, Err, refl, sym, ◌∙◌, arith}
+use Rattle.std.proofs.lemmas.Grind.{common_steps}
+use Rattle.std.proofs.Common.{◌≡◌, inl, inr, ℕ, List, length, take, Bool, true, false, Option, None, Some, ◌==◌, is_some, Result, refl, sym, ◌∙◌, arith, []}
 use Rattle.std.specs.Bool.{⊤}
 use Rattle.piper_machine.specs.Types.{Side, Query, Answer, Event, Context, Failed, Form, Purpose, AfterRead, ReadPoint, Reader}
 use Rattle.piper_machine.specs.Open.{is_granted, is_yield_granted}
@@ -11,7 +12,7 @@ use Rattle.piper_machine.specs.Action.{logged_of, registration_of, wake_of, yiel
 use Rattle.piper_machine.specs.Step.{went}
 use Rattle.piper_machine.specs.Round.{taken, found_of}
 use Rattle.piper_machine.specs.End.{saw_closed_from}
-use Rattle.piper_machine.proofs.Ends.{found_at_tail, ended_from, IsFinalFrom, at-tail}
+use Rattle.piper_machine.proofs.Ends.{found_at_tail, ended_from, IsFinalFrom}
 use Rattle.piper_machine.proofs.Causes.{read_leaves, IsEnded, IsCaused, reader_after}
 use Rattle.piper_machine.proofs.Honesty.{loaded, saw_close}
 use Rattle.piper_machine.proofs.ReaderWaits.{none_left, drop_none}
@@ -46,9 +47,6 @@ none_test xs h = rw h refl
 
 no_length : (xs : List ℕ) → xs ≡ [] → length xs ≡ 0
 no_length xs h = rw h refl
-
-no_byte : (xs : List ℕ) → length xs ≡ 0 → xs ≡ []
-no_byte xs h = none_left xs (rw h refl)
 
 -- what reports nothing of an end
 
@@ -85,18 +83,7 @@ module _ (saw ended : Bool) (p : Pipe) (closed : saw ≡ true → p.is_closed �
   -- the close that was seen is the writer's, since the reader is in its call
   tail-logs : (point : ReadPoint) → read_leaves point ≡ false → (saw ≡ true → is_over point ≡ true) → (p.is_closed ≡ true → IsCaused (record p { reader = point })) → (ended ≡ true → Over (record p { reader = point }))
       → (ended ≡ true → length p.unread ≡ 0) × (found_at_tail saw (length p.unread) ended ≡ true → Over (record p { reader = point }))
-  tail-logs point stays valid caused over = (
-    λ t. no_length p.unread (over t).unread,
-    λ t. elim (at-tail saw (length p.unread) ended t) [
-      | inl before ↦ over before
-      | inr found ↦ record {
-        closed = closed found.0;
-        ended = elim (caused (closed found.0)) [ inl leaves ↦ absurd (cc) | inr is_ended ↦ is_ended ];
-        unread = no_byte p.unread found.1;
-        valid = valid found.0;
-      }
-    ],
-  )
+  tail-logs point stays valid caused over = grind (arith, common_steps)
 
   pub reader-logs : (point : ReadPoint) → IsLinked (loaded point) saw → (p.is_closed ≡ true → IsCaused (record p { reader = point })) → (ended ≡ true → Over (record p { reader = point })) → Logs point
   reader-logs ReadPoint.Idle link caused over = (tt, over)

@@ -1,18 +1,18 @@
 -- Steps of one side alone, from any point up to the answer, give what remains of the call.
-use Rattle.std.proofs.Common.{◌≡◌, ℕ, zero, suc, ◌<◌, ◌≤◌, List, [], ◌∷◌, ◌++◌, length, Bool, true, false, Option, None, Some, replicate, refl, sym, ap, ◌∙◌, subst, append_assoc, append-nil, arith}
-use Rattle.piper_machine.specs.Types.{AfterWrite, Side, SideState, Answer, Event, Context, SourceAct, ReadPoint, WritePoint, Reader, Writer, Busy, Go, Answered}
+use Rattle.std.proofs.lemmas.Grind.{common_steps}
+use Rattle.std.proofs.Common.{◌≡◌, ℕ, zero, suc, ◌<◌, ◌≤◌, List, ◌∷◌, ◌++◌, length, Bool, true, false, Option, None, Some, replicate, refl, sym, ap, ◌∙◌, subst, append_assoc, append-nil, arith, []}
+use Rattle.piper_machine.specs.Types.{Side, SideState, Answer, Event, SourceAct, ReadPoint, WritePoint, Reader, Writer, Busy, Go, Answered}
 use Rattle.piper_machine.specs.Log.{answer_event}
 use Rattle.piper_protocol.specs.Table.{read_action, write_action}
 use Rattle.piper_machine.specs.Pipe.{Pipe}
-use Rattle.piper_machine.specs.Move.{with_waker}
 use Rattle.piper_machine.specs.Refusal.{reader_state, writer_state, state_of, cannot_go}
-use Rattle.piper_machine.specs.Action.{logged_of, registration_of, registration, wake_of, woken_if, yield_of}
+use Rattle.piper_machine.specs.Action.{logged_of}
 use Rattle.piper_machine.specs.Step.{Stepped, stepped, went, action_of, MayLend, MayOffer}
 use Rattle.piper_machine.specs.Run.{Runs}
-use Rattle.piper_machine.specs.Alone.{Ended, heard, reader_alone, writer_alone, alone_of, is_draining, is_filling, is_copying, wakes_of, yield_waker, waker_if}
+use Rattle.piper_machine.specs.Alone.{Ended, heard, reader_alone, writer_alone, alone_of, is_draining, is_filling, is_copying, wakes_of}
 use Rattle.piper_machine.specs.BySteps.{named_by, names_of}
 use Rattle.piper_machine.proofs.Alone.{Nearer, reads_left, writes_left, reader_rest, read_step, write_step, reader-rest, reader-nearer, writer-nearer, writer-went, writer_rest, writer-rest, plain-step}
-use Rattle.piper_machine.proofs.Copies.{drain-rest, WriterValid, fill_step, fill-rest}
+use Rattle.piper_machine.proofs.Copies.{WriterValid, fill_step, fill-rest}
 use Rattle.piper_machine.proofs.Falling.{reads-some, writes-some}
 use Rattle.piper_machine.proofs.Validity.{IsSettled, ReaderValid, reader-settled, reader-valid, closes_round, writer-settled, writer-valid}
 
@@ -45,29 +45,6 @@ pub record IsHeard (side : Side) (p : Pipe) (names : List ℕ) (made : Stepped) 
   pub some : 1 ≤ left_of side p
   pub falls : answer ≡ None → left_of side after < left_of side p
 
-quiet : (names : List ℕ) → names ≡ names ++ []
-quiet names = sym (append-nil names)
-
-register-names : (side : Side) (cx : Option Context) (names : List ℕ) → names ≡ names ++ names_of (registration_of side cx)
-register-names side None names = quiet names
-register-names side (Some cx) names = granted cx.luck.register_granted
-  where
-    granted : (is_granted : Bool) → names ≡ names ++ names_of (registration side is_granted cx.waker)
-    granted false = quiet names
-    granted true = quiet names
-
-wake-names : (name : Option ℕ) (names : List ℕ) → with_waker names name ≡ names ++ names_of (wake_of name)
-wake-names None names = quiet names
-wake-names (Some name) names = refl
-
-yield-names : (cx : Option Context) (names : List ℕ) → with_waker names (yield_waker cx) ≡ names ++ names_of (yield_of cx)
-yield-names None names = quiet names
-yield-names (Some cx) names = granted cx.luck.yield_granted
-  where
-    granted : (is_granted : Bool) → with_waker names (waker_if is_granted cx.waker) ≡ names ++ names_of (woken_if is_granted cx.waker)
-    granted false = quiet names
-    granted true = refl
-
 -- the reader
 
 pub record ReadHears (point : ReadPoint) (p : Pipe) (names : List ℕ) : Type 0 where
@@ -77,14 +54,10 @@ pub record ReadHears (point : ReadPoint) (p : Pipe) (names : List ℕ) : Type 0 
   pub woken : (read_step point p).pipe.woken ≡ p.woken ++ names_of (logged_of Reader (read_action point) p)
 
 reader-hears : (point : ReadPoint) (p : Pipe) (names : List ℕ) → ReadHears point p names
-reader-hears (ReadPoint.LookRegister l) p names = record { pipe = refl; answer = refl; events = refl; woken = register-names Reader p.reader_call.context p.woken }
-reader-hears (ReadPoint.WakeWriter next) p names = record { pipe = refl; answer = refl; events = refl; woken = wake-names p.reader_call.taken p.woken }
-reader-hears ReadPoint.Yield p names = record { pipe = refl; answer = refl; events = refl; woken = yield-names p.reader_call.context p.woken }
-reader-hears point p names = record { pipe = refl; answer = refl; events = refl; woken = quiet p.woken }
+reader-hears point p names = grind (arith, common_steps)
 
 read-rest : (point : ReadPoint) (p : Pipe) (drains : Bool) → is_draining point ≡ drains → reader_state point ≡ Busy → ReaderValid point p → let s = read_step point p in reader_alone point p ≡ reader_rest s.answer s.pipe
-read-rest point p true is busy valid = drain-rest point p is valid.start (omega (arith, valid.unread, valid.known))
-read-rest point p false is busy valid = reader-rest point p busy is
+read-rest point p drains is busy valid = grind (arith, common_steps)
 
 read-falls : (point : ReadPoint) (p : Pipe) (drains : Bool) → is_draining point ≡ drains → reader_state point ≡ Busy → ReaderValid point p → let s = read_step point p in s.answer ≡ None → reads_left s.pipe.reader s.pipe < reads_left point p
 read-falls point p drains is busy valid goes = grind arith
@@ -119,15 +92,7 @@ pub record WriteHears (point : WritePoint) (lent : List ℕ) (p : Pipe) (names :
   pub woken : (fill_step point lent p).pipe.woken ≡ p.woken ++ names_of (logged_of Writer (write_action point) p)
 
 writer-hears : (point : WritePoint) (lent : List ℕ) (p : Pipe) (names : List ℕ) → WriteHears point lent p names
-writer-hears (WritePoint.LookRegister l) lent p names = record { pipe = refl; answer = refl; events = refl; woken = register-names Writer p.writer_call.context p.woken }
-writer-hears (WritePoint.WakeReader next) lent p names = record { pipe = refl; answer = refl; events = refl; woken = wake-names p.writer_call.taken p.woken }
-writer-hears WritePoint.WakeWriter lent p names = record { pipe = refl; answer = refl; events = refl; woken = wake-names p.writer_call.taken p.woken }
-writer-hears WritePoint.Yield lent p names = record { pipe = refl; answer = refl; events = refl; woken = yield-names p.writer_call.context p.woken }
-writer-hears (WritePoint.StoreClosed AfterWrite.Answer) lent p names = record { pipe = refl; answer = refl; events = refl; woken = quiet p.woken }
-writer-hears (WritePoint.StoreClosed AfterWrite.Drop) lent p names = record { pipe = refl; answer = refl; events = refl; woken = quiet p.woken }
-writer-hears (WritePoint.StoreClosed AfterWrite.WakeWriter) lent p names = record { pipe = refl; answer = refl; events = refl; woken = quiet p.woken }
-writer-hears (WritePoint.StoreClosed (AfterWrite.Round form sum)) lent p names = record { pipe = refl; answer = refl; events = refl; woken = quiet p.woken }
-writer-hears point lent p names = record { pipe = refl; answer = refl; events = refl; woken = quiet p.woken }
+writer-hears point lent p names = grind (arith, common_steps)
 
 write-rest : (point : WritePoint) (lent : List ℕ) (p : Pipe) (fills : Bool) → is_filling point ≡ fills → writer_state point ≡ Busy → WriterValid point p → MayOffer point p.source lent (record p { writer = point })
     → let s = fill_step point lent p in writer_alone point p ≡ writer_rest s.answer s.pipe

@@ -1,6 +1,6 @@
 -- Who has closed: the reader by its drop; or the writer, by its drop or its close, and then it
 -- publishes nothing more.
-use Rattle.std.proofs.Common.{◌≡◌, ◌⊎◌, inl, inr, ℕ, ◌-◌, List, length, Bool, true, false, ◌==◌, is_some, Result, Ok, Err, refl, arith}
+use Rattle.std.proofs.Common.{◌≡◌, ◌⊎◌, inl, inr, ℕ, ◌-◌, List, Bool, true, false, ◌==◌, is_some, refl, arith}
 use Rattle.piper_machine.specs.Types.{AfterRead, AfterWrite, ReadPoint, WritePoint, Reader, Writer}
 use Rattle.piper_protocol.specs.Table.{writer_taken, read_done}
 use Rattle.piper_machine.specs.Pipe.{Pipe}

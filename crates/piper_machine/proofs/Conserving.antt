@@ -1,20 +1,19 @@
 -- Each step conserves the bytes: what it moves leaves the front of what is unread, or joins its
 -- end.
-use Rattle.std.proofs.Common.{◌≡◌, ℕ, ◌+◌, ◌*◌, ◌/◌, ◌%◌, ◌<◌, ◌≤◌, List, [], ◌∷◌, ◌++◌, length, take, drop, Bool, true, false, Option, None, Some, inl, inr, refl, sym, ap, ◌∙◌, arith, append_assoc, append-nil, length-append, length-take-le}
+use Rattle.std.proofs.Common.{◌≡◌, ℕ, ◌+◌, ◌*◌, ◌/◌, ◌%◌, ◌<◌, ◌≤◌, List, ◌∷◌, ◌++◌, length, Option, inl, inr, refl, sym, ap, ◌∙◌, arith, append_assoc, length-append, []}
 use Rattle.std.proofs.Math.Nat.{div-add-mod', add-mod_right, mul-mod_left}
 use Rattle.std.proofs.lemmas.Nat.{mod-mul-add}
-use Rattle.std.proofs.lemmas.List.{take-append-drop}
-use Rattle.std.proofs.lemmas.Grind.{flat_map-append}
+use Rattle.std.proofs.lemmas.Grind.{flat_map-append, common_steps}
 use Rattle.std.proofs.lemmas.Bool.{cases_lt}
 use Rattle.std.proofs.lemmas.Bool.Decides.{nat_tests}
-use Rattle.piper_machine.specs.Types.{Side, Step, Answer, Event, Context, Action, ReadPoint, Reader, Writer, Begin, Go, Put, Began}
+use Rattle.piper_machine.specs.Types.{Side, Step, Answer, Event, Action, ReadPoint, Reader, Writer, Begin, Go, Put, Began}
 use Rattle.piper_protocol.specs.Index.{offset_of}
 use Rattle.piper_machine.specs.Call.{side_of, kind_of, waker_of}
 use Rattle.piper_machine.specs.Pipe.{Pipe}
 use Rattle.piper_machine.specs.Places.{peeked_count}
 use Rattle.piper_machine.specs.Sound.{IsSound}
 use Rattle.piper_protocol.specs.Table.{head_store, read_action, write_action}
-use Rattle.piper_machine.specs.Action.{performed, logged_of, registration_of, registration, wake_of, yield_of, woken_if}
+use Rattle.piper_machine.specs.Action.{performed, logged_of}
 use Rattle.piper_machine.specs.Step.{went, opened, stepped, offering, answer_at_once}
 use Rattle.piper_machine.specs.Log.{answer_event}
 use Rattle.piper_machine.specs.Run.{Made}
@@ -38,97 +37,19 @@ pub record Rests (old new : Pipe) (events : List Event) : Type 0 where
   pub published : published_of events ≡ []
 
 rests-moves : (old new : Pipe) (events : List Event) → old.start < old.capacity → Rests old new events → Moves old new events
-rests-moves old new events below r = record {
-  capacity = r.capacity;
-  bytes = rw (r.consumed, r.published, r.unread) (sym (append-nil old.unread));
-  count = rw r.consumed (omega arith);
-  start = rw (r.consumed, r.start) (sym (let same : offset_of old.capacity (old.start + 0) ≡ old.start = grind (arith, nat_tests) in same));
-}
-
-registration-rests : (side : Side) (context : Option Context) → (consumed_of (registration_of side context) ≡ []) × (published_of (registration_of side context) ≡ [])
-registration-rests side None = (refl, refl)
-registration-rests side (Some cx) = granted-rests side cx.luck.register_granted cx.waker
-  where
-    granted-rests : (side : Side) (b : Bool) (name : ℕ) → (consumed_of (registration side b name) ≡ []) × (published_of (registration side b name) ≡ [])
-    granted-rests side true name = (refl, refl)
-    granted-rests side false name = (refl, refl)
-
-wake-rests : (name : Option ℕ) → (consumed_of (wake_of name) ≡ []) × (published_of (wake_of name) ≡ [])
-wake-rests name = grind arith
-
-yield-rests : (context : Option Context) → (consumed_of (yield_of context) ≡ []) × (published_of (yield_of context) ≡ [])
-yield-rests None = (refl, refl)
-yield-rests (Some cx) = woken-rests cx.luck.yield_granted cx.waker
-  where
-    woken-rests : (b : Bool) (name : ℕ) → (consumed_of (woken_if b name) ≡ []) × (published_of (woken_if b name) ≡ [])
-    woken-rests true name = (refl, refl)
-    woken-rests false name = (refl, refl)
-
-head_stored : (side : Side) (p : Pipe) (n : ℕ) → p.start < p.capacity → p.known ≤ length p.unread → n ≤ peeked_count p → Moves p (performed side (Action.StoreHead n) p) (logged_of side (Action.StoreHead n) p)
-head_stored side p n below known within =
-    let long : length (take n p.unread) ≡ n = length-take-le n p.unread (omega arith) in
-    let one : take n p.unread ++ [] ≡ take n p.unread = append-nil (take n p.unread) in
-    record {
-      capacity = refl;
-      bytes = ap (λ (bytes : List ℕ). bytes ++ drop n p.unread) one ∙ take-append-drop n p.unread ∙ sym (append-nil p.unread);
-      count = rw one (omega (arith, long));
-      start = ap (λ k. offset_of p.capacity (p.start + k)) (sym (ap (λ (bytes : List ℕ). length bytes) one ∙ long));
-    }
-
-tail_stored : (side : Side) (p : Pipe) (n : ℕ) → p.start < p.capacity → Moves p (performed side (Action.StoreTail n) p) (logged_of side (Action.StoreTail n) p)
-tail_stored side p n below = record {
-  capacity = refl;
-  bytes = ap (λ (bytes : List ℕ). p.unread ++ bytes) (sym (append-nil (take n p.lent)));
-  count = omega arith;
-  start = sym (let same : offset_of p.capacity (p.start + 0) ≡ p.start = grind (arith, nat_tests) in same);
-}
+rests-moves old new events below r = grind (arith, common_steps)
 
 quiet : (old new : Pipe) (events : List Event) → old.start < old.capacity → new.capacity ≡ old.capacity → new.unread ≡ old.unread → new.start ≡ old.start → (consumed_of events ≡ []) × (published_of events ≡ []) → Moves old new events
 quiet old new events below capacity unread start none = rests-moves old new events below (record { capacity = capacity; unread = unread; start = start; consumed = none.0; published = none.1 })
 
 -- a step of a side, by its kind
 action-moves : (side : Side) (action : Action) (p : Pipe) → p.start < p.capacity → p.known ≤ length p.unread → ((n : ℕ) → action ≡ Action.StoreHead n → n ≤ peeked_count p) → Moves p (performed side action p) (logged_of side action p)
-action-moves side (Action.StoreHead n) p below known within = head_stored side p n below known (within n refl)
-action-moves side (Action.StoreTail n) p below known within = tail_stored side p n below
-action-moves side Action.Rest p below known within = quiet _ _ _ below refl refl refl (refl, refl)
-action-moves side Action.LoadHead p below known within = quiet _ _ _ below refl refl refl (refl, refl)
-action-moves side Action.LoadTail p below known within = quiet _ _ _ below refl refl refl (refl, refl)
-action-moves side Action.LoadClosed p below known within = quiet _ _ _ below refl refl refl (refl, refl)
-action-moves side (Action.StoreClosed true) p below known within = quiet _ _ _ below refl refl refl (refl, refl)
-action-moves side (Action.StoreClosed false) p below known within = quiet _ _ _ below refl refl refl (refl, refl)
-action-moves Reader Action.LoadIndex p below known within = quiet _ _ _ below refl refl refl (refl, refl)
-action-moves Writer Action.LoadIndex p below known within = quiet _ _ _ below refl refl refl (refl, refl)
-action-moves Reader Action.Register p below known within = quiet _ _ _ below refl refl refl (registration-rests Reader p.reader_call.context)
-action-moves Writer Action.Register p below known within = quiet _ _ _ below refl refl refl (registration-rests Writer p.writer_call.context)
-action-moves Reader (Action.Take Reader) p below known within = quiet _ _ _ below refl refl refl (refl, refl)
-action-moves Reader (Action.Take Writer) p below known within = quiet _ _ _ below refl refl refl (refl, refl)
-action-moves Writer (Action.Take Reader) p below known within = quiet _ _ _ below refl refl refl (refl, refl)
-action-moves Writer (Action.Take Writer) p below known within = quiet _ _ _ below refl refl refl (refl, refl)
-action-moves Reader Action.Yield p below known within = quiet _ _ _ below refl refl refl (yield-rests p.reader_call.context)
-action-moves Writer Action.Yield p below known within = quiet _ _ _ below refl refl refl (yield-rests p.writer_call.context)
-action-moves side Action.CallDestination p below known within = quiet _ _ _ below refl refl refl (refl, refl)
-action-moves side Action.CallSource p below known within = quiet _ _ _ below refl refl refl (refl, refl)
-action-moves Reader Action.Wake p below known within = quiet _ _ _ below refl refl refl (wake-rests p.reader_call.taken)
-action-moves Writer Action.Wake p below known within = quiet _ _ _ below refl refl refl (wake-rests p.writer_call.taken)
-
-answer-rests : (side : Side) (answer : Option Answer) → (consumed_of (answer_event side answer) ≡ []) × (published_of (answer_event side answer) ≡ [])
-answer-rests side answer = grind arith
+action-moves side action p below known within = grind (arith, common_steps)
 
 -- an answer moves nothing, and a point neither
 module _ (old q new : Pipe) (events : List Event) (side : Side) (answer : Option Answer) (m : Moves old q events) (capacity : new.capacity ≡ q.capacity) (unread : new.unread ≡ q.unread) (start : new.start ≡ q.start) where
-  consumed_same : consumed_of (events ++ answer_event side answer) ≡ consumed_of events
-  consumed_same = flat_map-append consumed_in events (answer_event side answer) ∙ ap (λ bytes. consumed_of events ++ bytes) (answer-rests side answer).0 ∙ append-nil (consumed_of events)
-
-  published_same : published_of (events ++ answer_event side answer) ≡ published_of events
-  published_same = flat_map-append published_in events (answer_event side answer) ∙ ap (λ bytes. published_of events ++ bytes) (answer-rests side answer).1 ∙ append-nil (published_of events)
-
   pub answered-moves : Moves old new (events ++ answer_event side answer)
-  answered-moves = record {
-    capacity = capacity ∙ m.capacity;
-    bytes = rw (consumed_same, published_same, unread) m.bytes;
-    count = rw consumed_same m.count;
-    start = rw (consumed_same, start) m.start;
-  }
+  answered-moves = grind (arith, common_steps)
 
 pub read_store : (point : ReadPoint) (n : ℕ) → read_action point ≡ Action.StoreHead n → head_store point ≡ n
 read_store point n e = grind arith

@@ -1,58 +1,24 @@
 -- A step of a copying call leaves what remains of it, and it brings the answer nearer.
-use Rattle.std.proofs.Common.{◌≡◌, ℕ, ◌+◌, ◌-◌, ◌<◌, ◌≤◌, min, List, [], ◌∷◌, ◌++◌, take, drop, length, Bool, true, false, Option, None, ◌==◌, is_some, refl, sym, ap, ◌∙◌, arith, Result, Ok, Err, length-take-le}
+use Rattle.std.proofs.lemmas.Grind.{common_steps}
+use Rattle.std.proofs.Common.{◌≡◌, ℕ, ◌+◌, ◌-◌, ◌<◌, ◌≤◌, min, List, ◌∷◌, ◌++◌, take, drop, length, Bool, true, false, Option, None, ◌==◌, is_some, refl, sym, ap, ◌∙◌, arith, Result, Ok, Err, []}
 use Rattle.std.proofs.lemmas.Bool.Decides.{nat_tests}
-use Rattle.std.proofs.lemmas.List.{drop-drop, take_at}
-use Rattle.piper_machine.specs.Types.{AfterRead, AfterWrite, Purpose, Failed, DestAct, SourceAct, Form, ReadPoint, WritePoint, Destination, Reader, Writer, Ready, MOST_A_ROUND, Try, Polling, Slice, Acts, Go}
-use Rattle.piper_protocol.specs.Index.{offset_of}
+use Rattle.piper_machine.specs.Types.{AfterWrite, Purpose, Failed, DestAct, SourceAct, Form, ReadPoint, WritePoint, Writer, Ready, MOST_A_ROUND, Slice, Acts, Go}
 use Rattle.piper_machine.specs.Open.{is_granted}
-use Rattle.piper_protocol.specs.Table.{Next, goes_on, count_answer, failed_answer, write_action, reader_looked, reader_looked_again, reader_registered, reader_is_true, reader_moved, writer_taken, read_after, writer_is_open, writer_looked, writer_looked_again, writer_registered, writer_is_true, writer_moved, writer_rounds, reader_taken, tail_store}
+use Rattle.piper_protocol.specs.Table.{Next, goes_on, count_answer, failed_answer, write_action, reader_moved, writer_is_open, writer_looked, writer_looked_again, writer_registered, writer_is_true, writer_moved, writer_rounds, reader_taken, tail_store}
 use Rattle.piper_machine.specs.Pipe.{Pipe}
-use Rattle.piper_machine.specs.Move.{with_waker, consumed, published, writer_woken, reader_woken}
-use Rattle.piper_machine.specs.Copy.{Copied, answered, waker_after, woken_after, drained, filled, unlent}
+use Rattle.piper_machine.specs.Move.{with_waker, published, reader_woken}
+use Rattle.piper_machine.specs.Copy.{Copied, answered, drained, filled, unlent}
 use Rattle.piper_machine.specs.Scripted.{drain_moves_to, taken_by, fill_moves_more}
-use Rattle.piper_machine.specs.Round.{taken, found_of, unspent}
-use Rattle.piper_machine.specs.Action.{index_loaded_by, registered_in, round_count, destination_called}
+use Rattle.piper_machine.specs.Round.{taken, unspent}
+use Rattle.piper_machine.specs.Action.{index_loaded_by, registered_in, round_count}
 use Rattle.piper_machine.specs.Lend.{Lendable}
 use Rattle.piper_machine.specs.Step.{Stepped, stepped, filled_out, MayOffer}
-use Rattle.piper_machine.specs.Alone.{Ended, heard, moved_answer, reader_left, reader_ended, reader_alone, reader_moves_alone, is_draining, reader_looks_alone, reader_again_alone, reader_granted_alone, reader_done_alone, reader_takes_alone, writer_ended, writer_filled, writer_open_alone, writer_looks_alone, writer_granted_alone, writer_again_alone, writer_takes_alone, writer_done_alone, writer_rounds_alone, writer_alone, writer_moves_alone, is_filling}
+use Rattle.piper_machine.specs.Alone.{Ended, heard, moved_answer, reader_left, reader_ended, reader_alone, is_draining, writer_ended, writer_filled, writer_open_alone, writer_looks_alone, writer_granted_alone, writer_again_alone, writer_takes_alone, writer_done_alone, writer_rounds_alone, writer_alone, writer_moves_alone, is_filling}
 use Rattle.piper_machine.proofs.Alone.{reader_rest, read_step, reader_rest_at, writer_rest, writer_rest_at}
-use Rattle.piper_machine.proofs.Rounds.{waker_after-twice, woken_after-twice, drained_nothing, filled_nothing}
+use Rattle.piper_machine.proofs.Rounds.{filled_nothing}
 use Rattle.piper_machine.proofs.Acts.{give-part, give-ends, give-fails, give-none, give-nothing}
 
 -- the look of a drain
-
-looks-rest : (none : Bool) (form : Form) (p : Pipe) → reader_looks_alone none (Purpose.Copy form) (record p { reader = ReadPoint.Idle }) ≡ reader_rest_at (goes_on (reader_looked none (Purpose.Copy form))) p
-looks-rest none form p = grind arith
-
-registers-rest : (granted : Bool) (form : Form) (p : Pipe) → reader_granted_alone granted (Purpose.Copy form) (record p { reader = ReadPoint.Idle }) ≡ reader_rest_at (reader_registered granted (Purpose.Copy form)) p
-registers-rest granted form p = grind arith
-
-again-rest : (none was_closed : Bool) (form : Form) (p : Pipe) → reader_again_alone none (Purpose.Copy form) was_closed (record p { reader = ReadPoint.Idle }) ≡ reader_rest_at (reader_looked_again none (Purpose.Copy form) was_closed) p
-again-rest none was_closed form p = grind arith
-
-takes-rest : (form : Form) (p : Pipe) → reader_takes_alone (Purpose.Copy form) (record p { reader = ReadPoint.Idle }) ≡ reader_rest_at (reader_is_true (Purpose.Copy form)) (record p { reader_waker = None; reader_call = record p.reader_call { taken = p.reader_waker } })
-takes-rest form p = grind arith
-
--- the wake of a round
-wakes-rest : (form : Form) (sum : ℕ) (name : Option ℕ) (p : Pipe) → reader_done_alone (AfterRead.Round form sum) (record p { reader = ReadPoint.Idle; writer_waker = None; woken = with_waker p.woken name }) ≡ reader_rest_at (writer_taken (AfterRead.Round form sum) (is_some name)) (record p { writer_waker = None; reader_call = record p.reader_call { taken = name } })
-wakes-rest form sum name p = grind arith
-
--- a round that moves some bytes wakes the writer
-woken-drained : (n : ℕ) (p : Pipe) → (n == 0) ≡ false → drained n p ≡ writer_woken (consumed n p)
-woken-drained n p some = grind arith
-
--- the first part of the bytes, then the rest
-offset_of-parts : (c s m n : ℕ) → s < c → s + m ≤ c → 1 ≤ m → m + n ≤ c → offset_of c (offset_of c (s + m) + n) ≡ offset_of c (s + (m + n))
-offset_of-parts c s m n start flat some within = grind (arith, nat_tests)
-
-drained-parts : (m n : ℕ) (p : Pipe) → p.start < p.capacity → p.start + m ≤ p.capacity → 1 ≤ m → m + n ≤ p.capacity → drained n (drained m p) ≡ drained (m + n) p
-drained-parts m n p start flat some within =
-    let known : p.known - m - n ≡ p.known - (m + n) = omega arith in
-    let bytes = drop-drop n m p.unread in
-    let place = offset_of-parts p.capacity p.start m n start flat some within in
-    let waker = waker_after-twice m n p.writer_waker in
-    let woken = woken_after-twice m n p.woken p.writer_waker in
-    cc
 
 count-answer : (form : Form) (sum : ℕ) → moved_answer form (Ready (Ok sum)) ≡ count_answer form sum
 count-answer form sum = grind arith
@@ -73,51 +39,14 @@ module _ (form : Form) (sum : ℕ) (p : Pipe) (start : p.start < p.capacity) (kn
 
   slice : (size : ℕ) (none : Bool) → (min size (round_count p) == 0) ≡ none → let n = min size (round_count p) in
       counted (sum + min size p.known) (drained (min size p.known) left) ≡ reader_rest_at (reader_moved none n form sum) (record p { destination = Slice (size - n) })
-  slice size true test =
-      let none : min size p.known ≡ 0 = grind (arith, nat_tests) in
-      let same : sum + 0 ≡ sum = omega arith in
-      ap (λ (n : ℕ). counted (sum + n) (drained n left)) none
-      ∙ ap (λ (n : ℕ). counted n (drained 0 left)) same
-      ∙ ap (λ (q : Pipe). counted sum q) (drained_nothing left start)
-      ∙ ended
-  slice size false test =
-      let n = min size (round_count p) in
-      let k = min (size - n) (p.known - n) in
-      let some : 1 ≤ n = grind (arith, nat_tests) in
-      let all : n + k ≡ min size p.known = omega arith in
-      let sums : sum + n + k ≡ sum + min size p.known = omega arith in
-      sym (
-      ap (λ (q : Pipe). counted (sum + n + k) (drained k q)) (sym (woken-drained n left test))
-      ∙ ap (λ (q : Pipe). counted (sum + n + k) q) (drained-parts n k left start (omega arith) some (omega arith))
-      ∙ ap (λ (m : ℕ). counted (sum + n + k) (drained m left)) all
-      ∙ ap (λ (m : ℕ). counted m (drained (min size p.known) left)) sums
-      )
+  slice size none test = grind (arith, common_steps)
 
   act : (most : ℕ) (acts : List DestAct) (none : Bool) → (taken_by most left == 0) ≡ none → let n = taken_by most left in
       moving (drain_moves_to (DestAct.Take most ∷ acts) sum left) ≡ reader_rest_at (reader_moved none n form sum) (record p { destination = Acts acts })
   act most acts none test = grind arith
 
-calls-rest : (destination : Destination) (form : Form) (sum : ℕ) (p : Pipe) → p.start < p.capacity → p.known ≤ p.capacity
-    → let q = record p { destination = destination } in reader_moves_alone form sum (record q { reader = ReadPoint.Idle }) ≡ reader_rest_at (read_after p.capacity (ReadPoint.CallDestination form sum) (found_of (taken (round_count p) destination))) (destination_called q)
-calls-rest (Slice size) form sum p start known = slice form sum p start known size (min size (round_count p) == 0) refl
-calls-rest (Acts []) Try sum p start known = refl
-calls-rest (Acts []) (Polling drawn) sum p start known = refl
-calls-rest (Acts (DestAct.Fail ∷ acts)) Try sum p start known = refl
-calls-rest (Acts (DestAct.Fail ∷ acts)) (Polling drawn) sum p start known = refl
-calls-rest (Acts (DestAct.Take most ∷ acts)) form sum p start known = act form sum p start known most acts (min most (round_count p) == 0) refl
-
 pub drain-rest : (point : ReadPoint) (p : Pipe) → is_draining point ≡ true → p.start < p.capacity → p.known ≤ p.capacity → let s = read_step point p in reader_alone point p ≡ reader_rest s.answer s.pipe
-drain-rest (ReadPoint.LookTail (Purpose.Copy form)) p drains start known = looks-rest (length p.unread == 0) form (index_loaded_by Reader p)
-drain-rest (ReadPoint.LookRegister (Purpose.Copy form)) p drains start known = registers-rest (is_granted p.reader_call.context) form (record p { reader_waker = registered_in p.reader_call.context p.reader_waker })
-drain-rest (ReadPoint.LookClosed (Purpose.Copy form)) p drains start known = refl
-drain-rest (ReadPoint.LookTailAgain (Purpose.Copy form) was_closed) p drains start known = again-rest (length p.unread == 0) was_closed form (index_loaded_by Reader p)
-drain-rest (ReadPoint.LookTake (Purpose.Copy form)) p drains start known = takes-rest form p
-drain-rest ReadPoint.Yield p drains start known = refl
-drain-rest (ReadPoint.CallDestination form sum) p drains start known = calls-rest p.destination form sum p start known
-drain-rest (ReadPoint.StoreHead n (AfterRead.Round form sum)) p drains start known = refl
-drain-rest (ReadPoint.TakeWriter (AfterRead.Round form sum)) p drains start known = wakes-rest form sum p.writer_waker p
-drain-rest (ReadPoint.WakeWriter (AfterRead.Round form sum)) p drains start known = refl
-drain-rest point p drains start known = absurd (cc)
+drain-rest point p drains start known = grind (arith, common_steps)
 
 -- the writer
 
@@ -148,15 +77,7 @@ rounds-rest is_closed n form sum p = grind arith
 
 -- a round that moves some bytes wakes the reader
 woken-filled : (n : ℕ) (bytes lent : List ℕ) (p : Pipe) → 1 ≤ n → n ≤ length bytes → p.lent ≡ take n bytes ++ drop n lent → filled (take n bytes) p ≡ unlent (reader_woken (published n p))
-woken-filled n bytes lent p some within front =
-    let long : length (take n bytes) ≡ n = length-take-le n bytes within in
-    let test : (length (take n bytes) == 0) ≡ false = grind (arith, nat_tests) in
-    let same : take n p.lent ≡ take n bytes = ap (take n) front ∙ take_at (take n bytes) (drop n lent) n long in
-    let unread : p.unread ++ take n bytes ≡ p.unread ++ take n p.lent = ap (λ (xs : List ℕ). p.unread ++ xs) (sym same) in
-    let room : p.room - length (take n bytes) ≡ p.room - n = omega arith in
-    let waker : waker_after (length (take n bytes)) p.reader_waker ≡ None = rw test refl in
-    let woken : woken_after (length (take n bytes)) p.woken p.reader_waker ≡ with_waker p.woken p.reader_waker = rw test refl in
-    λ j. record p { unread = unread j; room = room j; lent = []; reader_waker = waker j; woken = woken j }
+woken-filled n bytes lent p some within front = grind (arith, common_steps)
 
 -- one call of the source
 module _ (form : Form) (sum : ℕ) (p : Pipe) (unclosed : p.is_closed ≡ false) where

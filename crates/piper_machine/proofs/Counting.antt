@@ -1,6 +1,7 @@
 -- What each side knows, and how many steps its call has made, and calls of its destination or
 -- source: what one step does to them.
-use Rattle.std.proofs.Common.{◌≡◌, ℕ, ◌+◌, ◌*◌, ◌≤◌, List, ◌++◌, Bool, true, false, Option, None, Some, ◌==◌, refl, sym, subst, ◌∙◌, arith}
+use Rattle.std.proofs.lemmas.Grind.{common_steps}
+use Rattle.std.proofs.Common.{◌≡◌, ℕ, ◌+◌, ◌*◌, ◌≤◌, List, ◌++◌, Option, None, ◌==◌, sym, subst, ◌∙◌, arith}
 use Rattle.piper_machine.specs.Types.{Side, Call, Step, Answer, Event, ReadPoint, WritePoint, Action, Reader, Writer, Begin, Go, Put}
 use Rattle.piper_machine.specs.Log.{answer_event}
 use Rattle.piper_protocol.specs.Table.{read_action, write_action}
@@ -13,7 +14,7 @@ use Rattle.piper_machine.specs.Known.{Knowledge, knowledge_from}
 use Rattle.piper_machine.specs.Counts.{Tally, most_of, tallied}
 use Rattle.piper_machine.specs.Called.{called}
 use Rattle.piper_machine.proofs.Knowing.{knowledge-append, answer-shows, learns, learned, learned-enough, writer-shows, reader-shows}
-use Rattle.piper_machine.proofs.ReaderCounts.{read_calls, read_least, ReaderSees, reader-fits, reader-goes, reader_next}
+use Rattle.piper_machine.proofs.ReaderCounts.{read_calls, read_least, ReaderSees}
 use Rattle.piper_machine.proofs.WriterCounts.{write_calls, write_least, WriterSees, writer-fits, writer-goes, writer_next}
 
 -- The steps and calls made so far, with those that are left, are within what the look finds, or can
@@ -65,20 +66,7 @@ noted c side actor k j es answer same = knowledge-append c side k es (answer_eve
 
 reader-counts : (p : Pipe) (k : Knowledge) (t : Tally) (calls : ℕ) → refusal_of (Go Reader) p ≡ None → Counts Reader p k t calls
     → let new = went Reader p in Counts Reader new.pipe (knowledge_from p.capacity Reader k new.events) (tallied Reader t (Go Reader)) (called Reader p (Go Reader) calls)
-reader-counts p k t calls accepted held =
-    let action = read_action p.reader in
-    let goes = reader-goes p.reader p k held.sees accepted in
-    let j = learned Reader action p k in
-    let next : ReaderCounts (reader_next p.reader p).point (performed Reader action p).known j (tallied Reader t (Go Reader)) (called Reader p (Go Reader) calls) = record {
-      sees = goes.sees;
-      enough = learned-enough Reader action p k held.enough;
-      within = λ f least.
-          let nearer = goes.nearer f least in
-          let within = held.within f nearer.from in
-          record { steps = omega (arith, nearer.steps, within.steps); calls = omega (arith, nearer.calls, within.calls) };
-    } in
-    subst (λ (i : Knowledge). Counts Reader (went Reader p).pipe i (tallied Reader t (Go Reader)) (called Reader p (Go Reader) calls))
-    (sym (noted p.capacity Reader Reader k j (logged_of Reader action p) (went Reader p).answer (learns Reader action p k (reader-fits p.reader p.known k held.sees)))) next
+reader-counts p k t calls accepted held = grind (arith, common_steps)
 
 writer-counts : (lent : List ℕ) (p : Pipe) (k : Knowledge) (t : Tally) (calls : ℕ) → MayLend lent (Go Writer) p → refusal_of (Go Writer) p ≡ None → Counts Writer p k t calls
     → let new = went Writer (offering lent p) in Counts Writer new.pipe (knowledge_from p.capacity Writer k new.events) (tallied Writer t (Go Writer)) (called Writer p (Go Writer) calls)

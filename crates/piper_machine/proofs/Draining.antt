@@ -1,16 +1,15 @@
 -- A drain run whole: its destination stays with the caller, and each step is that of a call which
 -- holds this destination.
-use Rattle.std.proofs.Common.{◌≡◌, ℕ, ◌+◌, ◌-◌, ◌<◌, ◌≤◌, min, List, [], ◌∷◌, ◌++◌, take, drop, length, Bool, true, false, Option, None, Some, ◌==◌, is_some, refl, sym, ap, subst, ◌∙◌, arith, length-append, length-drop, length-take}
-use Rattle.std.proofs.lemmas.Bool.Decides.{nat_tests}
+use Rattle.std.proofs.lemmas.Grind.{common_steps}
+use Rattle.std.proofs.Common.{◌≡◌, ℕ, ◌+◌, ◌-◌, ◌<◌, ◌≤◌, min, List, ◌∷◌, ◌++◌, take, drop, length, true, Option, None, Some, ◌==◌, is_some, sym, ap, subst, ◌∙◌, arith, length-append, length-drop, length-take, []}
 use Rattle.std.proofs.lemmas.List.{drop-drop}
 use borrow.Rule.Slice.PartMut.{put_mid}
-use Rattle.piper_machine.specs.Types.{OpenCall, Answer, Context, Action, ReadPoint, Found, Destination, DestAct, Reader, Busy, Slice}
+use Rattle.piper_machine.specs.Types.{OpenCall, Answer, Context, Action, ReadPoint, Found, Destination, Reader, Busy, Slice}
 use Rattle.piper_protocol.specs.Table.{head_store, read_action}
 use Rattle.piper_machine.specs.Pipe.{Pipe}
 use Rattle.piper_machine.specs.Sound.{IsSound}
 use Rattle.piper_machine.specs.Move.{with_waker}
-use Rattle.piper_machine.specs.Copy.{Copied, count_of, drain}
-use Rattle.piper_machine.specs.Round.{taken, found_of, left_of_acts, left_of_destination}
+use Rattle.piper_machine.specs.Round.{taken, found_of, left_of_destination}
 use Rattle.piper_machine.specs.Refusal.{reader_state}
 use Rattle.piper_machine.specs.Action.{round_count, destination_called}
 use Rattle.piper_machine.specs.Step.{Stepped, went, drain_opened, destination_after, drain_left, drain_answer}
@@ -19,7 +18,7 @@ use Rattle.piper_machine.proofs.Alone.{reader_rest, reads_left, read_step}
 use Rattle.piper_machine.proofs.Copies.{drain-rest}
 use Rattle.piper_machine.proofs.Falling.{drain-falls}
 use Rattle.piper_machine.proofs.Validity.{IsSettled, ReaderValid, reader-settled, reader-valid}
-use Rattle.piper_machine.proofs.Rounds.{next_part, HasOneWake, one_wake-room}
+use Rattle.piper_machine.proofs.Rounds.{next_part, HasOneWake}
 
 -- the pipe of a call that holds this destination
 abbrev pub placing : Destination → Pipe → Pipe
@@ -33,15 +32,8 @@ errand point c = None
 abbrev pub WakesOne : ReadPoint → Pipe → Type 0
 WakesOne point p = HasOneWake (with_waker p.woken (errand point p.reader_call)) p.writer_waker
 
-longer : (names : List ℕ) (name : Option ℕ) → length names ≤ length (with_waker names name)
-longer names None = omega arith
-longer names (Some name) = let long = length-append names (name ∷ []) in omega arith
-
 pub wake-room : (point : ReadPoint) (p : Pipe) → WakesOne point p → length p.woken < 2
-wake-room point p wakes =
-    let few = one_wake-room (with_waker p.woken (errand point p.reader_call)) p.writer_waker wakes in
-    let names = longer p.woken (errand point p.reader_call) in
-    omega arith
+wake-room point p wakes = grind (arith, common_steps)
 
 drain-kept : (point : ReadPoint) (p : Pipe) → is_draining point ≡ true → WakesOne point p → let s = read_step point p in s.answer ≡ None → (is_draining s.pipe.reader ≡ true) × WakesOne s.pipe.reader s.pipe
 drain-kept point p drains one goes = grind arith
@@ -87,9 +79,6 @@ pub record IsApart (point : ReadPoint) (destination : Destination) (p : Pipe) : 
   pub pipe : (read_step point (placing destination p)).pipe ≡ placing (destination_after (read_step point p).answer destination) (read_step point p).pipe
   pub destination_is : (read_step point p).pipe.destination ≡ destination_after (read_step point p).answer p.destination
 
-apart : (point : ReadPoint) (destination : Destination) (p : Pipe) → (read_action point ≡ Action.CallDestination → ⊥) → IsApart point destination p
-apart point destination p other = grind arith
-
 -- the same of a pipe whose call holds no destination
 abbrev pub IsGoneOn : Pipe → Destination → Pipe → Option Answer → Pipe → Type 0
 IsGoneOn p destination q None r = Draining p (placing destination r) × (left_of r < left_of q)
@@ -119,16 +108,7 @@ settled-destination answer left held is = grind arith
 -- and then it goes
 pub goes-on : (p q h r : Pipe) (destination : Destination) (answer : Option Answer) → Draining p (placing destination q) → (read_action q.reader ≡ Action.CallDestination → ⊥) → h ≡ heard Reader (read_action q.reader) q
     → answer ≡ (went Reader h).answer → r ≡ (went Reader h).pipe → IsGoneOn p destination q answer r
-goes-on p q h r destination answer draining other hears answers after =
-    let s = read_step q.reader q in
-    let answer_is : answer ≡ s.answer = answers ∙ ap (λ (v : Pipe). (went Reader v).answer) hears in
-    let pipe_is : r ≡ s.pipe = after ∙ ap (λ (v : Pipe). (went Reader v).pipe) hears in
-    let same = apart q.reader destination q other in
-    let u = placing destination q in
-    let drained = drained-by p u answer draining (same.answer ∙ sym answer_is) in
-    let is : (read_step q.reader u).pipe ≡ placing (destination_after answer destination) r = same.pipe ∙ ap (λ (a : Option Answer). placing (destination_after a destination) s.pipe) (sym answer_is) ∙ ap (placing (destination_after answer destination)) (sym pipe_is) in
-    let kept : r.destination ≡ destination_after answer q.destination = ap (λ (v : Pipe). v.destination) pipe_is ∙ same.destination_is ∙ ap (λ (a : Option Answer). destination_after a q.destination) (sym answer_is) in
-    gone-on p q r destination answer (read_step q.reader u).pipe is (settled-destination answer r.destination q.destination kept) drained
+goes-on p q h r destination answer draining other hears answers after = grind (arith, common_steps)
 
 -- a call of the destination
 pub record IsCalled (point : ReadPoint) (p : Pipe) : Type 0 where
@@ -235,34 +215,12 @@ copies before dest so_far part done n sum known is long fits more part_is same =
 -- as many bytes are in the slice as have left the pipe
 pub drained-bytes : (n : ℕ) (before after dest filled_so_far : List ℕ) → n ≤ length before → after ≡ drop n before → filled_so_far ≡ take n before ++ drop n dest
     → let count = length before - length after in filled_so_far ≡ take count before ++ drop count dest
-drained-bytes n before after dest so_far known left is =
-    let count : n ≡ length before - length after = omega (arith, ap (λ (xs : List ℕ). length xs) left, length-drop n before) in
-    is ∙ ap (λ (k : ℕ). take k before ++ drop k dest) count
+drained-bytes n before after dest so_far known left is = grind (arith, common_steps)
 
 pub opened : (cx : Option Context) (destination : Destination) (p q : Pipe) → IsSound p → p.woken ≡ [] → q ≡ drain_opened cx (Slice 0) p → Draining (drain_opened cx destination p) (placing destination q)
 opened cx destination p q sound unwoken is = grind arith
-
--- the acts of a script are spent one after the other
-acts-left : (acts : List DestAct) → left_of_acts acts ≡ drop 1 acts
-acts-left acts = grind arith
-
-pub next-act : (spent : ℕ) (acts : List DestAct) → left_of_acts (drop spent acts) ≡ drop (spent + 1) acts
-next-act spent acts = acts-left (drop spent acts) ∙ drop-drop 1 spent acts
 
 -- a drain to a slice returns how many bytes have left the pipe
 pub record IsCounted (before : List ℕ) (count : ℕ) (after : List ℕ) : Type 0 where
   pub within : count ≤ length before
   pub left : after ≡ drop count before
-
-abbrev CountsTo : Pipe → Copied ℕ → Type 0
-CountsTo p copied = IsCounted p.unread (count_of copied.answer) copied.pipe.unread
-
-pub drain-counts : (cx : Option Context) (size : ℕ) (p : Pipe) → p.known ≤ length p.unread → CountsTo p (drain cx size p)
-drain-counts cx size p known = grind arith
-
--- the front of the slice, by that count
-pub counted-bytes : (count : ℕ) (before after dest filled_now : List ℕ) → IsCounted before count after → (let n = length before - length after in filled_now ≡ take n before ++ drop n dest) → filled_now ≡ take count before ++ drop count dest
-counted-bytes count before after dest filled_now is bytes =
-    let long = ap (λ (xs : List ℕ). length xs) is.left in
-    let same : length before - length after ≡ count = omega (arith, long, is.within, length-drop count before) in
-    bytes ∙ ap (λ (k : ℕ). take k before ++ drop k dest) same

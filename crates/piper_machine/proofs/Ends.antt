@@ -1,5 +1,5 @@
 -- An end that was found, kept along a log, and what that says of each moment of the log.
-use Rattle.std.proofs.Common.{◌≡◌, ◌⊎◌, inl, inr, ℕ, zero, suc, List, [], ◌∷◌, ◌++◌, Bool, true, false, refl, ap, subst, ◌∙◌, arith}
+use Rattle.std.proofs.Common.{◌≡◌, ◌⊎◌, ℕ, zero, List, ◌∷◌, ◌++◌, Bool, true, false, refl, ap, subst, ◌∙◌, arith, []}
 use Rattle.std.specs.Bool.{⊤}
 use Rattle.std.specs.List.{All}
 use Rattle.std.proofs.lemmas.List.Elements.{All-nil, All-cons}
@@ -63,7 +63,3 @@ final-after saw ended (first ∷ before) after e here h = final-after (saw_close
 -- a look that finds none after one that saw the pipe closed is such an event
 pub found-here : (saw ended : Bool) → saw ≡ true → ended_after saw ended found_none ≡ true
 found-here saw ended seen = grind arith
-
--- a look at the tail finds an end only so
-pub at-tail : (saw : Bool) (unread : ℕ) (ended : Bool) → found_at_tail saw unread ended ≡ true → (ended ≡ true) ⊎ ((saw ≡ true) × (unread ≡ 0))
-at-tail saw unread ended found = grind arith

@@ -1,6 +1,6 @@
 -- A fill run whole: its source stays with the caller, and each step is that of a call which holds
 -- this source.
-use Rattle.std.proofs.Common.{◌≡◌, ℕ, ◌-◌, ◌<◌, ◌≤◌, min, List, [], ◌∷◌, take, length, Bool, true, false, Option, None, Some, ◌==◌, is_some, refl, sym, ap, subst, ◌∙◌, arith, Result, Ok, Err, length-append}
+use Rattle.std.proofs.Common.{◌≡◌, ℕ, ◌-◌, ◌<◌, ◌≤◌, min, List, ◌∷◌, take, length, true, false, Option, None, Some, ◌==◌, sym, ap, subst, ◌∙◌, arith, Result, Ok, Err}
 use Rattle.piper_machine.specs.Types.{Action, OpenCall, Answer, Failed, SourceAct, WritePoint, Found, Writer, Go, Busy, MOST_A_ROUND}
 use Rattle.piper_protocol.specs.Table.{write_action}
 use Rattle.piper_machine.specs.Pipe.{Pipe}
@@ -16,7 +16,7 @@ use Rattle.piper_machine.proofs.Alone.{writer_rest, writes_left}
 use Rattle.piper_machine.proofs.Copies.{WriterValid, fill_step, fill-rest}
 use Rattle.piper_machine.proofs.Falling.{fill-falls}
 use Rattle.piper_machine.proofs.Validity.{IsSettled, closes_round, writer-settled, writer-valid}
-use Rattle.piper_machine.proofs.Rounds.{HasOneWake, one_wake-room}
+use Rattle.piper_machine.proofs.Rounds.{HasOneWake}
 use Rattle.piper_machine.proofs.Sources.{source-called}
 
 -- the pipe of a call that holds this source
@@ -30,16 +30,6 @@ errand point c = None
 
 abbrev pub WakesOne : WritePoint → Pipe → Type 0
 WakesOne point p = HasOneWake (with_waker p.woken (errand point p.writer_call)) p.reader_waker
-
-longer : (names : List ℕ) (waker : Option ℕ) → length names ≤ length (with_waker names waker)
-longer names None = omega arith
-longer names (Some name) = let long = length-append names (name ∷ []) in omega arith
-
-pub wake-room : (point : WritePoint) (p : Pipe) → WakesOne point p → length p.woken < 2
-wake-room point p wakes =
-    let few = one_wake-room (with_waker p.woken (errand point p.writer_call)) p.reader_waker wakes in
-    let names = longer p.woken (errand point p.writer_call) in
-    omega arith
 
 fill-kept : (point : WritePoint) (lent : List ℕ) (p : Pipe) → is_filling point ≡ true → closes_round point ≡ false → WakesOne point p
     → let s = fill_step point lent p in s.answer ≡ None → (is_filling s.pipe.writer ≡ true) × WakesOne s.pipe.writer s.pipe

@@ -1,7 +1,7 @@
 -- Each step keeps a reported end final: the pipe is closed for good, with nothing unread and
 -- nothing lent that could still be published.
-use Rattle.std.proofs.Common.{◌≡◌, inl, inr, ℕ, List, [], ◌∷◌, ◌++◌, length, take, Bool, true, false, Option, None, Some, ◌==◌, refl, sym, ap, subst, ◌∙◌, slice_set, arith}
-use Rattle.std.proofs.lemmas.Bool.Decides.{nat_tests}
+use Rattle.std.proofs.lemmas.Grind.{common_steps}
+use Rattle.std.proofs.Common.{◌≡◌, inl, inr, ℕ, List, ◌∷◌, ◌++◌, Bool, true, false, Option, None, ◌==◌, refl, sym, ap, subst, ◌∙◌, slice_set, arith, []}
 use Rattle.piper_machine.specs.Types.{Call, Step, Answer, Event, Action, ReadPoint, WritePoint, Reader, Writer, Begin, Go, Put}
 use Rattle.piper_protocol.specs.Table.{read_action, write_action}
 use Rattle.piper_machine.specs.Log.{answer_event}
@@ -10,7 +10,6 @@ use Rattle.piper_machine.specs.Sound.{IsSound}
 use Rattle.piper_machine.specs.Action.{logged_of}
 use Rattle.piper_machine.specs.Step.{Stepped, went, stepped, offering, lent_at}
 use Rattle.piper_machine.specs.Refusal.{refusal_of}
-use Rattle.piper_machine.specs.Look.{context}
 use Rattle.piper_machine.specs.Lend.{lending}
 use Rattle.piper_machine.specs.Run.{Made}
 use Rattle.piper_machine.specs.End.{saw_closed_from, saw_closed, found_none}
@@ -20,7 +19,7 @@ use Rattle.piper_machine.proofs.Causes.{write_leaves, IsEnded, IsCaused, is_know
 use Rattle.piper_machine.proofs.Honesty.{loaded, saw_close, writer-flag, Honest}
 use Rattle.piper_machine.proofs.Counting.{writer_leaves-reader, writer_never-head}
 use Rattle.piper_machine.proofs.Remembering.{reader_leaves}
-use Rattle.piper_machine.proofs.After.{Over, take_none, Quiet, context-quiet, wake-quiet, yield-quiet, IsLinked, Sees, reader-logs, reader-sees, reader-ends}
+use Rattle.piper_machine.proofs.After.{Over, Quiet, IsLinked, Sees, reader-logs, reader-sees, reader-ends}
 
 -- kept by every step
 pub record Lasts (p : Pipe) (saw ended : Bool) : Type 0 where
@@ -40,20 +39,7 @@ writer-over offered point p sound o = grind arith
 
 module _ (saw ended : Bool) (q : Pipe) (unread : ended ≡ true → q.unread ≡ []) (closed : ended ≡ true → q.is_closed ≡ true) where
   writer-logs : (action : Action) → ((n : ℕ) → action ≡ Action.StoreTail n → ended ≡ true → q.lent ≡ []) → Quiet saw ended (logged_of Writer action q)
-  writer-logs Action.Rest unlent = (tt, refl, refl)
-  writer-logs Action.LoadHead unlent = ((λ t. rw (unread t) refl, tt), refl, refl)
-  writer-logs Action.LoadTail unlent = ((λ t. rw (unread t) refl, tt), refl, refl)
-  writer-logs Action.LoadIndex unlent = ((λ t. rw (unread t) refl, tt), refl, refl)
-  writer-logs Action.LoadClosed unlent = ((closed, tt), refl, refl)
-  writer-logs Action.Register unlent = context-quiet saw ended Writer q.writer_call.context
-  writer-logs (Action.StoreHead n) unlent = ((λ t. take_none n q.unread (unread t), tt), refl, refl)
-  writer-logs (Action.StoreTail n) unlent = ((λ t. take_none n q.lent (unlent n refl t), tt), refl, refl)
-  writer-logs (Action.StoreClosed is_shut) unlent = ((λ t. tt, tt), refl, refl)
-  writer-logs (Action.Take slot) unlent = (tt, refl, refl)
-  writer-logs Action.Wake unlent = wake-quiet saw ended q.writer_call.taken
-  writer-logs Action.Yield unlent = yield-quiet saw ended q.writer_call.context
-  writer-logs Action.CallDestination unlent = (tt, refl, refl)
-  writer-logs Action.CallSource unlent = (tt, refl, refl)
+  writer-logs action unlent = grind (arith, common_steps)
 
 writer-answers : (saw ended : Bool) (answer : Option Answer) → Quiet saw ended (answer_event Writer answer)
 writer-answers saw ended answer = grind arith

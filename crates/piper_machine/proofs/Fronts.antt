@@ -1,5 +1,6 @@
 -- The fronts of a run, as the run goes on by one step.
-use Rattle.std.proofs.Common.{◌≡◌, ◌⊎◌, inl, inr, ℕ, zero, suc, ◌≤◌, List, [], ◌∷◌, ◌++◌, take, drop, refl, sym, ap, subst, arith, rules}
+use Rattle.std.proofs.lemmas.Grind.{common_steps}
+use Rattle.std.proofs.Common.{◌≡◌, ◌⊎◌, inl, inr, ℕ, ◌≤◌, List, ◌∷◌, ◌++◌, take, drop, refl, sym, subst, arith, rules, []}
 use Rattle.piper_machine.specs.Types.{Step, Event}
 use Rattle.piper_machine.specs.Pipe.{Pipe, fresh}
 use Rattle.piper_machine.specs.Sound.{IsSound}
@@ -8,15 +9,6 @@ use Rattle.piper_machine.specs.Run.{Made, Runs}
 use Rattle.piper_machine.specs.Lawful.{IsLawful}
 use Rattle.piper_machine.specs.Front.{Front}
 use Rattle.piper_machine.proofs.Runs.{runs_more}
-
-abbrev no_steps : List Step
-no_steps = []
-
-take_nothing : (i : ℕ) → take i no_steps ≡ no_steps
-take_nothing i = grind arith
-
-drop_nothing : (i : ℕ) → drop i no_steps ≡ no_steps
-drop_nothing i = grind arith
 
 -- of one step more, the first i are those of the steps before, or they are all
 record IsBefore (i : ℕ) (ss : List Step) (s : Step) : Type 0 where
@@ -28,12 +20,7 @@ record AreAll (i : ℕ) (ss : List Step) (s : Step) : Type 0 where
   left : drop i (ss ++ s ∷ []) ≡ []
 
 split : (i : ℕ) (ss : List Step) (s : Step) → IsBefore i ss s ⊎ AreAll i ss s
-split zero ss s = inl (record { taken = refl; left = refl })
-split (suc i) [] s = inr (record { taken = ap (λ (xs : List Step). s ∷ xs) (take_nothing i); left = drop_nothing i })
-split (suc i) (t ∷ ss) s = elim (split i ss s) [
-  | inl before ↦ inl (record { taken = ap (λ (xs : List Step). t ∷ xs) before.taken; left = before.left })
-  | inr all ↦ inr (record { taken = ap (λ (xs : List Step). t ∷ xs) all.taken; left = all.left })
-]
+split i ss s = grind (arith, common_steps)
 
 pub sound-fresh : (capacity : ℕ) → 1 ≤ capacity → IsSound (fresh capacity)
 sound-fresh capacity some = grind arith
@@ -42,8 +29,7 @@ pub conserved_none : (capacity : ℕ) → IsConserved (fresh capacity) []
 conserved_none capacity = record { bytes = refl; start = search rules }
 
 pub fronts_none : (capacity : ℕ) → IsLawful capacity [] (fresh capacity) [] → (i : ℕ) → Front capacity [] i (fresh capacity) []
-fronts_none capacity kept zero = record { pipe = fresh capacity; log = []; runs = (refl, refl); lawful = kept; rest = (refl, refl) }
-fronts_none capacity kept (suc i) = record { pipe = fresh capacity; log = []; runs = (refl, refl); lawful = kept; rest = (refl, refl) }
+fronts_none capacity kept i = grind (arith, common_steps)
 
 pub fronts_more : (capacity : ℕ) (ss : List Step) (s : Step) (p q : Pipe) (before after : List Event) → ((i : ℕ) → Front capacity ss i p before) → Made p s q before after
     → Runs (fresh capacity) [] (ss ++ s ∷ []) q after → IsLawful capacity (ss ++ s ∷ []) q after → (i : ℕ) → Front capacity (ss ++ s ∷ []) i q after

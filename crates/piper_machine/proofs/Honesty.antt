@@ -1,7 +1,6 @@
 -- Each step keeps the honest end: what the reader knows of the close it read off the pipe, before
 -- its last look.
-use Rattle.std.proofs.Common.{◌≡◌, ℕ, List, [], ◌∷◌, ◌++◌, length, Bool, true, false, Option, None, Some, Result, Ok, Err, ◌==◌, is_some, refl, sym, ap, subst, ◌∙◌, arith}
-use Rattle.std.proofs.lemmas.Bool.Decides.{nat_tests}
+use Rattle.std.proofs.Common.{◌≡◌, ℕ, List, ◌∷◌, ◌++◌, Bool, true, false, Option, None, Some, ◌==◌, refl, sym, subst, ◌∙◌, arith, []}
 use Rattle.piper_machine.specs.Types.{Step, Event, Action, ReadPoint, Reader, Writer}
 use Rattle.piper_protocol.specs.Table.{read_action}
 use Rattle.piper_machine.specs.Pipe.{Pipe, fresh}

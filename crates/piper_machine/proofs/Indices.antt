@@ -28,6 +28,3 @@ offset_of-flat c h d i start from inside flat = grind (arith, nat_tests)
 
 pub offset_of_low : (c i : ℕ) → i < c → offset_of c i ≡ i
 offset_of_low c i low = grind (arith, nat_tests)
-
-pub offset_of_high : (c i : ℕ) → c ≤ i → offset_of c i ≡ i - c
-offset_of_high c i high = grind (arith, nat_tests)

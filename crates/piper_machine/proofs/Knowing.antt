@@ -1,9 +1,8 @@
 -- What a step reports to a side about the other is what the step leaves it knowing.
-use Rattle.std.proofs.Common.{◌≡◌, ℕ, ◌-◌, ◌≤◌, List, [], ◌∷◌, ◌++◌, length, take, Bool, true, false, Option, None, Some, refl, ap, arith}
+use Rattle.std.proofs.lemmas.Grind.{common_steps}
+use Rattle.std.proofs.Common.{◌≡◌, ℕ, ◌-◌, ◌≤◌, List, ◌∷◌, ◌++◌, length, take, true, false, Option, None, Some, refl, arith, []}
 use Rattle.std.specs.Prelude.{⊤}
-use Rattle.std.proofs.lemmas.List.{length-take, length-take-le}
-use Rattle.piper_machine.specs.Types.{Side, Query, Answer, Event, Action, Reader, Writer, Answered}
-use Rattle.piper_protocol.specs.Table.{query_answer, yield_answer}
+use Rattle.piper_machine.specs.Types.{Side, Answer, Event, Action, Reader, Writer, Answered}
 use Rattle.piper_machine.specs.Ready.{IsReadyAnswer}
 use Rattle.piper_machine.specs.Log.{answer_event}
 use Rattle.piper_machine.specs.Pipe.{Pipe}
@@ -44,15 +43,7 @@ knows Writer p = p.room
 
 -- the log never reports less than the side knows
 pub learned-enough : (side : Side) (action : Action) (p : Pipe) (k : Knowledge) → knows side p ≤ k.known → knows side (performed side action p) ≤ (learned side action p k).known
-learned-enough Reader Action.LoadIndex p k enough = omega arith
-learned-enough Writer Action.LoadIndex p k enough = omega arith
-learned-enough Reader (Action.StoreHead n) p k enough = let moved = length-take n p.unread in omega arith
-learned-enough Writer (Action.StoreTail n) p k enough = let moved = length-take n p.lent in omega arith
-learned-enough side (Action.StoreClosed true) p k enough = enough
-learned-enough side (Action.StoreClosed false) p k enough = enough
-learned-enough side (Action.Take Reader) p k enough = enough
-learned-enough side (Action.Take Writer) p k enough = enough
-learned-enough side action p k enough = enough
+learned-enough side action p k enough = grind (arith, common_steps)
 
 -- and exactly that, where a store stays within what there is
 abbrev pub Stores : Side → Action → Pipe → Type 0
@@ -61,15 +52,7 @@ Stores Writer (Action.StoreTail n) p = n ≤ length p.lent
 Stores side action p = ⊤
 
 pub learned-exactly : (side : Side) (action : Action) (p : Pipe) (k : Knowledge) → Stores side action p → k.known ≡ knows side p → (learned side action p k).known ≡ knows side (performed side action p)
-learned-exactly Reader Action.LoadIndex p k stores same = refl
-learned-exactly Writer Action.LoadIndex p k stores same = refl
-learned-exactly Reader (Action.StoreHead n) p k stores same = let all = length-take-le n p.unread stores in omega arith
-learned-exactly Writer (Action.StoreTail n) p k stores same = let all = length-take-le n p.lent stores in omega arith
-learned-exactly side (Action.StoreClosed true) p k stores same = same
-learned-exactly side (Action.StoreClosed false) p k stores same = same
-learned-exactly side (Action.Take Reader) p k stores same = same
-learned-exactly side (Action.Take Writer) p k stores same = same
-learned-exactly side action p k stores same = same
+learned-exactly side action p k stores same = grind (arith, common_steps)
 
 -- the other side's step
 
@@ -84,9 +67,3 @@ reader-shows c action p k never = grind arith
 abbrev pub IsReadyNext : Side → Knowledge → Option Answer → Type 0
 IsReadyNext side k None = ⊤
 IsReadyNext side k (Some answer) = IsReadyAnswer side k (Answered side answer)
-
-pub query-ready : (side : Side) (k : Knowledge) (query : Query) (capacity count : ℕ) → IsReadyNext side k (Some (query_answer query capacity count))
-query-ready side k query capacity count = grind arith
-
-pub yield-ready : (side : Side) (k : Knowledge) (is_granted : Bool) → IsReadyNext side k (Some (yield_answer is_granted))
-yield-ready side k is_granted = grind arith

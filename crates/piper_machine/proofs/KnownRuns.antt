@@ -1,5 +1,5 @@
 -- What the laws say of what the sides know, over a run from a fresh pipe.
-use Rattle.std.proofs.Common.{◌≡◌, ℕ, ◌≤◌, List, [], ◌∷◌, ◌++◌, length, Bool, true, false, Option, None, Some, refl, sym, subst, ◌∙◌, arith}
+use Rattle.std.proofs.Common.{◌≡◌, ℕ, ◌≤◌, List, ◌∷◌, ◌++◌, length, Bool, true, false, Option, None, refl, sym, subst, ◌∙◌, arith, []}
 use Rattle.piper_machine.specs.Types.{Side, Call, Kind, Step, Event, ReadPoint, WritePoint, Action, Reader, Writer, Begin, Go, Put, Began}
 use Rattle.piper_machine.specs.Call.{side_of, kind_of, waker_of}
 use Rattle.piper_protocol.specs.Table.{head_store, read_action, tail_store, write_action}

@@ -1,8 +1,9 @@
 -- A machine after a step of one of its sides: it is a machine again, and which pipe it represents.
-use Rattle.std.proofs.Common.{◌≡◌, ◌+◌, ◌-◌, ◌≤◌, ℕ, Bool, true, false, List, [], take, Option, None, Some, IsSome, refl, ap, ◌∙◌, arith}
+use Rattle.std.proofs.lemmas.Grind.{common_steps}
+use Rattle.std.proofs.Common.{◌≡◌, ◌+◌, ◌-◌, ◌≤◌, ℕ, List, ap, ◌∙◌, arith, []}
 use Rattle.piper_machine.specs.Types.{Action, OpenCall, SourceAct, Destination, ReadPoint, WritePoint, Found, Slice}
 use Rattle.piper_machine.specs.Open.{no_call}
-use Rattle.piper_protocol.specs.Index.{distance, offset_of, advanced}
+use Rattle.piper_protocol.specs.Index.{offset_of, advanced}
 use Rattle.piper_protocol.specs.Table.{Next, read_action, write_action, write_after}
 use Rattle.piper_machine.specs.Side.{Reading, Writing, IsReading, IsWriting, known_of, peekable_of, room_of}
 use Rattle.piper_machine.specs.SideSteps.{writing_answer}
@@ -10,8 +11,6 @@ use Rattle.piper_machine.specs.Pipe.{Pipe}
 use Rattle.piper_machine.specs.Step.{round_answer}
 use Rattle.piper_machine.specs.Machine.{pipe_of, IsMachine}
 use Rattle.piper_machine.specs.declared.machine.Machine.TheInside.{Inside}
-use Rattle.piper_machine.proofs.Indices.{distance-advanced_to, distance-advanced_from, place_below}
-use Rattle.piper_machine.proofs.Soundness.{tail_below}
 
 -- a store that is next stays within what its side holds
 pub head-within : (m : Inside) (i : IsMachine m) (p : Pipe) (n : ℕ) → pipe_of m ≡ p → read_action p.reader ≡ Action.StoreHead n → n ≤ peekable_of m.read
@@ -24,47 +23,12 @@ tail-within m i p n is next = grind arith
 pub reader-passed : (m : Inside) (i : IsMachine m) (n : ℕ) (r : Reading) (point : ReadPoint) (call : OpenCall) (destination : Destination) → r ≡ record m.read { head = advanced m.read.capacity m.read.head n; point = point }
     → IsReading r → n ≤ known_of m.read → offset_of m.read.capacity m.read.head + n ≤ m.read.capacity → (r.point ≡ ReadPoint.Idle → call ≡ no_call) → (r.point ≡ ReadPoint.Idle → destination ≡ Slice 0)
     → IsMachine (record m { read = r; reader_call = call; destination = destination })
-reader-passed m i n r point call destination is reading within flat holds fills =
-    let known = distance-advanced_from m.read.capacity m.read.head m.read.tail n i.reading.head i.reading.tail within i.reading.known flat i.reading.capacity.0 in
-    let unread = distance-advanced_from m.read.capacity m.read.head m.write.tail n i.reading.head (tail_below m i) (omega (arith, i.known)) i.unread flat i.reading.capacity.0 in
-    record {
-      reading = reading;
-      writing = i.writing;
-      capacity = rw is i.capacity;
-      bytes = rw is i.bytes;
-      unread = rw is (omega (arith, i.unread));
-      known = rw is (omega (arith, i.known));
-      room = rw is (omega (arith, i.room));
-      shut = i.shut;
-      reader_call = holds;
-      writer_call = i.writer_call;
-      destination = fills;
-      source = i.source;
-    }
+reader-passed m i n r point call destination is reading within flat holds fills = grind (arith, common_steps)
 
 -- the writer has passed n lent places
 pub writer-passed : (m : Inside) (i : IsMachine m) (n : ℕ) (w : Writing) (point : WritePoint) (call : OpenCall) (acts : List SourceAct) → w ≡ record m.write { tail = advanced m.write.capacity m.write.tail n; lent = m.write.lent - n; point = point }
     → IsWriting w → n ≤ m.write.lent → (w.point ≡ WritePoint.Idle → call ≡ no_call) → (w.point ≡ WritePoint.Idle → acts ≡ []) → IsMachine (record m { write = w; writer_call = call; source = acts })
-writer-passed m i n w point call acts is writing within holds gives =
-    let below = place_below m.write.capacity m.write.tail i.writing.tail in
-    let flat : offset_of m.write.capacity m.write.tail + n ≤ m.write.capacity = omega (arith, i.writing.lent_place) in
-    let room = distance-advanced_to m.write.capacity m.write.head m.write.tail n i.writing.head i.writing.tail (omega (arith, i.writing.lent_room, i.writing.within)) flat i.writing.capacity.0 in
-    let unread : distance m.read.capacity m.read.head (advanced m.write.capacity m.write.tail n) ≡ distance m.read.capacity m.read.head m.write.tail + n =
-    rw i.capacity (distance-advanced_to m.read.capacity m.read.head m.write.tail n i.reading.head (tail_below m i) (omega (arith, i.room, i.writing.lent_room, i.capacity, i.writing.within)) (rw i.capacity at flat) i.reading.capacity.0) in
-    record {
-      reading = i.reading;
-      writing = writing;
-      capacity = rw is i.capacity;
-      bytes = i.bytes;
-      unread = rw is (omega (arith, i.room, i.writing.lent_room, i.capacity, i.writing.within));
-      known = rw is (omega (arith, i.known));
-      room = rw is (omega (arith, i.room));
-      shut = rw is i.shut;
-      reader_call = i.reader_call;
-      writer_call = holds;
-      destination = i.destination;
-      source = gives;
-    }
+writer-passed m i n w point call acts is writing within holds gives = grind (arith, common_steps)
 
 -- the call table reads the one capacity
 pub next-of : (m : Inside) (i : IsMachine m) (found : Found) → write_after m.write.capacity (room_of m.write) m.write.point found ≡ write_after m.read.capacity (room_of m.write) m.write.point found

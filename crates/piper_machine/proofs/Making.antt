@@ -1,5 +1,5 @@
 -- A step of a side is its access, and then where the call table leads by what that found.
-use Rattle.std.proofs.Common.{◌≡◌, ◌≤◌, ℕ, List, length, false, true, refl, arith}
+use Rattle.std.proofs.Common.{◌≡◌, ◌≤◌, ℕ, List, length, false, true, arith}
 use Rattle.piper_machine.specs.Types.{Action, WritePoint, Reader, Writer}
 use Rattle.piper_protocol.specs.Table.{moved_in, publishes, write_action}
 use Rattle.piper_machine.specs.Action.{found_by, performed}

@@ -1,5 +1,6 @@
 -- A machine after one of its sides has moved, or a lent place was written: it is a machine again,
 -- and which pipe it represents.
+use Rattle.std.proofs.lemmas.Grind.{common_steps}
 use Rattle.std.proofs.Common.{◌≡◌, ◌==◌, ◌+◌, ◌-◌, ◌*◌, ◌<◌, ◌≤◌, ℕ, List, ◌++◌, take, drop, length, min, false, inl, inr, refl, sym, ap, ◌∙◌, arith, length-take-le}
 use Rattle.std.proofs.lemmas.List.{drop-take, drop-drop, take-take, drop_at}
 use Rattle.std.proofs.lemmas.Bool.{cases_lt}
@@ -15,7 +16,7 @@ use Rattle.piper_machine.specs.Side.{Reading, Writing, known_of, room_of, left_o
 use Rattle.piper_machine.specs.Buffer.{between, written}
 use Rattle.piper_machine.specs.Machine.{pipe_of, IsMachine}
 use Rattle.piper_machine.specs.declared.machine.Machine.TheInside.{Inside}
-use Rattle.piper_machine.proofs.Indices.{distance-advanced_to, distance-advanced_from, offset_of-advanced, place_below, offset_of_low}
+use Rattle.piper_machine.proofs.Indices.{distance-advanced_from, offset_of-advanced, place_below, offset_of_low}
 use Rattle.piper_machine.proofs.Between.{between-advanced_tail, between-advanced_head, between-written, between-set}
 use Rattle.piper_machine.proofs.Ring.{slice-set}
 use Rattle.std.proofs.Math.ListN.{set}
@@ -93,9 +94,7 @@ module _ (m : Inside) (i : IsMachine m) (n : ℕ) (w : Writing) (point : WritePo
   flat = omega (arith, i.writing.lent_place, place_below m.write.capacity m.write.tail i.writing.tail, place-same m i, i.capacity)
 
   room_left : room_of (record m.write { tail = advanced m.write.capacity m.write.tail n; lent = m.write.lent - n }) ≡ room_of m.write - n
-  room_left =
-      let more = distance-advanced_to m.write.capacity m.write.head m.write.tail n i.writing.head i.writing.tail (omega (arith, i.writing.lent_room, i.writing.within)) (omega (arith, i.writing.lent_place, place_below m.write.capacity m.write.tail i.writing.tail)) i.writing.capacity.0 in
-      omega arith
+  room_left = grind (arith, common_steps)
 
   unread_longer : between m.read.capacity m.read.head (advanced m.read.capacity m.write.tail n) m.bytes.items ≡ between m.read.capacity m.read.head m.write.tail m.bytes.items ++ take n (drop (offset_of m.read.capacity m.write.tail) m.bytes.items)
   unread_longer = between-advanced_tail m.read.capacity m.read.head m.write.tail m.bytes.items i.bytes i.reading.head (tail_below m i) i.unread n (omega (arith, i.room, i.writing.lent_room, i.capacity, i.writing.within)) flat i.reading.capacity.0

@@ -1,9 +1,10 @@
 -- What the log says of the reader's open call at each point, and that its steps keep this and give
 -- right answers.
-use Rattle.std.proofs.Common.{◌≡◌, ℕ, ◌+◌, ◌≤◌, List, [], ◌∷◌, ◌++◌, take, length, Bool, true, false, Some, ◌==◌, is_some, Result, Ok, Err, refl, sym, ap, subst, ◌∙◌, arith, length-append, length-take-le, IsSomeAnd}
-use Rattle.piper_machine.specs.Types.{Call, Event, Seen, Polled, Failed, Form, Purpose, AfterRead, ReadPoint, Destination, Reader, Looked, Ready, Pending, Memory, Try, Polling, Granted as granted, Slice, Acts}
+use Rattle.std.proofs.lemmas.Grind.{common_steps}
+use Rattle.std.proofs.Common.{◌≡◌, ℕ, ◌+◌, ◌≤◌, List, ◌∷◌, ◌++◌, take, length, Bool, true, Some, ◌==◌, is_some, Result, Ok, Err, refl, sym, ap, subst, ◌∙◌, arith, length-take-le, IsSomeAnd, []}
+use Rattle.piper_machine.specs.Types.{Call, Event, Seen, Polled, Failed, Form, Purpose, AfterRead, ReadPoint, Destination, Reader, Looked, Try, Polling, Granted as granted, Slice, Acts}
 use Rattle.piper_machine.specs.Open.{is_granted, is_yield_granted}
-use Rattle.piper_protocol.specs.Table.{Next, copy_answer, count_answer, end_or_pending, failed_answer, head_store, query_answer, read_after, read_done, reader_found, reader_is_true, reader_looked, reader_looked_again, reader_looks_for, reader_moved, reader_registered, writer_taken, yield_answer}
+use Rattle.piper_protocol.specs.Table.{Next, copy_answer, count_answer, failed_answer, head_store, query_answer, read_after, read_done, reader_found, reader_is_true, reader_looked, reader_looked_again, reader_looks_for, reader_moved, reader_registered, writer_taken, yield_answer}
 use Rattle.piper_machine.specs.Log.{answer_event}
 use Rattle.piper_machine.specs.Pipe.{Pipe}
 use Rattle.piper_machine.specs.Round.{taken, found_of, left_of_destination}
@@ -12,7 +13,7 @@ use Rattle.piper_machine.specs.Step.{went, destination_after}
 use Rattle.piper_machine.specs.Noted.{Noted, noted_from}
 use Rattle.piper_machine.specs.Outcome.{places_of, may_fail, IsAnswer, MayHaveMoved, number_found}
 use Rattle.piper_machine.specs.Answered.{AreRightFrom}
-use Rattle.piper_machine.proofs.Showing.{noted-append, right-append, registers-leaves, wake-leaves, yield-leaves, answers, Polls, poll-answers, none_moved}
+use Rattle.piper_machine.proofs.Showing.{noted-append, right-append, registers-leaves, wake-leaves, yield-leaves, answers, Polls}
 
 -- a drain of this form, whose destination has so much left where so many bytes were taken
 abbrev pub IsDrain : Form → Call → Destination → ℕ → Type 0
@@ -85,14 +86,7 @@ module _ (capacity : ℕ) where
   drain-counts form c destination sum looks moved drains count = grind arith
 
   drain-waits : (form : Form) (c : Call) (destination : Destination) (answer : Polled Bool) (looks : List Seen) (moved : List ℕ) → IsDrain form c destination 0 → length moved + 0 ≡ 0 → IsAnswer capacity c looks moved (copy_answer form answer)
-  drain-waits Try (Call.TryDrain size) (Slice left) answer looks moved drains count = record { consumed = omega arith; within = omega arith }
-  drain-waits (Polling is_drawn) (Call.PollDrainBytes waker luck size) (Slice left) (Ready b) looks moved drains count = record { consumed = omega arith; within = omega arith }
-  drain-waits (Polling is_drawn) (Call.PollDrainBytes waker luck size) (Slice left) Pending looks moved drains count = none_moved moved count
-  drain-waits (Polling is_drawn) (Call.PollDrainBytes waker luck size) (Slice left) Memory looks moved drains count = none_moved moved count
-  drain-waits (Polling is_drawn) (Call.PollDrain waker luck acts) (Acts left) (Ready b) looks moved drains count = record { consumed = omega arith; within = omega arith }
-  drain-waits (Polling is_drawn) (Call.PollDrain waker luck acts) (Acts left) Pending looks moved drains count = none_moved moved count
-  drain-waits (Polling is_drawn) (Call.PollDrain waker luck acts) (Acts left) Memory looks moved drains count = none_moved moved count
-  drain-waits form c destination answer looks moved drains count = absurd drains
+  drain-waits form c destination answer looks moved drains count = grind (arith, common_steps)
 
   drain-moves : (form : Form) (c : Call) (destination : Destination) (sum : ℕ) (moved : List ℕ) → IsDrain form c destination sum → length moved ≡ sum → MayHaveMoved c moved
   drain-moves form c destination sum moved drains count = grind arith
@@ -118,21 +112,16 @@ module _ (capacity : ℕ) where
     opens-leads none l looks = grind arith
 
     registers-leads : (is_granted : Bool) (l : Purpose) → ReaderLooks l destination t → Leads capacity destination (reader_registered is_granted l) t
-    registers-leads true l looks = (tt, looks)
-    registers-leads false Purpose.Poll looks = (poll-answers capacity Reader t Memory looks, tt)
-    registers-leads false (Purpose.Copy form) looks = (answers capacity t Reader looks.drain _ looks.is (drain-waits form looks.drain destination Memory t.looks t.moved looks.drains looks.count), tt)
+    registers-leads is_granted l looks = grind (arith, common_steps)
 
     again-leads : (none was_closed : Bool) (l : Purpose) → ReaderLooks l destination t → Leads capacity destination (reader_looked_again none l was_closed) t
-    again-leads true was_closed Purpose.Poll looks = (poll-answers capacity Reader t (end_or_pending was_closed) looks, tt)
-    again-leads true was_closed (Purpose.Copy form) looks = (answers capacity t Reader looks.drain _ looks.is (drain-waits form looks.drain destination (end_or_pending was_closed) t.looks t.moved looks.drains looks.count), tt)
-    again-leads false was_closed l looks = (tt, found-leads l looks)
+    again-leads none was_closed l looks = grind (arith, common_steps)
 
     true-leads : (l : Purpose) → ReaderLooks l destination t → Leads capacity destination (reader_is_true l) t
     true-leads l looks = grind arith
 
     yields-leads : (is_granted : Bool) → Drains (Polling true) destination 0 0 t → AreRightFrom capacity Reader t (answer_event Reader (Some (yield_answer is_granted)))
-    yields-leads true looks = answers capacity t Reader looks.drain _ looks.is (drain-waits (Polling true) looks.drain destination Pending t.looks t.moved looks.drains looks.count)
-    yields-leads false looks = answers capacity t Reader looks.drain _ looks.is (drain-waits (Polling true) looks.drain destination Memory t.looks t.moved looks.drains looks.count)
+    yields-leads is_granted looks = grind (arith, common_steps)
 
     round-leads : (none : Bool) (n : ℕ) (form : Form) (sum : ℕ) (left : Destination) (held : Drains form destination 0 sum t) → IsDrain form held.drain left (sum + n) → Leads capacity left (reader_moved none n form sum) t
     round-leads none n form sum left held on = grind arith
@@ -153,16 +142,7 @@ module _ (capacity : ℕ) where
   -- a store of head
   stores : (n : ℕ) (next : AfterRead) (destination : Destination) (t : Noted) (bytes : List ℕ) → length bytes ≡ n → ReaderStores n next destination t
       → let u = record t { moved = t.moved ++ bytes } in IsSomeAnd t.call (λ (c : Call). MayHaveMoved c u.moved) × ReaderAfter next destination u
-  stores n AfterRead.Answer destination t bytes long held =
-      let whole : t.moved ++ bytes ≡ bytes = ap (λ (xs : List ℕ). xs ++ bytes) held.1 in
-      let count : length (t.moved ++ bytes) ≡ n = ap (λ (xs : List ℕ). length xs) whole ∙ long in
-      (rw held.0 count, held.0 ∙ ap (λ (k : ℕ). Some (Call.Consume k)) (sym count))
-  stores n AfterRead.Drop destination t bytes long held = absurd held
-  stores n (AfterRead.Round form sum) destination t bytes long held =
-      let both = length-append t.moved bytes in
-      let before = held.count in
-      let count : length (t.moved ++ bytes) ≡ sum = omega arith in
-      (rw held.is (drain-moves form held.drain destination sum (t.moved ++ bytes) held.drains count), record { drain = held.drain; is = held.is; drains = held.drains; count = omega arith })
+  stores n next destination t bytes long held = grind (arith, common_steps)
 
 -- the step of each point
 pub reader-point : (point : ReadPoint) (p : Pipe) (t : Noted) → length p.unread ≤ p.capacity → head_store point ≤ length p.unread → ReaderAt point p.destination t

@@ -1,6 +1,6 @@
 -- Each step keeps both sides remembered: its own side goes on from point to point, and the other is
 -- touched by it.
-use Rattle.std.proofs.Common.{◌≡◌, inl, inr, ℕ, List, [], ◌∷◌, ◌++◌, Bool, true, Option, None, Some, ◌==◌, refl, sym, ap, subst, slice_set, arith}
+use Rattle.std.proofs.Common.{◌≡◌, ℕ, List, ◌∷◌, ◌++◌, Option, None, Some, ◌==◌, refl, sym, subst, slice_set, arith, []}
 use Rattle.piper_machine.specs.Types.{AfterRead, AfterWrite, OpenCall, Call, Step, Event, StepRefusal, Action, Context, SourceAct, Purpose, ReadPoint, WritePoint, Destination, Reader, Writer, Begin, Go, Put, Try, Polling, Slice, Acts}
 use Rattle.piper_machine.specs.Open.{called_with}
 use Rattle.piper_protocol.specs.Table.{read_action, write_action, reader_looks_for}

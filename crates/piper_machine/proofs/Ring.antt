@@ -1,14 +1,14 @@
 -- The bytes of a ring, one by one: number i of those from the place h on is at the place of h + i.
-use Rattle.std.proofs.Common.{◌≡◌, ◌≢◌, ℕ, ◌+◌, ◌-◌, ◌<◌, ◌≤◌, ◌⊎◌, List, ◌++◌, length, get_or, take, drop, refl, sym, ap, ◌∙◌, inl, inr, arith, length-append, length-drop, length-take-le, get_or-drop, get_or-take, append-nil, min}
+use Rattle.std.proofs.Common.{◌≡◌, ◌≢◌, ℕ, ◌+◌, ◌-◌, ◌<◌, ◌≤◌, ◌⊎◌, List, ◌++◌, length, get_or, take, drop, sym, ap, ◌∙◌, inl, inr, arith, length-append, length-drop, length-take-le, get_or-drop, get_or-take, append-nil, min}
 use Rattle.std.proofs.Math.Seq.{take-append-add, take-length}
 use Rattle.std.proofs.Math.ListN.{set, length-set}
-use Rattle.std.proofs.lemmas.Grind.{get_or-set_at}
+use Rattle.std.proofs.lemmas.Grind.{get_or-set_at, common_steps}
 use Rattle.std.proofs.lemmas.List.{get_or-set_other, same_lists, take-take, take-append-le, get_or_append_left, get_or-append_right}
 use Rattle.std.proofs.lemmas.Bool.{cases_lt, cases_eq}
 use Rattle.std.proofs.lemmas.Bool.Decides.{nat_tests}
 use Rattle.piper_protocol.specs.Index.{offset_of}
 use Rattle.piper_machine.specs.Buffer.{written}
-use Rattle.piper_machine.proofs.Indices.{offset_of-twice, offset_of-flat, offset_of_low, offset_of_high}
+use Rattle.piper_machine.proofs.Indices.{offset_of-twice, offset_of-flat}
 
 -- d bytes from the place h on, round the end
 abbrev pub ring : ℕ → ℕ → List ℕ → List ℕ
@@ -19,24 +19,14 @@ module _ (c h d : ℕ) (xs : List ℕ) (long : length xs ≡ c) (start : h < c) 
   length-ring = length-take-le d _ (simp (length-append, length-drop) (omega (arith, length-take-le h xs (omega arith))))
 
   pub get_or-ring : (i e : ℕ) → i < d → get_or (ring h d xs) i e ≡ get_or xs (offset_of c (h + i)) e
-  get_or-ring i e within =
-      let tail = length-drop h xs in
-      elim (cases_lt (h + i) c) [
-        | inl low ↦ get_or-take d _ i e within ∙ get_or_append_left _ _ e i (omega arith) ∙ get_or-drop h xs i e ∙ ap (λ k. get_or xs k e) (sym (offset_of_low c (h + i) low))
-        | inr high ↦ get_or-take d _ i e within ∙ get_or-append_right _ _ (c - h) i e (omega arith) (omega arith) ∙ get_or-take h xs _ e (omega arith) ∙ ap (λ k. get_or xs k e) (let at : i - (c - h) ≡ h + i - c = omega arith in at ∙ sym (offset_of_high c (h + i) high))
-      ]
+  get_or-ring i e within = grind (arith, common_steps)
 
 module _ (xs : List ℕ) (k : ℕ) (ys : List ℕ) (fits : k + length ys ≤ length xs) where
   pub length-written : length (written xs k ys) ≡ length xs
   length-written = simp (length-append, length-drop) (omega (arith, length-take-le k xs (omega arith)))
 
   pub get_or-written_outside : (i e : ℕ) → (i < k) ⊎ (k + length ys ≤ i) → get_or (written xs k ys) i e ≡ get_or xs i e
-  get_or-written_outside i e (inl before) = get_or_append_left _ _ e i (omega (arith, length-take-le k xs (omega arith))) ∙ get_or-take k xs i e before
-  get_or-written_outside i e (inr past) =
-      get_or-append_right _ _ k i e (length-take-le k xs (omega arith)) (omega arith)
-      ∙ get_or-append_right _ _ (length ys) (i - k) e refl (omega arith)
-      ∙ get_or-drop (k + length ys) xs (i - k - length ys) e
-      ∙ ap (λ j. get_or xs j e) (omega arith)
+  get_or-written_outside i e h2 = grind (arith, common_steps)
 
 module _ (c h d : ℕ) (xs : List ℕ) (long : length xs ≡ c) (start : h < c) where
   -- after its last byte are the next ones, up to the end of the buffer

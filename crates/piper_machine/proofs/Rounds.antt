@@ -1,38 +1,19 @@
 -- The rounds of a copy are one move: what two of them move one after the other, one of them moves
 -- at once.
-use Rattle.std.proofs.Common.{◌≡◌, ℕ, zero, suc, ◌+◌, ◌-◌, ◌<◌, ◌≤◌, List, [], ◌∷◌, ◌++◌, take, drop, length, Option, None, Some, lit≤, sym, ap, ◌∙◌, arith, append_assoc, append-nil, length-append, length-drop, length-take-le}
-use Rattle.std.proofs.lemmas.Bool.Decides.{nat_tests}
+use Rattle.std.proofs.lemmas.Grind.{common_steps}
+use Rattle.std.proofs.Common.{◌≡◌, ℕ, ◌+◌, ◌-◌, ◌<◌, ◌≤◌, List, ◌∷◌, ◌++◌, take, drop, length, Option, sym, ap, ◌∙◌, arith, append_assoc, append-nil, length-drop, length-take-le, []}
 use Rattle.std.proofs.lemmas.List.{drop-drop, drop_all, take_at, drop_at}
 use Rattle.std.proofs.Math.Seq.{take-add}
 use borrow.Rule.Slice.PartMut.{put_mid}
 use Rattle.piper_machine.specs.Pipe.{Pipe}
-use Rattle.piper_machine.specs.Copy.{waker_after, woken_after, filled, drained}
+use Rattle.piper_machine.specs.Copy.{filled}
 use Rattle.piper_machine.specs.Move.{with_waker}
 
-pub waker_after-twice : (m n : ℕ) (waker : Option ℕ) → waker_after n (waker_after m waker) ≡ waker_after (m + n) waker
-waker_after-twice m n waker = grind arith
-
-pub woken_after-twice : (m n : ℕ) (names : List ℕ) (waker : Option ℕ) → woken_after n (woken_after m names waker) (waker_after m waker) ≡ woken_after (m + n) names waker
-woken_after-twice m n names waker = grind arith
-
 pub filled_nothing : (p : Pipe) → p.lent ≡ [] → filled [] p ≡ p
-filled_nothing p none =
-    let same = append-nil p.unread in
-    let room : p.room - 0 ≡ p.room = omega arith in
-    let lent = sym none in
-    λ j. record p { unread = same j; room = room j; lent = lent j }
+filled_nothing p none = grind (arith, common_steps)
 
 pub filled-filled : (xs ys : List ℕ) (p : Pipe) → filled ys (filled xs p) ≡ filled (xs ++ ys) p
-filled-filled xs ys p =
-    let long = length-append xs ys in
-    let room : p.room - length xs - length ys ≡ p.room - length (xs ++ ys) = omega arith in
-    let bytes = append_assoc p.unread xs ys in
-    let waker = waker_after-twice (length xs) (length ys) p.reader_waker ∙ ap (λ k. waker_after k p.reader_waker) (sym long) in
-    let woken = woken_after-twice (length xs) (length ys) p.woken p.reader_waker ∙ ap (λ k. woken_after k p.woken p.reader_waker) (sym long) in
-    cc
-
-pub drained_nothing : (p : Pipe) → p.start < p.capacity → drained 0 p ≡ p
-drained_nothing p start = grind arith
+filled-filled xs ys p = grind (arith, common_steps)
 
 -- a slice that is filled part by part: the next n bytes after the first d
 pub next_part : (d n : ℕ) (bytes dest filled_so_far : List ℕ) → d ≤ length bytes → d + n ≤ length dest → filled_so_far ≡ take d bytes ++ drop d dest → length filled_so_far ≡ length dest
@@ -47,7 +28,3 @@ next_part d n bytes dest so_far known fits is long =
 -- with the waker that waits at most one was called: there is room for its name
 abbrev pub HasOneWake : List ℕ → Option ℕ → Type 0
 HasOneWake names waker = length (with_waker names waker) ≤ 1
-
-pub one_wake-room : (names : List ℕ) (waker : Option ℕ) → HasOneWake names waker → length names < 2
-one_wake-room names None one = omega arith
-one_wake-room names (Some name) one = let long = length-append names (name ∷ []) in omega arith

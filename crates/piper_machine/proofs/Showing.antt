@@ -1,7 +1,7 @@
 -- How what the log says of a side's calls grows with the log: the events that leave it, and those
 -- of the other side.
-use Rattle.std.proofs.Common.{◌≡◌, ℕ, ◌+◌, length, arith, List, [], ◌∷◌, ◌++◌, Bool, true, false, Option, None, Some, refl, sym, ap, subst, ◌∙◌}
-use Rattle.piper_machine.specs.Types.{Side, Call, Answer, Seen, Polled, Event, Context, Action, Reader, Writer}
+use Rattle.std.proofs.Common.{◌≡◌, ℕ, ◌+◌, arith, List, ◌∷◌, ◌++◌, Option, Some, refl, sym, ap, subst, ◌∙◌, []}
+use Rattle.piper_machine.specs.Types.{Side, Call, Answer, Event, Context, Action, Reader, Writer}
 use Rattle.piper_machine.specs.Log.{answer_event}
 use Rattle.piper_machine.specs.Pipe.{Pipe}
 use Rattle.piper_machine.specs.Action.{logged_of, registration_of, wake_of, yield_of}
@@ -71,14 +71,3 @@ pub record Polls (t : Noted) : Type 0 where
   pub poll : Call
   pub is : t.call ≡ Some poll
   pub polls : IsPoll poll
-
-poll-right : (capacity : ℕ) (c : Call) (polled : Polled Bool) (looks : List Seen) (moved : List ℕ) → IsPoll c → IsAnswer capacity c looks moved (Answer.Poll polled)
-poll-right capacity c polled looks moved polls = grind arith
-
-pub poll-answers : (capacity : ℕ) (side : Side) (t : Noted) (polled : Polled Bool) → Polls t → AreRightFrom capacity side t (answer_event side (Some (Answer.Poll polled)))
-poll-answers capacity side t polled asked = answers capacity t side asked.poll (Answer.Poll polled) asked.is (poll-right capacity asked.poll polled t.looks t.moved asked.polls)
-
--- a copy that has moved nothing
-pub none_moved : (moved : List ℕ) → length moved + 0 ≡ 0 → moved ≡ []
-none_moved [] none = refl
-none_moved (byte ∷ bytes) none = absurd (omega arith)

@@ -1,5 +1,6 @@
 -- A machine whose invariant holds represents a sound pipe.
-use Rattle.std.proofs.Common.{◌≡◌, ◌+◌, ◌<◌, ◌≤◌, ◌*◌, ◌-◌, min, ℕ, take, drop, length, sym, ap, ◌∙◌, subst, arith, length-take-le, length-drop}
+use Rattle.std.proofs.lemmas.Grind.{common_steps}
+use Rattle.std.proofs.Common.{◌≡◌, ◌+◌, ◌<◌, ◌≤◌, ◌*◌, ◌-◌, min, ℕ, take, drop, length, sym, ap, ◌∙◌, subst, arith}
 use Rattle.piper_protocol.specs.Index.{distance, offset_of}
 use Rattle.piper_machine.specs.Pipe.{Pipe}
 use Rattle.std.proofs.lemmas.Bool.Decides.{nat_tests}
@@ -28,9 +29,7 @@ module _ (m : Inside) (i : IsMachine m) where
   place-same = ap (λ n. offset_of n m.write.tail) i.capacity
 
   pub length-lent : length (pipe_of m).lent ≡ m.write.lent
-  length-lent =
-      let below = place_below m.write.capacity m.write.tail i.writing.tail in
-      length-take-le m.write.lent _ (simp length-drop (omega (arith, i.bytes, i.capacity, i.writing.lent_place)))
+  length-lent = grind (arith, common_steps)
 
   sound_of : IsSound (pipe_of m)
   sound_of =

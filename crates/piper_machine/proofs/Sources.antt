@@ -1,6 +1,7 @@
 -- What is left of a source that has given some bytes more.
-use Rattle.std.proofs.Common.{subst, ◌≡◌, ℕ, ◌+◌, ◌-◌, ◌<◌, ◌≤◌, List, [], ◌∷◌, length, take, drop, ◌++◌, min, refl, sym, ap, ◌∙◌, arith, length-drop}
-use Rattle.std.proofs.lemmas.List.{drop-drop, take-append-drop}
+use Rattle.std.proofs.lemmas.Grind.{common_steps}
+use Rattle.std.proofs.Common.{subst, ◌≡◌, ℕ, ◌+◌, ◌-◌, ◌<◌, ◌≤◌, List, ◌∷◌, length, take, drop, ◌++◌, min, refl, sym, ap, ◌∙◌, arith, length-drop, []}
+use Rattle.std.proofs.lemmas.List.{drop-drop}
 use Rattle.piper_machine.specs.Types.{SourceAct, MOST_A_ROUND}
 use Rattle.piper_machine.specs.Source.{bytes_of, without}
 use Rattle.piper_machine.specs.Pipe.{Pipe}
@@ -27,11 +28,7 @@ moved-given most acts = grind arith
 -- what the source gave is at the front of what it was lent
 pub source-called : (p q : Pipe) (n : ℕ) (held rest : List SourceAct) → q ≡ lending q.lent (record p { source = held }) → n ≡ min (length q.lent) (length (bytes_of p.source))
     → take n q.lent ≡ take n (bytes_of p.source) → rest ≡ left_of_source n p.source → record q { source = rest } ≡ source_called (lending q.lent p)
-source-called p q n held rest is count front left =
-    let moved : moved_by (given (length q.lent) p.source) ≡ n = moved-given (length q.lent) p.source ∙ sym count in
-    let whole : take n (bytes_of p.source) ++ drop n q.lent ≡ q.lent = ap (λ (xs : List ℕ). xs ++ drop n q.lent) (sym front) ∙ take-append-drop n q.lent in
-    ap (λ (x : Pipe). record x { source = rest }) is
-    ∙ rw moved (rw (whole, ← left) refl)
+source-called p q n held rest is count front left = grind (arith, common_steps)
 
 -- a source that was called was lent places within the bounds
 lendable-after : (most : ℕ) (p q : Pipe) (n : ℕ) → q.room ≡ p.room → q.is_shut ≡ p.is_shut → places_left q ≡ places_left p → Lendable most p n → Lendable most q n

@@ -1,6 +1,6 @@
 -- At each step the writer publishes only where its call has not found the
 -- pipe closed.
-use Rattle.std.proofs.Common.{◌≡◌, ℕ, ◌-◌, List, [], ◌∷◌, ◌++◌, length, Bool, true, false, Option, None, Some, ◌==◌, is_some, refl, sym, ap, subst, ◌∙◌, arith}
+use Rattle.std.proofs.Common.{◌≡◌, ℕ, ◌-◌, List, ◌∷◌, ◌++◌, Bool, true, false, ◌==◌, refl, sym, subst, ◌∙◌, arith, []}
 use Rattle.std.specs.Bool.{⊤}
 use Rattle.piper_machine.specs.Types.{Step, Event, WritePoint, Writer, Published}
 use Rattle.piper_machine.specs.Pipe.{Pipe, fresh}

@@ -1,8 +1,7 @@
 -- A waiting side is watched over: what makes sure that its waker is called, and that no step of the
 -- other side changes that.
-use Rattle.std.proofs.Common.{◌≡◌, ℕ, List, [], ◌∷◌, ◌++◌, Bool, true, false, Option, None, Some, refl, sym, ap, ◌∙◌, arith}
+use Rattle.std.proofs.Common.{◌≡◌, ℕ, List, ◌∷◌, ◌++◌, Bool, true, false, Option, None, Some, refl, ◌∙◌, arith, []}
 use Rattle.std.specs.Bool.{⊤}
-use Rattle.std.proofs.lemmas.Bool.Decides.{nat_tests}
 use Rattle.piper_machine.specs.Types.{Side, OpenCall, Query, Answer, Event, Context, Purpose, ReadPoint, WritePoint, Try, Polling}
 use Rattle.piper_machine.specs.Log.{answer_event}
 use Rattle.piper_protocol.specs.Table.{query_answer}
@@ -66,11 +65,6 @@ pub data Touch (p q : Pipe) (slot slot_after : Option ℕ) (e e_after : Errand) 
 
 -- the call of any waker
 
--- a step of the side itself, or of the other, that touches neither slot nor errand
-pub rewatch : {w v : Wait} {slot slot_after held held_after : Option ℕ} {e : Errand} (calm calm_after : Type 0) → slot_after ≡ slot → held_after ≡ held → v.handed ≡ w.handed
-    → (w.is_woken ≡ true → v.is_woken ≡ true) → (calm → calm_after) → Watched w slot held calm e → Watched v slot_after held_after calm_after e
-rewatch calm calm_after s h k more keeps h7 = grind arith
-
 -- inside a look
 
 -- the call of a look with a context began a wait of its own
@@ -92,9 +86,6 @@ abbrev pub Awaits : Purpose → Wait → Option ℕ → Type 0 → Errand → Ty
 Awaits Purpose.Poll w slot calm e = Watched w slot None calm e
 Awaits (Purpose.Copy Try) w slot calm e = ⊤
 Awaits (Purpose.Copy (Polling is_drawn)) w slot calm e = Watched w slot None calm e
-
-pub awaits-more : (w : Wait) (slot : Option ℕ) (e : Errand) (l : Purpose) (calm calm_after : Type 0) → (calm → calm_after) → Awaits l w slot calm e → Awaits l w slot calm_after e
-awaits-more w slot e l calm calm_after keeps h = grind arith
 
 -- what one side's events are to the other's wait
 

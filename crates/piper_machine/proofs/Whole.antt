@@ -1,5 +1,6 @@
 -- What remains of a call right after its opening is the call run whole.
-use Rattle.std.proofs.Common.{◌≡◌, ℕ, ◌+◌, ◌-◌, min, nat_lt, List, [], ◌∷◌, length, take, Bool, true, false, None, Some, ◌==◌, Result, Ok, refl, sym, ap, ◌∙◌, arith, append-nil}
+use Rattle.std.proofs.lemmas.Grind.{common_steps}
+use Rattle.std.proofs.Common.{◌≡◌, ℕ, ◌+◌, ◌-◌, min, List, ◌∷◌, length, Bool, false, None, Some, ◌==◌, Result, Ok, refl, sym, ap, ◌∙◌, arith, []}
 use Rattle.piper_machine.specs.Types.{Context, Polled, Failed, DestAct, SourceAct, Destination, Reader, Writer, Ready, Slice, Acts}
 use Rattle.piper_machine.specs.Pipe.{Pipe, begun}
 use Rattle.piper_machine.specs.Look.{reader_look, writer_look}
@@ -95,8 +96,7 @@ module _ (cx : Context) (acts : List SourceAct) (p : Pipe) where
   fill-acts = fills p.is_closed (p.room == 0) (p.capacity - length p.unread == 0) cx.luck.register_granted (cx.luck.draw == 0) cx.luck.yield_granted refl refl refl refl refl refl
 
 pub given-slice : (bytes : List ℕ) → bytes_given (SourceAct.Bytes bytes ∷ []) ≡ bytes
-given-slice [] = refl
-given-slice (byte ∷ bytes) = ap (λ (xs : List ℕ). byte ∷ xs) (append-nil bytes)
+given-slice bytes = grind (arith, common_steps)
 
 pub failure-slice : (bytes : List ℕ) → ends_in_failure (SourceAct.Bytes bytes ∷ []) ≡ false
 failure-slice bytes = grind arith

@@ -1,9 +1,10 @@
 -- What the log says of the writer's open call at each point, and that its steps keep this and give
 -- right answers.
-use Rattle.std.proofs.Common.{◌≡◌, ℕ, ◌+◌, ◌-◌, ◌≤◌, min, List, [], ◌∷◌, ◌++◌, take, drop, length, Bool, true, false, Option, None, Some, ◌==◌, is_some, refl, sym, ap, subst, ◌∙◌, arith, append_assoc, append-nil, length-append, length-take-le, take-append-drop, take_all, IsSomeAnd}
+use Rattle.std.proofs.lemmas.Grind.{common_steps}
+use Rattle.std.proofs.Common.{◌≡◌, ℕ, ◌+◌, ◌-◌, ◌≤◌, min, List, ◌∷◌, ◌++◌, take, drop, length, Bool, true, false, Option, None, Some, ◌==◌, is_some, refl, sym, ap, subst, ◌∙◌, arith, append_assoc, length-take-le, take-append-drop, take_all, IsSomeAnd, []}
 use Rattle.std.proofs.lemmas.List.{take-append-le}
 use Rattle.std.proofs.lemmas.Bool.Decides.{nat_tests}
-use Rattle.piper_machine.specs.Types.{Action, Call, Answer, Event, Seen, Polled, SourceAct, Form, Purpose, AfterWrite, WritePoint, Writer, Looked, Ready, Pending, Memory, Try, Polling, Nothing as nothing, Granted as granted}
+use Rattle.piper_machine.specs.Types.{Action, Call, Answer, Event, Seen, Polled, SourceAct, Form, Purpose, AfterWrite, WritePoint, Writer, Looked, Try, Polling, Nothing as nothing, Granted as granted}
 use Rattle.piper_machine.specs.Open.{is_granted, is_yield_granted}
 use Rattle.piper_protocol.specs.Table.{Next, copy_answer, count_answer, end_or_pending, failed_answer, look_answer, own_taken, query_answer, reader_taken, tail_store, write_after, write_done, writer_found, writer_is_open, writer_is_true, writer_looked, writer_looked_again, writer_moved, writer_registered, writer_rounds, yield_answer}
 use Rattle.piper_machine.specs.Log.{answer_event}
@@ -17,7 +18,7 @@ use Rattle.piper_machine.specs.Noted.{Noted, noted_from}
 use Rattle.piper_machine.specs.Outcome.{first_look, number_found, IsAnswer, IsFilled, MayHaveMoved, found_closed}
 use Rattle.piper_machine.specs.Answered.{AreRightFrom}
 use Rattle.piper_machine.proofs.Acts.{bytes_given-cons, ends_in_failure-cons, given-unspent, failure-unspent}
-use Rattle.piper_machine.proofs.Showing.{noted-append, right-append, registers-leaves, wake-leaves, yield-leaves, answers, Polls, poll-answers, none_moved}
+use Rattle.piper_machine.proofs.Showing.{noted-append, right-append, registers-leaves, wake-leaves, yield-leaves, answers, Polls}
 
 -- a fill of this form that was handed these bytes, and whether its source fails after them
 abbrev pub IsFill : Form → Call → List ℕ → Bool → Type 0
@@ -101,16 +102,7 @@ steps capacity held lent_then next t u es right noted leads =
 -- the count of a fill is all that its source gave, whether the last bytes are published or found
 -- the pipe closed
 filled : (handed moved last left : List ℕ) (sum : ℕ) (looks : List Seen) → moved ++ (last ++ left) ≡ handed → length moved + length last ≡ sum → (found_closed looks ≡ false → length last ≡ 0) → (first_look looks ≡ Some (Seen.Closed true) → sum ≡ 0) → IsFilled handed looks moved sum
-filled handed moved last left sum looks bytes count open_none closed_none =
-    let all : length (moved ++ (last ++ left)) ≡ length handed = ap (λ (xs : List ℕ). length xs) bytes in
-    let parts = length-append moved (last ++ left) in
-    let more = length-append last left in
-    record {
-      published = λ is_open. let none = open_none is_open in omega arith;
-      none = closed_none;
-      at_least = omega arith;
-      at_most = omega arith;
-    }
+filled handed moved last left sum looks bytes count open_none closed_none = grind (arith, common_steps)
 
 -- the first of some looks stays the first
 first-stays : (looks : List Seen) (look first : Seen) → first_look looks ≡ Some first → first_look (look ∷ looks) ≡ Some first
@@ -131,26 +123,13 @@ module _ (capacity : ℕ) where
   -- the answers of a fill
 
   fill-counts : (form : Form) (c : Call) (moved last left : List ℕ) (fails : Bool) (sum : ℕ) (looks : List Seen) → IsFill form c (moved ++ (last ++ left)) fails → length moved + length last ≡ sum → (found_closed looks ≡ false → length last ≡ 0) → first_look looks ≡ found_open → IsAnswer capacity c looks moved (count_answer form sum)
-  fill-counts Try (Call.TryFill bytes) moved last left fails sum looks fills count none found = filled bytes moved last left sum looks fills.0 count none (closed-none looks sum found)
-  fill-counts (Polling is_drawn) (Call.PollFillBytes waker luck bytes) moved last left fails sum looks fills count none found = filled bytes moved last left sum looks fills.0 count none (closed-none looks sum found)
-  fill-counts (Polling is_drawn) (Call.PollFill waker luck acts) moved last left fails sum looks fills count none found = filled (bytes_given acts) moved last left sum looks fills.0 count none (closed-none looks sum found)
-  fill-counts form c moved last left fails sum looks fills count none found = absurd fills
+  fill-counts form c moved last left fails sum looks fills count none found = grind (arith, common_steps)
 
   fill-waits : (form : Form) (c : Call) (moved left : List ℕ) (fails : Bool) (answer : Polled Bool) (looks : List Seen) → IsFill form c (moved ++ left) fails → length moved + 0 ≡ 0 → IsAnswer capacity c looks moved (copy_answer form answer)
-  fill-waits Try (Call.TryFill bytes) moved left fails answer looks fills count = filled bytes moved [] left 0 looks fills.0 count (λ is_open. refl) (λ is_closed. refl)
-  fill-waits (Polling is_drawn) (Call.PollFillBytes waker luck bytes) moved left fails (Ready b) looks fills count = filled bytes moved [] left 0 looks fills.0 count (λ is_open. refl) (λ is_closed. refl)
-  fill-waits (Polling is_drawn) (Call.PollFillBytes waker luck bytes) moved left fails Pending looks fills count = none_moved moved count
-  fill-waits (Polling is_drawn) (Call.PollFillBytes waker luck bytes) moved left fails Memory looks fills count = none_moved moved count
-  fill-waits (Polling is_drawn) (Call.PollFill waker luck acts) moved left fails (Ready b) looks fills count = filled (bytes_given acts) moved [] left 0 looks fills.0 count (λ is_open. refl) (λ is_closed. refl)
-  fill-waits (Polling is_drawn) (Call.PollFill waker luck acts) moved left fails Pending looks fills count = none_moved moved count
-  fill-waits (Polling is_drawn) (Call.PollFill waker luck acts) moved left fails Memory looks fills count = none_moved moved count
-  fill-waits form c moved left fails answer looks fills count = absurd fills
+  fill-waits form c moved left fails answer looks fills count = grind (arith, common_steps)
 
   fill-fails : (form : Form) (c : Call) (moved : List ℕ) (looks : List Seen) → IsFill form c (moved ++ []) true → IsAnswer capacity c looks moved failed_answer
-  fill-fails Try (Call.TryFill bytes) moved looks fills = absurd (let clash = fills.1 in cc)
-  fill-fails (Polling is_drawn) (Call.PollFillBytes waker luck bytes) moved looks fills = absurd (let clash = fills.1 in cc)
-  fill-fails (Polling is_drawn) (Call.PollFill waker luck acts) moved looks fills = record { fails = sym fills.1; published = sym (append-nil moved) ∙ fills.0 }
-  fill-fails form c moved looks fills = absurd fills
+  fill-fails form c moved looks fills = grind (arith, common_steps)
 
   fill-moves : (form : Form) (c : Call) (moved left : List ℕ) (fails : Bool) → IsFill form c (moved ++ left) fails → MayHaveMoved c moved
   fill-moves form c moved left fails fills = grind arith
@@ -174,20 +153,16 @@ module _ (capacity : ℕ) where
     again-leads none l looks = grind arith
 
     registers-leads : (is_granted : Bool) (l : Purpose) → WriterLooks found_open l held t → Leads capacity held lent_then (writer_registered is_granted l) t
-    registers-leads true l looks = (tt, looks)
-    registers-leads false Purpose.Poll looks = (poll-answers capacity Writer t Memory looks, tt)
-    registers-leads false (Purpose.Copy form) looks = (waits found_open form Memory looks, tt)
+    registers-leads is_granted l looks = grind (arith, common_steps)
 
     ends-leads : (is_closed : Bool) (l : Purpose) → WriterLooks found_open l held t → AreRightFrom capacity Writer t (answer_event Writer (Some (look_answer l (end_or_pending is_closed))))
-    ends-leads is_closed Purpose.Poll looks = poll-answers capacity Writer t (end_or_pending is_closed) looks
-    ends-leads is_closed (Purpose.Copy form) looks = waits found_open form (end_or_pending is_closed) looks
+    ends-leads is_closed l looks = grind (arith, common_steps)
 
     true-leads : (l : Purpose) → WriterLooks found_open l held t → Leads capacity held lent_then (writer_is_true l) t
     true-leads l looks = grind arith
 
     yields-leads : (is_granted : Bool) → Fills found_open (Polling true) held [] 0 t → AreRightFrom capacity Writer t (answer_event Writer (Some (yield_answer is_granted)))
-    yields-leads true looks = waits found_open (Polling true) Pending looks
-    yields-leads false looks = waits found_open (Polling true) Memory looks
+    yields-leads is_granted looks = grind (arith, common_steps)
 
     done-leads : (next : AfterWrite) → WriterAfter next held t → Leads capacity held lent_then (write_done next) t
     done-leads next noted = grind arith
@@ -199,10 +174,7 @@ module _ (capacity : ℕ) where
     own-leads is_found noted = grind arith
 
     rounds-leads : (is_closed : Bool) (n : ℕ) (form : Form) (sum : ℕ) (looks : List Seen) → t.looks ≡ Seen.Closed is_closed ∷ looks → Fills found_open form held (take n (lent_then None)) sum t → Leads capacity held lent_then (writer_rounds is_closed n form sum) t
-    rounds-leads true n form sum looks is given =
-        let closed : found_closed t.looks ≡ true = ap found_closed is in
-        (answers capacity t Writer given.fill _ given.is (fill-counts form given.fill t.moved (take n (lent_then None)) (bytes_given held) (ends_in_failure held) sum t.looks given.fills given.count (λ is_open. absurd (cc)) given.found), tt)
-    rounds-leads false n form sum looks is given = (tt, given)
+    rounds-leads is_closed n form sum looks is given = grind (arith, common_steps)
 
   -- what the log says of a look does not depend on what it found, but for the first one
   looked : (l : Purpose) (held : List SourceAct) (t : Noted) (look : Seen) → WriterLooks found_open l held t → WriterLooks found_open l held (record t { looks = look ∷ t.looks })
@@ -259,17 +231,7 @@ module _ (capacity : ℕ) where
   -- a store of tail
   stores : (n : ℕ) (next : AfterWrite) (held : List SourceAct) (lent : List ℕ) (t : Noted) → n ≤ length lent → WriterStores n next held lent t
       → let u = record t { moved = t.moved ++ take n lent } in IsSomeAnd t.call (λ (c : Call). MayHaveMoved c u.moved) × WriterAfter next held u
-  stores n AfterWrite.Answer held lent t within noted =
-      let whole : t.moved ++ take n lent ≡ take n lent = ap (λ (xs : List ℕ). xs ++ take n lent) noted.1 in
-      let count : length (t.moved ++ take n lent) ≡ n = ap (λ (xs : List ℕ). length xs) whole ∙ length-take-le n lent within in
-      (rw noted.0 count, noted.0 ∙ ap (λ (k : ℕ). Some (Call.Produced k)) (sym count))
-  stores n AfterWrite.Drop held lent t within noted = absurd noted
-  stores n AfterWrite.WakeWriter held lent t within noted = absurd noted
-  stores n (AfterWrite.Round form sum) held lent t within noted =
-      let both = length-append t.moved (take n lent) in
-      let count = noted.count in
-      let fills = subst (λ (xs : List ℕ). IsFill form noted.fill xs (ends_in_failure held)) (sym (append_assoc t.moved (take n lent) (bytes_given held))) noted.fills in
-      (rw noted.is (fill-moves form noted.fill (t.moved ++ take n lent) (bytes_given held) (ends_in_failure held) fills), record { fill = noted.fill; is = noted.is; fills = fills; count = omega arith; found = noted.found })
+  stores n next held lent t within noted = grind (arith, common_steps)
 
 -- the step of each point
 pub writer-point : (point : WritePoint) (offered : List ℕ) (p : Pipe) (t : Noted) → length p.unread ≤ p.capacity → tail_store point ≤ length p.lent → WriterAt p.capacity point p.source p.lent t

@@ -1,6 +1,7 @@
 -- The writer as a waiter, from point to point of its own calls, and what each of its steps is to a
 -- waiting reader.
-use Rattle.std.proofs.Common.{◌≡◌, ℕ, ◌-◌, ◌≤◌, List, [], ◌++◌, length, take, Bool, true, false, Option, None, Some, ◌==◌, Result, Ok, Err, refl, sym, ap, subst, ◌∙◌, arith, length-append, length-take-le}
+use Rattle.std.proofs.lemmas.Grind.{common_steps}
+use Rattle.std.proofs.Common.{◌≡◌, ℕ, ◌-◌, ◌≤◌, List, ◌++◌, length, Bool, true, Option, None, Some, ◌==◌, Result, refl, ◌∙◌, arith, []}
 use Rattle.std.specs.Bool.{⊤}
 use Rattle.std.proofs.lemmas.Bool.Decides.{nat_tests}
 use Rattle.piper_machine.specs.Types.{Query, Context, Failed, SourceAct, Form, Purpose, AfterWrite, WritePoint, Reader, Writer, Done}
@@ -14,7 +15,7 @@ use Rattle.piper_machine.specs.Step.{call_after, went, offering}
 use Rattle.piper_machine.specs.Round.{given, found_of}
 use Rattle.piper_machine.specs.Waiting.{IsBlocked}
 use Rattle.piper_machine.specs.Wait.{Wait, wait_from}
-use Rattle.piper_machine.proofs.Watching.{Errand, write_errand, Watched, same, Touch, rests, stores, finds, misses, calls, rewatch, IsHanded, HasBegun, Awaits, yielded, yield-heard, answered-passes, registration-passes, wake-heard, context_of, query-noted}
+use Rattle.piper_machine.proofs.Watching.{Errand, write_errand, Watched, same, Touch, rests, stores, finds, misses, calls, IsHanded, HasBegun, Awaits, yielded, yield-heard, answered-passes, registration-passes, wake-heard, context_of, query-noted}
 
 -- what holds of the pipe while the waker is registered in the slot: nothing any more once the
 -- writer itself has closed; after its own take it is not there, and a close that wakes the reader
@@ -114,19 +115,8 @@ moves given form sum source lent p e w h = grind arith
 rounds : (is_closed : Bool) (n : ℕ) (form : Form) (sum : ℕ) (source : List SourceAct) (lent : List ℕ) (p : Pipe) (e : Errand) (w : Wait) → WriteWaits (record p { writer = WritePoint.RoundClosed n form sum }) e w → IsValid (writer_rounds is_closed n form sum) source lent p e w
 rounds is_closed n form sum source lent p e w h = grind arith
 
--- a full pipe has no room for a byte
-none_stored : (p : Pipe) (n : ℕ) → IsSound p → n ≤ length p.lent → length p.unread ≡ p.capacity → length (p.unread ++ take n p.lent) ≡ p.capacity
-none_stored p n sound within full =
-    let more = length-append p.unread (take n p.lent) in
-    let some = length-take-le n p.lent within in
-    omega (arith, sound.room, sound.lent_room)
-
 publishes : (next : AfterWrite) (n : ℕ) (p : Pipe) (e : Errand) (w : Wait) → IsSound (record p { writer = WritePoint.StoreTail n next }) → Goes (record p { writer = WritePoint.StoreTail n next }) e w
-publishes AfterWrite.Answer n p e w sound h = record { waiting = λ pending. rewatch _ _ refl refl refl (λ a. a) (λ c. (none_stored (record p { writer = WritePoint.StoreTail n AfterWrite.Answer }) n sound sound.tail_store c.0, c.1)) (h.waiting pending); look = tt }
-publishes AfterWrite.Drop n p e w sound h = record { waiting = λ pending. rewatch _ _ refl refl refl (λ a. a) (λ c. tt) (h.waiting pending); look = tt }
-publishes AfterWrite.WakeWriter n p e w sound h = record { waiting = λ pending. rewatch _ _ refl refl refl (λ a. a) (λ c. tt) (h.waiting pending); look = tt }
-publishes (AfterWrite.Round form sum) n p e w sound h =
-    record { waiting = λ pending. rewatch _ _ refl refl refl (λ a. a) (λ c. (none_stored (record p { writer = WritePoint.StoreTail n (AfterWrite.Round form sum) }) n sound sound.tail_store c.0, c.1)) (h.waiting pending); look = tt }
+publishes next n p e w sound h = grind (arith, common_steps)
 
 takes-readers : (next : AfterWrite) (slot : Option ℕ) (p : Pipe) (e : Errand) (w : Wait) → Goes (record p { writer = WritePoint.TakeReader next; reader_waker = slot }) e w
 takes-readers next slot p e w h = grind arith

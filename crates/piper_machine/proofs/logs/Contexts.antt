@@ -1,6 +1,6 @@
 -- What the machine makes of the context of a call: whether its waker is registered, and what is
 -- reported.
-use Rattle.std.proofs.Common.{◌≡◌, ℕ, [], ◌∷◌, true, false, Option, None, Some, is_some, arith}
+use Rattle.std.proofs.Common.{◌≡◌, ℕ, ◌∷◌, true, false, Option, None, Some, is_some, arith, []}
 use Rattle.piper_machine.specs.Types.{Side, Luck, Registered, Woken}
 use Rattle.piper_machine.specs.Open.{is_granted, is_yield_granted}
 use Rattle.piper_machine.specs.Action.{registered_in, registration_of, yield_of, wake_of}

@@ -1,5 +1,5 @@
 -- A list of the accesses of both sides, filled up with the lines that are no access.
-use Rattle.std.proofs.Common.{◌≡◌, List, [], ◌∷◌, Bool, true, false, refl, sym, ap, subst, ◌∙◌, arith}
+use Rattle.std.proofs.Common.{◌≡◌, List, ◌∷◌, Bool, true, false, refl, sym, ap, subst, ◌∙◌, arith, []}
 use Rattle.piper_machine.specs.Types.{Side, Reader, Writer}
 use Rattle.piper_machine.specs.logs.Line.{Line}
 use Rattle.piper_machine.specs.logs.OneList.{AreListed, AreOrdered, FindsCount, By, by, AreOneList, Finds, Words, accesses, did, is_access, is_same, kept_if, words_after, words_of}

@@ -1,5 +1,5 @@
 -- What follows for two logs from the laws of the machine.
-use Rattle.std.proofs.Common.{◌≡◌, inl, inr, ℕ, List, [], ◌∷◌, ◌++◌, true, false, refl, sym, ap, subst, Option, ◌∙◌, arith, append_assoc, append-nil}
+use Rattle.std.proofs.Common.{◌≡◌, inl, inr, ℕ, List, ◌∷◌, ◌++◌, true, false, refl, sym, ap, subst, Option, ◌∙◌, arith, append_assoc, append-nil, []}
 use Rattle.std.proofs.lemmas.Grind.{flat_map-append}
 use Rattle.piper_machine.specs.Types.{Side, Event, Answer, Reader, Writer, Answered, Ready}
 use Rattle.piper_machine.specs.Conservation.{consumed_in, consumed_of, published_in, published_of}

@@ -1,7 +1,7 @@
 -- What a handle's log says of the open call, by the point at which it is: the same of both sides.
-use Rattle.std.proofs.Common.{◌≡◌, ℕ, suc, ◌+◌, ◌-◌, ◌%◌, ◌≤◌, ◌<◌, ◌==◌, List, [], ◌∷◌, length, min, Bool, true, false, not, Option, None, Some, is_some, IsSome, refl, sym, ap, subst, ◌∙◌, arith, nat_le, nat_lt, if◌then◌else◌}
+use Rattle.std.proofs.lemmas.Grind.{common_steps}
+use Rattle.std.proofs.Common.{◌≡◌, ℕ, suc, ◌+◌, ◌-◌, ◌%◌, ◌≤◌, ◌<◌, ◌==◌, List, ◌∷◌, length, min, Bool, true, false, not, Option, None, Some, is_some, refl, sym, ap, subst, ◌∙◌, arith, nat_le, nat_lt, if◌then◌else◌}
 use Rattle.std.specs.Bool.{⊤}
-use Rattle.std.proofs.lemmas.List.{length-replicate}
 use Rattle.std.proofs.lemmas.Bool.Decides.{nat_tests}
 use Rattle.std.proofs.Math.Nat.{mod-add-mod, mod-eq_of_lt, mod-lt, mod_self}
 use Rattle.piper_machine.specs.Types.{Action, Found, Polling, Purpose, Side, Try}
@@ -36,8 +36,7 @@ pub lent-within : (is_shut : Bool) (m n : ℕ) → nat_le m (if is_shut then 0 e
 lent-within is_shut m n e = grind arith
 
 any-of : (b : Bool) (n : ℕ) (given : List ℕ) → (length given == n) ≡ b → length (given_or_any b n given) ≡ n
-any-of true n given e = equal-is (length given) n e
-any-of false n given e = length-replicate n 0
+any-of b n given e = grind (arith, common_steps)
 
 pub of-length : (n : ℕ) (given : List ℕ) → length (of_length n given) ≡ n
 of-length n given = any-of (length given == n) n given refl

@@ -1,6 +1,7 @@
 -- The accesses and the bytes of a handle's log are those of its lines.
-use Rattle.std.proofs.Common.{◌≡◌, ℕ, List, [], ◌∷◌, ◌++◌, Bool, true, false, Option, None, Some, refl, ap, ◌∙◌, append-nil, arith}
-use Rattle.piper_machine.specs.Types.{Action, Found, Side, Reader, Writer}
+use Rattle.std.proofs.lemmas.Grind.{common_steps}
+use Rattle.std.proofs.Common.{◌≡◌, ℕ, List, ◌∷◌, ◌++◌, true, false, Option, refl, ap, ◌∙◌, append-nil, arith, []}
+use Rattle.piper_machine.specs.Types.{Side, Reader, Writer}
 use Rattle.piper_protocol.specs.declared.log.Note.{Note}
 use Rattle.piper_protocol.specs.Lines as handle
 use Rattle.piper_protocol.specs.OneList as shared
@@ -8,7 +9,7 @@ use Rattle.piper_protocol.specs.Told.{have_met, moved_in}
 use Rattle.piper_machine.specs.logs.Line.{Line}
 use Rattle.piper_machine.specs.logs.Listed.{line_of, lines_of}
 use Rattle.piper_machine.specs.logs.Moved.{consumed, consumed_by, published, published_by}
-use Rattle.piper_machine.specs.logs.OfHandles.{given_by, line_made, line_noted, lines_with, with_line}
+use Rattle.piper_machine.specs.logs.OfHandles.{given_by, line_noted, lines_with, with_line}
 use Rattle.piper_machine.specs.logs.OneList.{accesses, is_access, kept_if}
 use Rattle.piper_machine.specs.logs.Reading.{AreReaderRuns}
 use Rattle.piper_machine.specs.logs.Writing.{AreWriterRuns}
@@ -22,27 +23,14 @@ record IsBeside (line : Line) : Type 0 where
   consumes_none : consumed_by line ≡ []
   publishes_none : published_by line ≡ []
 
-made-beside : (given : List ℕ) (before : List handle.Line) (action : Action) (found : Found) → IsBeside (line_made given before action found)
-made-beside given before action found = grind arith
-
 -- a note adds nothing that is shared
 record AddsNone (added : Option Line) : Type 0 where
   accessed : (rest : List Line) → accesses (with_line added rest) ≡ accesses rest
   consumed_same : (rest : List Line) → consumed (with_line added rest) ≡ consumed rest
   published_same : (rest : List Line) → published (with_line added rest) ≡ published rest
 
-adds-none : (line : Line) → IsBeside line → AddsNone (Some line)
-adds-none line beside = record {
-  accessed = λ rest. ap (λ (b : Bool). kept_if b line (accesses rest)) beside.accesses_none;
-  consumed_same = λ rest. ap (λ (x : List ℕ). consumed rest ++ x) beside.consumes_none ∙ append-nil (consumed rest);
-  published_same = λ rest. ap (λ (x : List ℕ). published rest ++ x) beside.publishes_none ∙ append-nil (published rest);
-}
-
 notes-none : (given : List ℕ) (before : List handle.Line) (said : Note) → AddsNone (line_noted given before said)
-notes-none given before (Note.Began first) = adds-none _ (record { accesses_none = refl; consumes_none = refl; publishes_none = refl })
-notes-none given before (Note.Made found) = adds-none _ (made-beside given before (handle.action (handle.comes_to before).point) found)
-notes-none given before (Note.Drew is_drawn) = adds-none _ (record { accesses_none = refl; consumes_none = refl; publishes_none = refl })
-notes-none given before said = record { accessed = λ rest. refl; consumed_same = λ rest. refl; published_same = λ rest. refl }
+notes-none given before said = grind (arith, common_steps)
 
 pub accesses-same : (own : Side) (given : List ℕ) (lines : List handle.Line) → have_met lines ≡ false → accesses (lines_with own given lines) ≡ lines_of (handle.accesses_in lines)
 unfolding have_met

@@ -1,6 +1,6 @@
 -- The log of a handle is a list of runs of the call table, if each of its notes leads on: the same of
 -- both sides.
-use Rattle.std.proofs.Common.{◌≡◌, ℕ, suc, ◌==◌, List, [], ◌∷◌, Bool, true, false, sym, subst, arith}
+use Rattle.std.proofs.Common.{◌≡◌, ℕ, suc, ◌==◌, List, ◌∷◌, Bool, true, false, sym, subst, []}
 use Rattle.std.specs.Bool.{⊤}
 use Rattle.piper_machine.specs.Types.{Action, Found, ReadPoint, Side}
 use Rattle.piper_protocol.specs.declared.log.Note.{Note}

@@ -1,5 +1,5 @@
 -- Where an access of the reader leads, which says what it found.
-use Rattle.std.proofs.Common.{◌≡◌, inl, ℕ, suc, ◌+◌, ◌-◌, ◌%◌, ◌≤◌, ◌==◌, min, List, ◌∷◌, length, Bool, true, false, None, Some, refl, sym, ap, ◌∙◌, arith, length-append}
+use Rattle.std.proofs.Common.{◌≡◌, inl, ℕ, ◌+◌, ◌-◌, ◌%◌, ◌≤◌, ◌==◌, min, List, ◌∷◌, length, Bool, true, false, None, refl, sym, ap, ◌∙◌, arith, length-append}
 use Rattle.piper_machine.specs.Types.{Action, AfterRead, Found, Purpose, ReadPoint, Reader}
 use Rattle.piper_protocol.specs.declared.log.Note.{Note}
 use Rattle.piper_protocol.specs.declared.table.Point.{Point}

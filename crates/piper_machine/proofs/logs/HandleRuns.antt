@@ -1,5 +1,5 @@
 -- The logs of two handles are counted logs, and so one run.
-use Rattle.std.proofs.Common.{◌≡◌, ℕ, List, [], ◌++◌, false, sym, ap, ◌∙◌, arith}
+use Rattle.std.proofs.Common.{◌≡◌, ℕ, List, ◌++◌, false, sym, ap, ◌∙◌, []}
 use Rattle.piper_machine.specs.Types.{Reader, Writer}
 use Rattle.piper_protocol.specs.Lines as handle
 use Rattle.piper_protocol.specs.Told.{AreTrueLogs, have_met}

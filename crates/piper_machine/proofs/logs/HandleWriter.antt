@@ -1,5 +1,5 @@
 -- Where a writer is inside its call, by the log of its handle, and where a step leads.
-use Rattle.std.proofs.Common.{◌≡◌, ℕ, ◌-◌, ◌≤◌, min, List, [], Bool, true, false, not, Option, None, Some, is_some, refl, sym, subst, ◌∙◌, arith, nat_le, if◌then◌else◌}
+use Rattle.std.proofs.Common.{◌≡◌, ℕ, ◌-◌, ◌≤◌, min, List, Bool, true, false, Option, Some, is_some, sym, subst, ◌∙◌, arith, nat_le, if◌then◌else◌}
 use Rattle.std.specs.Bool.{⊤}
 use Rattle.piper_machine.specs.Types.{Action, AfterWrite, Answer, Found, Purpose, WritePoint, Writer}
 use Rattle.piper_protocol.specs.declared.table.Form.{Form}
@@ -92,9 +92,6 @@ moved-stores capacity given none n sum end form within = grind arith
 
 pub lent-so : (is_shut : Bool) (n piece most : ℕ) → nat_le n (min most (if is_shut then 0 else piece)) ≡ true → n ≤ min most (unless is_shut piece)
 lent-so is_shut n piece most e = grind arith
-
-pub lends-so : (is_shut : Bool) (n piece : ℕ) → nat_le n (if is_shut then 0 else piece) ≡ true → (n ≤ unless is_shut piece) × (n ≤ piece)
-lends-so is_shut n piece e = grind arith
 
 -- the writer is where these lines say, if the next store moves these bytes
 pub record IsAt (capacity : ℕ) (lines : List handle.Line) (given : List ℕ) (w : WriterAt) : Type 0 where

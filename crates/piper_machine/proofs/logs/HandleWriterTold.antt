@@ -1,5 +1,5 @@
 -- Where an access of the writer leads, which says what it found.
-use Rattle.std.proofs.Common.{◌≡◌, inl, inr, ℕ, suc, ◌+◌, ◌-◌, ◌%◌, ◌≤◌, ◌==◌, List, ◌∷◌, length, Bool, true, false, None, Some, refl, sym, ap, subst, ◌∙◌, arith, length-append}
+use Rattle.std.proofs.Common.{◌≡◌, inl, ℕ, ◌+◌, ◌-◌, ◌%◌, ◌≤◌, ◌==◌, List, ◌∷◌, length, true, false, None, Some, refl, sym, ap, subst, ◌∙◌, arith, length-append}
 use Rattle.piper_machine.specs.Types.{Action, AfterWrite, Found, Purpose, WritePoint, Reader, Writer}
 use Rattle.piper_protocol.specs.declared.log.Note.{Note}
 use Rattle.piper_protocol.specs.declared.table.Form.{Form}

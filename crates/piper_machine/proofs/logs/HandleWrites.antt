@@ -1,10 +1,11 @@
 -- The log of a writer's handle is a list of runs of the call table.
-use Rattle.std.proofs.Common.{◌≡◌, ◌⊎◌, inl, inr, ℕ, suc, ◌≤◌, ◌==◌, min, List, [], ◌∷◌, length, Bool, true, false, not, None, refl, sym, ap, subst, ◌∙◌, arith}
+use Rattle.std.proofs.lemmas.Grind.{common_steps}
+use Rattle.std.proofs.Common.{◌≡◌, ◌⊎◌, inl, inr, ℕ, suc, ◌≤◌, ◌==◌, min, List, ◌∷◌, length, Bool, true, false, not, refl, sym, ap, subst, ◌∙◌, arith, []}
 use Rattle.std.proofs.Math.Nat.{zero-mod}
-use Rattle.piper_machine.specs.Types.{Action, AfterWrite, Found, Polling, ReadPoint, Try, WritePoint, Reader, Writer, MOST_A_ROUND}
+use Rattle.piper_machine.specs.Types.{Action, AfterWrite, Found, Polling, ReadPoint, WritePoint, Reader, Writer, MOST_A_ROUND}
 use Rattle.piper_protocol.specs.declared.log.Note.{Note}
 use Rattle.piper_protocol.specs.declared.table.Point.{Point}
-use Rattle.piper_protocol.specs.declared.table.Purpose.TheVariants.{Poll, Copy}
+use Rattle.piper_protocol.specs.declared.table.Purpose.TheVariants.{Copy}
 use Rattle.piper_protocol.specs.Lines as handle
 use Rattle.piper_protocol.specs.OneList as shared
 use Rattle.piper_protocol.specs.Table.{Next, write_action, writer_is_open, writer_moved}
@@ -15,7 +16,7 @@ use Rattle.piper_machine.specs.logs.OfHandles.{given_by, line_made, lines_in, of
 use Rattle.piper_machine.specs.logs.Writing.{AreWriterRuns, IsWriterNext, MayGive, Source, WriterAt, contiguous, fresh_writer, most_lent, own, room_to, source_after, unless, writer_after, writer_begun}
 use Rattle.piper_machine.proofs.logs.HandleLogs.{AreRuns, runs-of}
 use Rattle.piper_machine.proofs.logs.HandleCalls.{Calls, Counted, alike-is, first-of, is_dead, kept, known_of, moved-within, not-true, of-length, second-of}
-use Rattle.piper_machine.proofs.logs.HandleWriter.{Arrives, Follows, IsAt, at, done, emptied, has-drawn, is-open, leads, lends-so, lent-so, moved, moved-stores, open-stores, row, stage, steps, stores-none}
+use Rattle.piper_machine.proofs.logs.HandleWriter.{Arrives, Follows, IsAt, at, done, emptied, has-drawn, is-open, leads, lent-so, moved, moved-stores, open-stores, row, stage, steps, stores-none}
 use Rattle.piper_machine.proofs.logs.HandleWriterTold.{pieces, rooms, told}
 
 module _ (capacity : ℕ) (some : 1 ≤ capacity) where
@@ -113,30 +114,7 @@ module _ (capacity : ℕ) (some : 1 ≤ capacity) where
         → let opening = writer_opening (suc (tickets_in before)) given start in
         IsWriterNext capacity (began opening) (at WritePoint.Idle w) × Arrives capacity (handle.note (Note.Began (Point.Writer start)) ∷ before) given start (writer_begun opening (at WritePoint.Idle w))
     unfolding moved_in seen_in waits_in tickets_in shut_in
-    begins (WritePoint.LookClosed Poll) may counted shut = ((refl, tt), (refl, record { counted = kept _ _ before _ _ _ _ _ refl refl refl counted; shut = shut; stores = tt; calls = (refl, refl, tt, refl, refl) }))
-    begins (WritePoint.LookClosed (Copy Try)) may counted shut = ((refl, tt), (refl, record { counted = kept _ _ before _ _ _ _ _ refl refl refl counted; shut = shut; stores = tt; calls = (tt, refl, refl, refl, refl) }))
-    begins (WritePoint.LookClosed (Copy (Polling false))) may counted shut = ((refl, tt), (refl, record { counted = kept _ _ before _ _ _ _ _ refl refl refl counted; shut = shut; stores = tt; calls = (refl, refl, refl, refl, refl) }))
-    begins (WritePoint.LookClosed (Copy (Polling true))) may counted shut = absurd (let no : false ≡ true = may in cc)
-    begins (WritePoint.StoreTail n AfterWrite.Answer) may counted shut =
-        let as_long : length (of_length n given) ≡ n = of-length n given in
-        let lends = lends-so (shut_in before) n (piece_in capacity Writer before) may in
-        let within : n ≤ contiguous capacity w = subst (λ (m : ℕ). n ≤ m) (sym (pieces capacity some w before given counted)) lends.1 in
-        let lent : n ≤ unless w.is_shut (contiguous capacity w) =
-        subst (λ (b : Bool). n ≤ unless b (contiguous capacity w)) (sym shut) (subst (λ (m : ℕ). n ≤ unless (shut_in before) m) (sym (pieces capacity some w before given counted)) lends.0) in (
-          (refl, subst (λ (m : ℕ). m ≤ unless w.is_shut (contiguous capacity w)) (sym as_long) lent),
-          (
-            ap (λ (m : ℕ). Point.Writer (WritePoint.StoreTail m AfterWrite.Answer)) (sym as_long),
-            record {
-              counted = kept _ _ before _ _ _ _ _ refl refl refl counted;
-              shut = shut;
-              stores = (omega (arith, as_long, within), ap (λ (m : ℕ). of_length m given) (sym as_long));
-              calls = tt;
-            },
-          ),
-        )
-    begins (WritePoint.StoreClosed AfterWrite.WakeWriter) may counted shut = ((refl, tt), (refl, record { counted = kept _ _ before _ _ _ _ _ refl refl refl counted; shut = shut; stores = tt; calls = tt }))
-    begins (WritePoint.StoreClosed AfterWrite.Drop) may counted shut = ((refl, tt), (refl, record { counted = kept _ _ before _ _ _ _ _ refl refl refl counted; shut = shut; stores = tt; calls = tt }))
-    begins start may counted shut = absurd (let no : false ≡ true = may in cc)
+    begins start may counted shut = grind (arith, common_steps)
 
   -- outside any call. No line of the writer says that it is the writer's log
 

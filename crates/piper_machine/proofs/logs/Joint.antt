@@ -1,7 +1,7 @@
 -- The machine's pipe, where each side is at this point of its log and both share these words. What
 -- the open calls will still draw, be granted, take and give is free: the machine is handed it as a
 -- call begins, and a log has it only later.
-use Rattle.std.proofs.Common.{◌≡◌, ℕ, ◌+◌, ◌-◌, ◌≤◌, ◌<◌, List, [], ◌∷◌, ◌++◌, length, take, drop, min, replicate, Bool, true, false, Option, None, Some}
+use Rattle.std.proofs.Common.{◌≡◌, ℕ, ◌+◌, ◌-◌, ◌≤◌, ◌<◌, List, ◌∷◌, ◌++◌, length, take, drop, min, replicate, Bool, true, false, Option, None, Some, []}
 use Rattle.piper_machine.specs.Types.{Purpose, ReadPoint, WritePoint, OpenCall, Context, Luck, DestAct, SourceAct, Destination, Try, Polling, Slice, Acts}
 use Rattle.piper_protocol.specs.declared.table.Purpose.TheVariants.{Poll, Copy}
 use Rattle.piper_protocol.specs.Index.{offset_of}

@@ -1,5 +1,6 @@
 -- How the run goes on from one pipe to another.
-use Rattle.std.proofs.Common.{◌≡◌, ℕ, List, [], ◌∷◌, ◌++◌, Bool, true, false, None, refl, ◌∙◌, append_assoc, append-nil, arith}
+use Rattle.std.proofs.lemmas.Grind.{common_steps}
+use Rattle.std.proofs.Common.{◌≡◌, ℕ, List, ◌∷◌, ◌++◌, Bool, true, false, None, refl, ◌∙◌, append-nil, arith, []}
 use Rattle.piper_machine.specs.Types.{Action, Call, Side, Step, DestAct, SourceAct, Event, Begin, Acts}
 use Rattle.piper_machine.specs.Action.{index_loaded_by, with_waker_in}
 use Rattle.piper_machine.specs.Pipe.{Pipe}
@@ -26,10 +27,7 @@ pub leads-step : (capacity : ℕ) (s : Step) (p q : Pipe) (events : List Event) 
 leads-step capacity s p q events sound made acts before kept = (acts ++ makes s ∷ [], kept-step capacity acts s p q before (before ++ events) sound kept (made before), wide-same acts s)
 
 pub leads-both : (capacity : ℕ) (p q r : Pipe) (first then : List Event) → Leads capacity p q first → Leads capacity q r then → Leads capacity p r (first ++ then)
-leads-both capacity p q r first then one two acts before kept =
-    let mid = one acts before kept in
-    let end = two mid.0 (before ++ first) mid.1 in
-    (end.0, rw (append_assoc before first then) at end.1, end.2 ∙ mid.2)
+leads-both capacity p q r first then one two acts before kept = grind (arith, common_steps)
 
 pub leads-learned : (capacity : ℕ) (side : Side) (p : Pipe) → IsSound (index_loaded_by side p) → IsIdle side p → LeadsBy true capacity p (index_loaded_by side p) []
 leads-learned capacity side p sound idle acts before kept =

@@ -1,5 +1,5 @@
 -- The laws of a run that hold however much a side knows, and though it empties its slot to register.
-use Rattle.std.proofs.Common.{◌≡◌, ℕ, ◌-◌, ◌≤◌, List, [], ◌∷◌, ◌++◌, length, Bool, true, false, Option, None, refl, sym, ap, subst, ◌∙◌, arith}
+use Rattle.std.proofs.Common.{◌≡◌, ℕ, ◌-◌, ◌≤◌, List, ◌∷◌, ◌++◌, length, Bool, true, false, Option, None, refl, sym, ap, subst, ◌∙◌, arith, []}
 use Rattle.piper_machine.specs.Types.{Action, Call, Side, Step, DestAct, SourceAct, Destination, Event, Reader, Writer, Begin, Acts}
 use Rattle.piper_machine.specs.Action.{index_loaded_by, with_waker_in}
 use Rattle.piper_machine.specs.Conservation.{IsConserved}

@@ -1,5 +1,5 @@
 -- One list of accesses is one of lines. Assumes nothing.
-use Rattle.std.proofs.Common.{◌≡◌, Bool, List, [], ◌∷◌, refl, sym, ap, ◌∙◌, subst, arith}
+use Rattle.std.proofs.Common.{◌≡◌, Bool, List, ◌∷◌, refl, sym, ap, ◌∙◌, subst, arith, []}
 use Rattle.piper_machine.specs.Types.{Side, Reader, Writer}
 use Rattle.piper_protocol.specs.OneList as handle
 use Rattle.piper_machine.specs.logs.Line.{Line}

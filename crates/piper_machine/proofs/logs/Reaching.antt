@@ -1,7 +1,7 @@
 -- One list of what both sides did leads the machine to where both are: by induction over the list.
 -- What the open calls will still meet is free at each moment, and is settled by the lines that
 -- come after.
-use Rattle.std.proofs.Common.{◌≡◌, ℕ, ◌-◌, ◌≤◌, List, [], ◌∷◌, Bool, true, false, None, Some, refl, sym, ap, subst, ◌∙◌, arith}
+use Rattle.std.proofs.Common.{◌≡◌, ℕ, ◌-◌, ◌≤◌, List, ◌∷◌, Bool, true, false, None, Some, refl, sym, ap, subst, ◌∙◌, arith, []}
 use Rattle.piper_machine.specs.Types.{DestAct, SourceAct, Reader, Writer}
 use Rattle.piper_machine.specs.Pipe.{Pipe, fresh}
 use Rattle.piper_machine.proofs.Runs.{as_runs}

@@ -1,25 +1,20 @@
 -- Both sides and the words fit after each line of the reader.
+use Rattle.std.proofs.lemmas.Grind.{common_steps}
 use Rattle.std.proofs.Common.{◌≡◌, inl, inr, ℕ, ◌+◌, ◌-◌, ◌≤◌, ◌<◌, min, List, length, Bool, true, false, Option, None, Some, ◌==◌, refl, sym, ap, subst, ◌∙◌, arith}
-use Rattle.std.proofs.lemmas.Bool.Decides.{nat_tests}
-use Rattle.piper_machine.specs.Types.{Answer, Action, Found, Purpose, ReadPoint, Try, Polling, Reader, Writer, MOST_A_ROUND}
-use Rattle.piper_protocol.specs.declared.table.Purpose.TheVariants.{Poll, Copy}
+use Rattle.piper_machine.specs.Types.{Answer, Action, Found, ReadPoint, Reader, Writer, MOST_A_ROUND}
 use Rattle.piper_protocol.specs.Index.{offset_of}
-use Rattle.piper_protocol.specs.Table.{Next, head_store, moved_in, read_action, read_after, reader_looks_for}
+use Rattle.piper_protocol.specs.Table.{Next, head_store, moved_in, read_action, read_after}
 use Rattle.piper_machine.specs.logs.Calling.{Calling, calling_after, may_wait_after, no_calling}
-use Rattle.piper_machine.specs.logs.Line.{met_head, met_tail, Opening, polls, try_drains, try_drains_with, poll_drains_bytes, poll_drains, consumes, drops, Line, began, loaded_head, loaded_tail, loaded_closed, stored_head, stored_tail, stored_closed, loaded_slot, swapped, knew_empty, took, gave, failed, drew, refused, yielded, woke}
+use Rattle.piper_machine.specs.logs.Line.{met_head, met_tail, Opening, Line, began, loaded_head, loaded_tail, loaded_closed, stored_head, stored_tail, stored_closed, loaded_slot, swapped, knew_empty, took, gave, failed, drew, refused, yielded, woke}
 use Rattle.piper_machine.specs.logs.OneList.{FindsCount, Words, words_after}
 use Rattle.piper_machine.specs.logs.Reading.{HasDrawn, IsReaderNext, MayTake, ReaderAt, reader_after, reader_answered, reader_begun, reader_changed, reader_empties, reader_stepped, reader_told, shown, size_after}
 use Rattle.piper_machine.specs.logs.Writing.{WriterAt}
-use Rattle.piper_machine.proofs.logs.Joint.{Fits, Shares, reader_drawn, reader_point}
+use Rattle.piper_machine.proofs.logs.Joint.{Fits, Shares, reader_point}
 use Rattle.piper_machine.proofs.logs.Draws.{ends-at, next-same, stores-moved}
 use Rattle.piper_machine.proofs.logs.Contexts.{none-of}
-use Rattle.piper_machine.proofs.logs.ReaderOpens.{polls-at, tries-at, copies-at, stores-at, closes-at}
 
 store-is : (point : ReadPoint) (n : ℕ) → read_action point ≡ Action.StoreHead n → head_store point ≡ n
 store-is point n e = grind arith
-
-looks-store-none : (none : Bool) (l : Purpose) → head_store (reader_looks_for none l) ≡ 0
-looks-store-none none l = grind arith
 
 taken-within : (most : ℕ) (size : Option ℕ) (n : ℕ) → MayTake most size n → n ≤ most
 taken-within most size n may = grind arith
@@ -53,19 +48,8 @@ module _ (capacity : ℕ) (w : WriterAt) where
         answer-fits (record (reader_changed capacity line r) { may_wait = may_wait_after Reader line r.may_wait }) (words_after line s) next.point (calling_after line r.calling) next.answer (ends-at capacity r.point f) (omega (arith, stores, moved))
         (ap (λ (d : Option Bool). reader_point d false next.point) kept ∙ sym same) rest
 
-    looks-fit : (purpose : Purpose) (waker size : Option ℕ) → reader_drawn false (reader_looks_for (r.tail - r.head == 0) purpose) ≡ reader_looks_for (r.tail - r.head == 0) purpose
-        → Fits capacity (Rattle.piper_machine.specs.logs.Reading.reader_looks purpose waker size r) w s
-    looks-fit purpose waker size same = goes-on r s _ _ size r.given (omega (arith, looks-store-none (r.tail - r.head == 0) purpose)) same fits
-
     pub begin-fits : (opening : Opening) → IsReaderNext capacity (began opening) r → Fits capacity (reader_begun opening r) w s
-    begin-fits (polls waker) next = looks-fit Poll (Some waker) r.size (polls-at _ false)
-    begin-fits (try_drains size) next = looks-fit (Copy Try) None (Some size) (tries-at _ false)
-    begin-fits try_drains_with next = looks-fit (Copy Try) None None (tries-at _ false)
-    begin-fits (poll_drains_bytes waker size) next = looks-fit (Copy (Polling false)) (Some waker) (Some size) (copies-at _ false)
-    begin-fits (poll_drains waker) next = looks-fit (Copy (Polling false)) (Some waker) None (copies-at _ false)
-    begin-fits (consumes bytes) next = goes-on r s _ r.calling r.size bytes next.1 (stores-at r.calling.draw false (length bytes)) fits
-    begin-fits drops next = goes-on r s _ r.calling r.size r.given (omega arith) (closes-at r.calling.draw false) fits
-    begin-fits opening next = absurd next.1
+    begin-fits opening next = grind (arith, common_steps)
 
     -- the tail is seen where it is
     tail-fits : (count : ℕ) → count ≡ length s.sent → Fits capacity (at_rest (record r { tail = count })) w s

@@ -1,5 +1,5 @@
 -- Each line of the reader is a step of the machine, or none.
-use Rattle.std.proofs.Common.{◌≡◌, inl, inr, ℕ, ◌+◌, ◌-◌, min, List, [], ◌∷◌, ◌++◌, length, drop, Bool, true, false, Option, None, Some, ◌==◌, is_some, refl, sym, ap, subst, ◌∙◌, arith, length-drop}
+use Rattle.std.proofs.Common.{◌≡◌, inl, inr, ℕ, ◌+◌, ◌-◌, min, List, ◌∷◌, ◌++◌, length, drop, Bool, true, false, Option, None, Some, ◌==◌, is_some, refl, sym, ap, subst, ◌∙◌, arith, length-drop, []}
 use Rattle.std.proofs.lemmas.List.{drop-drop}
 use Rattle.piper_machine.specs.Types.{Seen, Answer, Action, Found, ReadPoint, Side, Event, Luck, DestAct, SourceAct, Destination, Reader, Writer, MOST_A_ROUND, Go, Consumed, Looked}
 use Rattle.piper_protocol.specs.Table.{Next, read_action, read_after}

@@ -1,6 +1,6 @@
 -- Each call of the writer begins in the machine. A lend has no line: it is put in, with the bytes
 -- that are put into it, before the call that publishes them.
-use Rattle.std.proofs.Common.{◌≡◌, ℕ, ◌+◌, ◌≤◌, List, [], ◌∷◌, ◌++◌, length, replicate, Bool, true, Option, None, Some, nat_lt, refl, sym, ap, subst, ◌∙◌, arith, suc, length-append}
+use Rattle.std.proofs.Common.{◌≡◌, ℕ, ◌+◌, ◌≤◌, List, ◌∷◌, ◌++◌, length, replicate, Bool, true, None, Some, nat_lt, refl, sym, ap, subst, ◌∙◌, arith, suc, length-append, []}
 use Rattle.std.proofs.lemmas.List.{append-nil, length-replicate, append_assoc}
 use Rattle.piper_machine.specs.Types.{Kind, WritePoint, Call, Event, Luck, DestAct, SourceAct, Lent, Polling, Writer, Begin, Answered, Began, Put}
 use Rattle.piper_protocol.specs.declared.table.Purpose.TheVariants.{Copy}

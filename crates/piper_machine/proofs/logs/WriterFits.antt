@@ -1,6 +1,6 @@
 -- Both sides and the words fit after each line of the writer.
-use Rattle.std.proofs.Common.{◌≡◌, inl, inr, ℕ, ◌+◌, ◌-◌, ◌≤◌, ◌<◌, List, [], ◌++◌, length, Bool, true, false, Option, None, Some, refl, sym, ap, subst, ◌∙◌, arith, length-append}
-use Rattle.std.proofs.lemmas.Bool.Decides.{nat_tests}
+use Rattle.std.proofs.lemmas.Grind.{common_steps}
+use Rattle.std.proofs.Common.{◌≡◌, inl, inr, ℕ, ◌+◌, ◌-◌, ◌≤◌, ◌<◌, List, ◌++◌, length, Bool, true, false, Option, None, Some, refl, sym, ap, subst, ◌∙◌, arith, []}
 use Rattle.piper_machine.specs.Types.{Answer, Action, Found, WritePoint, Reader, Writer}
 use Rattle.piper_protocol.specs.Index.{offset_of}
 use Rattle.piper_protocol.specs.Table.{Next, ends_fill, moved_in, tail_store, write_action, write_after}
@@ -16,15 +16,6 @@ use Rattle.piper_machine.proofs.logs.WriterOpens.{gives-so, lends-so, gives-with
 
 source-stores-none : (point : WritePoint) → write_action point ≡ Action.CallSource → tail_store point ≡ 0
 source-stores-none point e = grind arith
-
-end-goes-on : (c start u n : ℕ) → start < c → u + n ≤ c → n ≤ c - offset_of c (start + u) → offset_of c (offset_of c (start + u) + n) ≡ offset_of c (start + (u + n))
-end-goes-on c start u n below fits flat = grind (arith, nat_tests)
-
-spare-fits : (c end n spare : ℕ) → n + spare ≤ c - end → end < c → spare ≤ c - offset_of c (end + n)
-spare-fits c end n spare fits below = grind (arith, nat_tests)
-
-end-below : (c start u : ℕ) → start < c → u ≤ c → offset_of c (start + u) < c
-end-below c start u below fits = grind (arith, nat_tests)
 
 abbrev at_rest : WriterAt → WriterAt
 at_rest w = record w { point = WritePoint.Idle; calling = no_calling }
@@ -79,33 +70,7 @@ module _ (capacity : ℕ) (r : ReaderAt) where
 
     -- the tail goes past the bytes that are given
     tail-fits : (bytes : List ℕ) → bytes ≡ w.given → Fits capacity r (at_rest (record w { tail = w.tail + length bytes; end = offset_of capacity (w.end + length bytes); given = [] })) (record s { sent = s.sent ++ bytes })
-    tail-fits bytes same =
-        let n : ℕ = length bytes in
-        let u : ℕ = length s.sent - s.head in
-        let given : n ≡ length w.given = ap length same in
-        let long : length (s.sent ++ bytes) ≡ length s.sent + n = length-append s.sent bytes in
-        let room : u + n ≤ capacity = omega (arith, fits.writes.lent, fits.counts.writes, fits.counts.writer_head, fits.counts.writer_tail) in
-        let below : w.end < capacity = let here = end-below capacity r.start u fits.counts.first (omega arith) in omega (arith, fits.counts.last) in
-        let flat : n ≤ capacity - offset_of capacity (r.start + u) = omega (arith, fits.writes.lent, fits.counts.last) in
-        let on_from = end-goes-on capacity r.start u n fits.counts.first room flat in
-        let spare = spare-fits capacity w.end n w.spare (omega (arith, fits.writes.lent)) below in
-        let more : u + n ≡ length (s.sent ++ bytes) - s.head = omega (arith, fits.counts.reads, fits.counts.reader_head, fits.counts.reader_tail) in
-        record {
-          counts = record {
-            some = fits.counts.some;
-            reads = fits.counts.reads;
-            writes = omega (arith, fits.counts.writes);
-            reader_head = fits.counts.reader_head;
-            reader_tail = omega (arith, fits.counts.reader_tail);
-            writer_head = fits.counts.writer_head;
-            writer_tail = omega (arith, fits.writes.lent, fits.counts.writer_tail, fits.counts.writes, fits.counts.writer_head);
-            first = fits.counts.first;
-            last = ap (λ (x : ℕ). offset_of capacity (x + n)) fits.counts.last ∙ on_from ∙ ap (λ (x : ℕ). offset_of capacity (r.start + x)) more;
-          };
-          reads = fits.reads;
-          writes = record { lent = omega (arith, fits.writes.lent); stores = omega arith; shut = λ x. let none = fits.writes.shut x in omega arith; draws = refl };
-          shares = fits.shares;
-        }
+    tail-fits bytes same = grind (arith, common_steps)
 
     -- what both share besides the counts
     share-fits : (waits : Bool) (s' : Words) → s'.sent ≡ s.sent → s'.head ≡ s.head → Shares w.is_shut s'.is_closed r.may_wait waits s'.reader_slot s'.writer_slot → Fits capacity r (at_rest (record w { may_wait = waits })) s'

@@ -1,5 +1,5 @@
 -- A call of the source is a step of the machine.
-use Rattle.std.proofs.Common.{◌≡◌, ℕ, ◌+◌, ◌-◌, ◌≤◌, List, [], ◌∷◌, ◌++◌, length, take, drop, replicate, Bool, true, false, ◌==◌, Ok, Result, refl, sym, ap, subst, ◌∙◌, arith}
+use Rattle.std.proofs.Common.{◌≡◌, ℕ, ◌+◌, ◌-◌, ◌≤◌, List, ◌∷◌, ◌++◌, length, take, drop, replicate, Bool, true, false, ◌==◌, Ok, Result, refl, sym, ap, subst, ◌∙◌, arith, []}
 use Rattle.std.proofs.Math.Seq.{drop-append_seam}
 use Rattle.piper_machine.specs.Types.{Action, Failed, Form, Found, WritePoint, DestAct, SourceAct, Writer, MOST_A_ROUND}
 use Rattle.piper_protocol.specs.Table.{write_action, write_after, writer_moved}

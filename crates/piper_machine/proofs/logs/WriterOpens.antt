@@ -1,21 +1,16 @@
 -- What a source gives, what is lent to it, and how a call of the writer begins.
-use Rattle.std.proofs.Common.{◌≡◌, ℕ, ◌+◌, ◌-◌, ◌≤◌, ◌<◌, min, List, [], ◌∷◌, length, take, drop, Bool, true, false, Option, ◌==◌, Ok, refl, sym, ap, ◌∙◌, arith, if◌then◌else◌}
-use Rattle.std.proofs.lemmas.Bool.Decides.{nat_tests}
-use Rattle.std.proofs.Math.Seq.{take-append_seam, drop-append_seam}
-use Rattle.std.proofs.lemmas.List.{append-nil, length-take}
+use Rattle.std.proofs.lemmas.Grind.{common_steps}
+use Rattle.std.proofs.Common.{◌≡◌, ℕ, ◌+◌, ◌-◌, ◌≤◌, ◌<◌, List, ◌∷◌, length, take, Bool, true, false, Option, ◌==◌, Ok, ◌∙◌, arith, if◌then◌else◌, []}
 use Rattle.piper_machine.specs.Types.{Action, AfterWrite, Form, WritePoint, DestAct, SourceAct, MOST_A_ROUND}
-use Rattle.piper_protocol.specs.Index.{offset_of}
 use Rattle.piper_protocol.specs.Table.{write_action}
 use Rattle.piper_machine.specs.Lend.{Lendable}
 use Rattle.piper_machine.specs.Pipe.{Pipe}
-use Rattle.piper_machine.specs.Places.{places_left}
-use Rattle.piper_machine.specs.Round.{given, left_of_source, unspent}
+use Rattle.piper_machine.specs.Round.{given, left_of_source}
 use Rattle.piper_machine.specs.Source.{bytes_of}
 use Rattle.piper_machine.specs.Step.{MayOffer, lent_at as lent_to}
 use Rattle.piper_machine.specs.logs.OneList.{Words}
 use Rattle.piper_machine.specs.logs.Reading.{ReaderAt}
-use Rattle.piper_machine.specs.logs.Writing.{Source, own, these, nothing, source_of, MayGive, WriterAt, shut_at, source_after, lent_for, most_lent, lendable}
-use Rattle.piper_machine.proofs.logs.Fitting.{length-unread}
+use Rattle.piper_machine.specs.logs.Writing.{Source, MayGive, WriterAt, shut_at, source_after, lent_for, most_lent, lendable}
 use Rattle.piper_machine.proofs.logs.Joint.{Gives, MayLend, Chance, Fits, number_of, pipe_at, source_at, writer_point}
 
 pub number-is : (b : Bool) → b ≡ (number_of b == 0)
@@ -54,33 +49,11 @@ is-source = source_at-point
 
 -- what may be lent by the log, may be lent by the machine
 module _ (capacity : ℕ) (r : ReaderAt) (w : WriterAt) (s : Words) (k : Chance) (acts : List DestAct) (l : Chance) (sources : List SourceAct) (fits : Fits capacity r w s) where
-  pub end-below : w.end < capacity
-  end-below = grind arith
-
   pub may-lend : (most n : ℕ) → MayLend capacity most w n → Lendable most (pipe_at capacity r w s k acts l sources) n
-  may-lend most n may =
-      let long = length-unread capacity r w s in
-      let left : places_left (pipe_at capacity r w s k acts l sources) ≡ capacity - w.end = ap (λ m. capacity - m) (ap (λ m. offset_of capacity (r.start + m)) long ∙ sym fits.counts.last) in
-      let below = end-below in
-      record {
-        at_most = omega (arith, left, may.at_most);
-        at_least = λ is_open. let least = may.at_least is_open in omega arith;
-        some = λ is_open asked known. let least = may.at_least is_open in omega arith;
-        shut = may.shut;
-      }
+  may-lend most n may = grind (arith, common_steps)
 
 pub gives-within : (lent : ℕ) (from : Source) (bytes : List ℕ) → Gives lent from bytes → length bytes ≤ lent
 gives-within lent from bytes may = grind arith
-
-take-all : (xs : List ℕ) → take (length xs) xs ≡ xs
-take-all xs = ap (take (length xs)) (sym (append-nil xs)) ∙ take-append_seam xs []
-
-drop-all : (xs : List ℕ) → drop (length xs) xs ≡ []
-drop-all xs = ap (drop (length xs)) (sym (append-nil xs)) ∙ drop-append_seam xs []
-
--- what is left of bytes that were handed over
-rest-is : (bytes : List ℕ) (acts : List SourceAct) → unspent bytes [] ≡ source_at (source_of bytes) acts
-rest-is bytes acts = grind arith
 
 -- what a source that is lent as many places gives, and what is left of it
 module _ (lent : ℕ) (sources : List SourceAct) (bytes : List ℕ) where
@@ -88,14 +61,10 @@ module _ (lent : ℕ) (sources : List SourceAct) (bytes : List ℕ) where
   given-is from may = grind arith
 
   pub bytes-are : (from : Source) → Gives lent from bytes → take (length bytes) (bytes_of (source_at from (SourceAct.Bytes bytes ∷ sources))) ≡ bytes
-  bytes-are own may = take-all bytes
-  bytes-are nothing may = ap (λ (x : List ℕ). take (length x) []) may ∙ sym may
-  bytes-are (these all) may = sym may.1
+  bytes-are from may = grind (arith, common_steps)
 
   pub left-is : (from : Source) → left_of_source (length bytes) (source_at from (SourceAct.Bytes bytes ∷ sources)) ≡ source_at (source_after (length bytes) from) sources
-  left-is own = ap (λ (x : List ℕ). unspent x sources) (drop-all bytes)
-  left-is nothing = refl
-  left-is (these all) = rest-is (drop (length bytes) all) sources
+  left-is from = grind (arith, common_steps)
 
 pub gives-none : (lent : ℕ) (from : Source) → Gives lent from [] → given 0 (source_at from []) ≡ Ok 0
 gives-none lent from may = grind arith
@@ -106,35 +75,12 @@ lends-none lent from b bs rest may e = grind arith
 
 -- what a log says of a lend, in the machine's words
 
-taken-short : (n : ℕ) (xs ys : List ℕ) → ys ≡ take n xs → length ys ≤ length xs
-taken-short n xs ys e = let long : length ys ≡ min n (length xs) = ap length e ∙ length-take n xs in omega arith
-
 pub lends-these : (capacity n : ℕ) (w : WriterAt) → n ≤ lendable capacity w → MayLend capacity n w n
 lends-these capacity n w within = grind arith
 
-lends-most : (capacity n : ℕ) (w : WriterAt) → n ≤ most_lent capacity w → (w.is_shut ≡ false → min 4096 (most_lent capacity w) ≤ n) → MayLend capacity MOST_A_ROUND w n
-lends-most capacity n w within least = grind arith
-
 module _ (capacity : ℕ) (w : WriterAt) (bytes : List ℕ) where
-  lends-for : (b : Bool) (all : List ℕ) → (length bytes == length all) ≡ b → MayGive (most_lent capacity w) (these all) bytes
-      → MayLend capacity MOST_A_ROUND w (if b then most_lent capacity w else length bytes)
-  lends-for true all e may = lends-most capacity (most_lent capacity w) w (omega arith) (λ x. omega arith)
-  lends-for false all e may =
-      let short : length bytes ≤ length all = taken-short (length bytes) all bytes may.0 in
-      let less : length bytes < length all = grind (arith, nat_tests) in
-      lends-most capacity (length bytes) w may.1 (λ x. may.2 less)
-
-  gives-for : (b : Bool) (all : List ℕ) → (length bytes == length all) ≡ b → MayGive (most_lent capacity w) (these all) bytes
-      → Gives (if b then most_lent capacity w else length bytes) (these all) bytes
-  gives-for true all e may = (let same : length bytes ≡ length all = grind (arith, nat_tests) in omega (arith, may.1), may.0)
-  gives-for false all e may = (let short = taken-short (length bytes) all bytes may.0 in omega arith, may.0)
-
   pub lends-so : (from : Source) → MayGive (most_lent capacity w) from bytes → MayLend capacity MOST_A_ROUND w (lent_for (most_lent capacity w) from (length bytes))
-  lends-so own may = lends-most capacity (most_lent capacity w) w (omega arith) (λ x. omega arith)
-  lends-so nothing may = lends-most capacity (most_lent capacity w) w (omega arith) (λ x. omega arith)
-  lends-so (these all) may = lends-for (length bytes == length all) all refl may
+  lends-so from may = grind (arith, common_steps)
 
   pub gives-so : (from : Source) → MayGive (most_lent capacity w) from bytes → Gives (lent_for (most_lent capacity w) from (length bytes)) from bytes
-  gives-so own may = may
-  gives-so nothing may = may
-  gives-so (these all) may = gives-for (length bytes == length all) all refl may
+  gives-so from may = grind (arith, common_steps)

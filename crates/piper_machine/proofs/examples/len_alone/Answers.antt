@@ -1,4 +1,4 @@
-use Rattle.std.proofs.Common.{[], ◌∷◌, ◌++◌, ap, sym, ◌∙◌, arith}
+use Rattle.std.proofs.Common.{◌∷◌, ◌++◌, ap, sym, ◌∙◌, []}
 use Rattle.piper_machine.specs.Types.{Reader, Count, Answered}
 use Rattle.piper_machine.proofs.examples.len_alone.Goals as goal
 

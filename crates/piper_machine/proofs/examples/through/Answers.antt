@@ -1,4 +1,4 @@
-use Rattle.std.proofs.Common.{◌≡◌, length, ap, ◌∙◌, arith}
+use Rattle.std.proofs.Common.{◌≡◌, length, ap, ◌∙◌}
 use Rattle.piper_machine.specs.Copy.{count_of, try_fill, try_drain}
 use Rattle.piper_machine.proofs.Carrying.{full_of, fills-all, drains-all, fills-dest}
 use Rattle.piper_machine.proofs.examples.through.Goals as goal

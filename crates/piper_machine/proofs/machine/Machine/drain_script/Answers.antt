@@ -1,9 +1,10 @@
+use Rattle.std.proofs.lemmas.Grind.{common_steps}
 use Rattle.std.proofs.Common.{◌≡◌, ◌∙◌, List, ℕ, sym, ap, subst, arith}
 use Rattle.piper_machine.specs.Types.{DestAct, Acts}
 use Rattle.piper_machine.specs.Round.{found_of, taken_by_acts}
 use Rattle.piper_machine.specs.Action.{round_count}
 use Rattle.piper_machine.specs.Step.{drain_opened}
-use Rattle.piper_machine.proofs.Draining.{IsGone, IsGoneOn, opened, goes-on, called, goes, wake-room}
+use Rattle.piper_machine.proofs.Draining.{IsGone, IsGoneOn, opened, goes-on, called, goes}
 use Rattle.piper_machine.proofs.machine.Machine.drain_script.Goals as goal
 use Rattle.piper_machine.proofs.machine.Machine.drain_script.Goals.{Joined-action, in-CallDestination, in_default}
 
@@ -11,10 +12,7 @@ pub steps-init : goal.steps-init
 steps-init c = record { draining = opened c.args.context (Acts c.args.acts.now) c.args.self.now c.open_drain.new.self c.open_drain.ensures.sound c.requires.woken c.open_drain.ensures.after }
 
 pub hear-requires : goal.hear-requires
-hear-requires c =
-    let p = c.steps.self in
-    let room = wake-room p.reader p c.steps.invariant.draining.wakes in
-    record { next = c.reader_next-action.ensures.step; wakes = λ wakes. room; yields = λ yields. room }
+hear-requires c = grind (arith, common_steps)
 
 -- a step: of the destination, or another
 gone : (c : Joined-action) → IsGone (drain_opened c.args.context (Acts c.args.acts.now) c.args.self.now) (Acts c.match-action.acts.now) c.steps.self c.match-action.answer c.match-action.self

@@ -1,4 +1,4 @@
-use Rattle.std.proofs.Common.{◌≡◌, ◌∙◌, ◌+◌, ◌-◌, ◌++◌, List, ℕ, min, length, take, drop, Option, refl, sym, ap, subst, arith, is_some, length-drop}
+use Rattle.std.proofs.Common.{◌≡◌, ◌∙◌, ◌+◌, ◌-◌, ◌++◌, List, ℕ, min, length, take, drop, Option, sym, ap, subst, arith, is_some, length-drop}
 use Rattle.std.proofs.lemmas.List.{take_rest}
 use Rattle.piper_machine.specs.Types.{Answer, Action, Slice}
 use Rattle.piper_protocol.specs.Table.{read_action}

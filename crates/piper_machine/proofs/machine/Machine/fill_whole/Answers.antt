@@ -1,9 +1,10 @@
+use Rattle.std.proofs.lemmas.Grind.{common_steps}
 use Rattle.std.proofs.Common.{◌≡◌, ◌∙◌, ℕ, List, length, take, min, sym, ap, arith}
 use Rattle.std.proofs.lemmas.List.{take_rest}
 use Rattle.piper_machine.specs.Round.{given, unspent}
 use Rattle.piper_machine.specs.Step.{fill_opened}
 use Rattle.piper_machine.proofs.Sources.{lent-anew}
-use Rattle.piper_machine.proofs.Filling.{IsGone, goes-on, goes, ends, gave, gives, fails, wake-room}
+use Rattle.piper_machine.proofs.Filling.{IsGone, goes-on, goes, ends, gave, gives, fails}
 use Rattle.piper_machine.proofs.machine.Machine.fill_whole.Goals as goal
 use Rattle.piper_machine.proofs.machine.Machine.fill_whole.Goals.{Joined-action, in-CallSource, then-is_failing, else-is_failing, in_default}
 
@@ -43,10 +44,7 @@ pub source_called-answer-requires-clause-lent : goal.source_called-answer-requir
 source_called-answer-requires-clause-lent c = lent-anew c.steps.self c.write_round-count.new.self c.write_round-count.ensures.lent c.write_round-count.ensures.after
 
 pub hear-requires : goal.hear-requires
-hear-requires c =
-    let p = c.steps.self in
-    let room = wake-room p.writer p c.steps.invariant.filling.wakes in
-    record { next = c.writer_next-action.ensures.step; wakes = λ wakes. room; yields = λ yields. room }
+hear-requires c = grind (arith, common_steps)
 
 pub steps-preserved : goal.steps-preserved
 steps-preserved c = record { filling = (goes (gone (goal.at.steps-preserved c).Joined-action) c.in-None.is).0 }

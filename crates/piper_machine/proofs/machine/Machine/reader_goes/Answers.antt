@@ -1,4 +1,4 @@
-use Rattle.std.proofs.Common.{◌∙◌, ap, arith}
+use Rattle.std.proofs.Common.{◌∙◌, ap}
 use Rattle.piper_machine.specs.Types.{Action, Found, Reader}
 use Rattle.piper_machine.specs.Action.{performed}
 use Rattle.piper_machine.specs.Pipe.{Pipe}

@@ -1,4 +1,4 @@
-use Rattle.std.proofs.Common.{◌∙◌, arith}
+use Rattle.std.proofs.Common.{◌∙◌}
 use Rattle.piper_machine.proofs.Soundness.{length-unread}
 use Rattle.piper_machine.proofs.Moves.{tail_seen-view}
 use Rattle.piper_machine.proofs.machine.Machine.reader_loads_tail.Goals as goal

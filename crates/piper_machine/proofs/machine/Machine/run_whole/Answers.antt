@@ -1,4 +1,4 @@
-use Rattle.std.proofs.Common.{◌≡◌, [], ap, ◌∙◌, arith}
+use Rattle.std.proofs.Common.{◌≡◌, ap, ◌∙◌, []}
 use Rattle.piper_machine.specs.Types.{Side}
 use Rattle.piper_machine.specs.Alone.{Ended, alone_of}
 use Rattle.piper_machine.specs.BySteps.{whole}

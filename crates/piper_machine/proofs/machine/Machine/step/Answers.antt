@@ -1,4 +1,4 @@
-use Rattle.std.proofs.Common.{rules, Result, Ok, Err, OnOk, arith}
+use Rattle.std.proofs.Common.{rules, Result, OnOk, arith}
 use Rattle.piper_machine.proofs.Disjointness.{tried-keeps}
 use Rattle.piper_machine.proofs.Soundness.{sound}
 use Rattle.piper_machine.proofs.machine.Machine.step.Goals as goal

@@ -1,4 +1,4 @@
-use Rattle.std.proofs.Common.{ap, length, arith}
+use Rattle.std.proofs.Common.{ap, length}
 use Rattle.piper_machine.specs.Pipe.{Pipe}
 use Rattle.piper_machine.proofs.Soundness.{length-unread, sound}
 use Rattle.piper_machine.proofs.machine.Machine.unread_count.Goals as goal

@@ -1,4 +1,4 @@
-use Rattle.std.proofs.Common.{◌-◌, ap, ◌∙◌, length, arith}
+use Rattle.std.proofs.Common.{◌-◌, ap, ◌∙◌, length}
 use Rattle.piper_machine.specs.Types.{WritePoint}
 use Rattle.piper_protocol.specs.Table.{Next}
 use Rattle.piper_machine.specs.Step.{call_after, source_after}
