@@ -1,16 +1,14 @@
 -- After an end that was found: where the reader can be, what its steps log and answer, and what it
 -- has seen of the close.
 use Rattle.std.proofs.lemmas.Grind.{common_steps}
-use Rattle.std.proofs.Common.{◌≡◌, inl, inr, ℕ, List, length, take, Bool, true, false, Option, None, Some, ◌==◌, is_some, Result, refl, sym, ◌∙◌, arith, []}
+use Rattle.std.proofs.Common.{◌≡◌, inl, inr, ℕ, List, length, take, Bool, true, false, Option, None, Some, ◌==◌, refl, sym, ◌∙◌, arith, []}
 use Rattle.std.specs.Bool.{⊤}
-use Rattle.piper_machine.specs.Types.{Side, Query, Answer, Event, Context, Failed, Form, Purpose, AfterRead, ReadPoint, Reader}
-use Rattle.piper_machine.specs.Open.{is_granted, is_yield_granted}
-use Rattle.piper_protocol.specs.Table.{read_action, reader_looked, reader_looked_again, reader_registered, writer_taken, read_done, read_after, yield_answer}
+use Rattle.piper_machine.specs.Types.{Event, Purpose, AfterRead, ReadPoint, Reader}
+use Rattle.piper_protocol.specs.Table.{read_action, reader_looked_again}
 use Rattle.piper_machine.specs.Log.{answer_event}
 use Rattle.piper_machine.specs.Pipe.{Pipe}
-use Rattle.piper_machine.specs.Action.{logged_of, registration_of, wake_of, yield_of, round_count}
+use Rattle.piper_machine.specs.Action.{logged_of}
 use Rattle.piper_machine.specs.Step.{went}
-use Rattle.piper_machine.specs.Round.{taken, found_of}
 use Rattle.piper_machine.specs.End.{saw_closed_from}
 use Rattle.piper_machine.proofs.Ends.{found_at_tail, ended_from, IsFinalFrom}
 use Rattle.piper_machine.proofs.Causes.{read_leaves, IsEnded, IsCaused, reader_after}
@@ -45,23 +43,10 @@ take_none n xs h = grind arith
 none_test : (xs : List ℕ) → xs ≡ [] → (length xs == 0) ≡ true
 none_test xs h = rw h refl
 
-no_length : (xs : List ℕ) → xs ≡ [] → length xs ≡ 0
-no_length xs h = rw h refl
-
 -- what reports nothing of an end
 
 abbrev pub Quiet : Bool → Bool → List Event → Type 0
 Quiet saw ended es = IsFinalFrom saw ended es × (ended_from saw ended es ≡ ended) × (saw_closed_from Reader saw es ≡ saw)
-
-module _ (saw ended : Bool) where
-  pub context-quiet : (side : Side) (context : Option Context) → Quiet saw ended (registration_of side context)
-  context-quiet side context = grind arith
-
-  pub wake-quiet : (name : Option ℕ) → Quiet saw ended (wake_of name)
-  wake-quiet name = grind arith
-
-  pub yield-quiet : (context : Option Context) → Quiet saw ended (yield_of context)
-  yield-quiet context = grind arith
 
 -- what the reader's step logs before its answer
 
@@ -77,9 +62,6 @@ module _ (saw ended : Bool) (p : Pipe) (closed : saw ≡ true → p.is_closed �
   abbrev Logs : ReadPoint → Type 0
   Logs point = IsFinalFrom saw ended (logged_at point p) × (ended_from saw ended (logged_at point p) ≡ true → Over (record p { reader = point }))
 
-  quietly : (point : ReadPoint) → (ended ≡ true → Over (record p { reader = point })) → Quiet saw ended (logged_at point p) → Logs point
-  quietly point over quiet = (quiet.0, λ t. over (sym quiet.1 ∙ t))
-
   -- the close that was seen is the writer's, since the reader is in its call
   tail-logs : (point : ReadPoint) → read_leaves point ≡ false → (saw ≡ true → is_over point ≡ true) → (p.is_closed ≡ true → IsCaused (record p { reader = point })) → (ended ≡ true → Over (record p { reader = point }))
       → (ended ≡ true → length p.unread ≡ 0) × (found_at_tail saw (length p.unread) ended ≡ true → Over (record p { reader = point }))
@@ -88,19 +70,19 @@ module _ (saw ended : Bool) (p : Pipe) (closed : saw ≡ true → p.is_closed �
   pub reader-logs : (point : ReadPoint) → IsLinked (loaded point) saw → (p.is_closed ≡ true → IsCaused (record p { reader = point })) → (ended ≡ true → Over (record p { reader = point })) → Logs point
   reader-logs ReadPoint.Idle link caused over = (tt, over)
   reader-logs ReadPoint.Dropped link caused over = (tt, over)
-  reader-logs (ReadPoint.QueryHead query) link caused over = ((λ t. no_length p.unread (over t).unread, tt), over)
+  reader-logs (ReadPoint.QueryHead query) link caused over = grind arith
   reader-logs (ReadPoint.QueryTail query) link caused over = let logs = tail-logs (ReadPoint.QueryTail query) refl (λ seen. refl) caused over in ((logs.0, tt), logs.1)
   reader-logs ReadPoint.QueryClosed link caused over = ((λ t. (over t).closed, tt), over)
   reader-logs (ReadPoint.LookTail l) link caused over = let logs = tail-logs (ReadPoint.LookTail l) refl (λ seen. refl) caused over in ((logs.0, tt), logs.1)
-  reader-logs (ReadPoint.LookRegister l) link caused over = quietly (ReadPoint.LookRegister l) over (context-quiet saw ended Reader p.reader_call.context)
+  reader-logs (ReadPoint.LookRegister l) link caused over = grind arith
   reader-logs (ReadPoint.LookClosed l) link caused over = ((λ t. (over t).closed, tt), over)
   reader-logs (ReadPoint.LookTailAgain l was_closed) link caused over = let logs = tail-logs (ReadPoint.LookTailAgain l was_closed) refl (λ seen. sym link ∙ seen) caused over in ((logs.0, tt), logs.1)
   reader-logs (ReadPoint.LookTake l) link caused over = (tt, over)
-  reader-logs ReadPoint.Yield link caused over = quietly ReadPoint.Yield over (yield-quiet saw ended p.reader_call.context)
+  reader-logs ReadPoint.Yield link caused over = grind arith
   reader-logs (ReadPoint.CallDestination form sum) link caused over = (tt, over)
   reader-logs (ReadPoint.StoreHead n next) link caused over = ((λ t. take_none n p.unread (over t).unread, tt), over)
   reader-logs (ReadPoint.TakeWriter next) link caused over = (tt, over)
-  reader-logs (ReadPoint.WakeWriter next) link caused over = quietly (ReadPoint.WakeWriter next) over (wake-quiet saw ended p.reader_call.taken)
+  reader-logs (ReadPoint.WakeWriter next) link caused over = grind arith
   reader-logs ReadPoint.StoreClosed link caused over = ((λ t. tt, tt), over)
 
 -- what it has seen of the close
@@ -119,45 +101,16 @@ Ends saw ended point p =
     IsFinalFrom saw ended (answer_event Reader to.answer) × (ended_from saw ended (answer_event Reader to.answer) ≡ true → Over to.pipe)
 
 module _ (saw ended : Bool) (p : Pipe) where
-  query-ends : (query : Query) → (ended ≡ true → Over (record p { reader = ReadPoint.QueryTail query })) → Ends saw ended (ReadPoint.QueryTail query) p
-  query-ends query over = grind arith
-
-  -- without an unread byte a look finds none
-  looks-over : (none : Bool) (l : Purpose) → none ≡ true → is_over (reader_looked none l) ≡ true
-  looks-over none l empty = grind arith
-
-  abbrev Answers : Option Answer → Type 0
-  Answers answer = IsFinalFrom saw ended (answer_event Reader answer) × (ended_from saw ended (answer_event Reader answer) ≡ ended)
-
-  registers-final : (granted : Bool) (l : Purpose) → let next = reader_registered granted l in Answers next.answer × (is_over next.point ≡ true)
-  registers-final granted l = grind arith
-
   -- the answers that report an end: nothing was found after a close that was seen
   again-final : (none was_closed : Bool) (l : Purpose) → (ended ≡ true → (none ≡ true) × (was_closed ≡ true)) → let next = reader_looked_again none l was_closed in
       IsFinalFrom saw ended (answer_event Reader next.answer) × (ended_from saw ended (answer_event Reader next.answer) ≡ true → (none ≡ true) × (was_closed ≡ true) × (is_over next.point ≡ true))
   again-final none was_closed l over = grind arith
 
-  -- where a byte is there no end was found
-  yield-final : (granted : Bool) → (ended ≡ true → false ≡ true) → Answers (Some (yield_answer granted))
-  yield-final granted none = grind arith
-
-  round-final : (taken : Result ℕ Failed) (form : Form) (sum : ℕ) → (ended ≡ true → false ≡ true) → Answers (read_after p.capacity (ReadPoint.CallDestination form sum) (found_of taken)).answer
-  round-final taken form sum none = grind arith
-
-  done-final : (next : AfterRead) → (ended ≡ true → is_last next ≡ true) → let to = read_done next in Answers to.answer × (ended ≡ true → is_over to.point ≡ true)
-  done-final next last = grind arith
-
-  take-final : (next : AfterRead) (is_found : Bool) → (ended ≡ true → is_last next ≡ true) → let to = writer_taken next is_found in Answers to.answer × (ended ≡ true → is_over to.point ≡ true)
-  take-final next is_found last = grind arith
-
   pub reader-ends : (point : ReadPoint) → (saw_close point ≡ true → p.is_closed ≡ true) → (p.is_closed ≡ true → IsCaused (record p { reader = point })) → (ended ≡ true → Over (record p { reader = point })) → Ends saw ended point p
-  reader-ends (ReadPoint.QueryTail query) seen caused over = query-ends query over
+  reader-ends (ReadPoint.QueryTail query) seen caused over = grind arith
   reader-ends ReadPoint.QueryClosed seen caused over = ((λ t. tt, tt), λ t. let o = over t in record { closed = o.closed; ended = o.ended; unread = o.unread; valid = refl })
-  reader-ends (ReadPoint.LookTail l) seen caused over =
-      (tt, λ t. let o = over t in record { closed = o.closed; ended = o.ended; unread = o.unread; valid = looks-over (length p.unread == 0) l (none_test p.unread o.unread) })
-  reader-ends (ReadPoint.LookRegister l) seen caused over =
-      let next = registers-final (is_granted p.reader_call.context) l in
-      (next.0.0, λ t. let o = over (sym next.0.1 ∙ t) in record { closed = o.closed; ended = o.ended; unread = o.unread; valid = next.1 })
+  reader-ends (ReadPoint.LookTail l) seen caused over = grind arith
+  reader-ends (ReadPoint.LookRegister l) seen caused over = grind arith
   reader-ends (ReadPoint.LookClosed l) seen caused over = (tt, λ t. let o = over t in record { closed = o.closed; ended = o.ended; unread = o.unread; valid = o.closed })
   reader-ends (ReadPoint.LookTailAgain l was_closed) seen caused over =
       let next = again-final (length p.unread == 0) was_closed l (λ t. (none_test p.unread (over t).unread, (over t).valid)) in
@@ -165,18 +118,10 @@ module _ (saw ended : Bool) (p : Pipe) where
       (next.0, λ t. let noted = next.1 t in record { closed = seen noted.1; ended = by_writer (seen noted.1); unread = none_left p.unread noted.0; valid = noted.2 })
   reader-ends (ReadPoint.LookTake Purpose.Poll) seen caused over = ((λ t. absurd (let none = (over t).valid in cc), tt), λ t. absurd (let none = (over t).valid in cc))
   reader-ends (ReadPoint.LookTake (Purpose.Copy form)) seen caused over = (tt, λ t. absurd (let none = (over t).valid in cc))
-  reader-ends ReadPoint.Yield seen caused over =
-      let to = yield-final (is_yield_granted p.reader_call.context) (λ t. (over t).valid) in
-      (to.0, λ t. absurd (let none = (over (sym to.1 ∙ t)).valid in cc))
-  reader-ends (ReadPoint.CallDestination form sum) seen caused over =
-      let to = round-final (taken (round_count p) p.destination) form sum (λ t. (over t).valid) in
-      (to.0, λ t. absurd (let none = (over (sym to.1 ∙ t)).valid in cc))
+  reader-ends ReadPoint.Yield seen caused over = grind arith
+  reader-ends (ReadPoint.CallDestination form sum) seen caused over = grind arith
   reader-ends (ReadPoint.StoreHead n next) seen caused over = (tt, λ t. let o = over t in record { closed = o.closed; ended = o.ended; unread = drop_none n p.unread o.unread; valid = o.valid })
-  reader-ends (ReadPoint.TakeWriter next) seen caused over =
-      let to = take-final next (is_some p.writer_waker) (λ t. (over t).valid) in
-      (to.0.0, λ t. let o = over (sym to.0.1 ∙ t) in record { closed = o.closed; ended = o.ended; unread = o.unread; valid = to.1 (sym to.0.1 ∙ t) })
-  reader-ends (ReadPoint.WakeWriter next) seen caused over =
-      let to = done-final next (λ t. (over t).valid) in
-      (to.0.0, λ t. let o = over (sym to.0.1 ∙ t) in record { closed = o.closed; ended = o.ended; unread = o.unread; valid = to.1 (sym to.0.1 ∙ t) })
+  reader-ends (ReadPoint.TakeWriter next) seen caused over = grind arith
+  reader-ends (ReadPoint.WakeWriter next) seen caused over = grind arith
   reader-ends ReadPoint.StoreClosed seen caused over = (tt, λ t. let o = over t in record { closed = refl; ended = o.ended; unread = o.unread; valid = refl })
   reader-ends point seen caused over = (tt, λ t. let o = over t in record { closed = o.closed; ended = o.ended; unread = o.unread; valid = o.valid })

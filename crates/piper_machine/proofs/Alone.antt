@@ -1,6 +1,6 @@
 -- A step of a side leaves what remains of its call, and it brings the answer nearer.
 use Rattle.std.proofs.lemmas.Grind.{common_steps}
-use Rattle.std.proofs.Common.{◌≡◌, ℕ, ◌+◌, ◌-◌, ◌<◌, ◌≤◌, List, length, false, Option, None, Some, if◌then◌else◌, ◌==◌, ◌∙◌, arith}
+use Rattle.std.proofs.Common.{◌≡◌, ℕ, ◌+◌, ◌-◌, ◌<◌, ◌≤◌, length, false, Option, None, Some, if◌then◌else◌, ◌==◌, ◌∙◌, arith}
 use Rattle.piper_machine.specs.Types.{Answer, ReadPoint, WritePoint, Reader, Writer, Busy, Go}
 use Rattle.piper_machine.specs.Pipe.{Pipe}
 use Rattle.piper_machine.specs.Refusal.{reader_state, writer_state}
@@ -64,10 +64,6 @@ writer_rest_at next p = writer_rest next.answer (writer_settled next p)
 
 pub writer-rest : (point : WritePoint) (p : Pipe) → writer_state point ≡ Busy → is_filling point ≡ false → let s = write_step point p in writer_alone point p ≡ writer_rest s.answer s.pipe
 writer-rest point p busy plain = grind arith
-
--- a call that copies nothing lends nothing as it goes
-pub plain-step : (point : WritePoint) (lent : List ℕ) (p : Pipe) → is_filling point ≡ false → stepped lent (Go Writer) (heard Writer (write_action point) (record p { writer = point })) ≡ write_step point p
-plain-step point lent p plain = grind arith
 
 -- the waker that it calls is heard, and then it goes
 pub writer-went : (p h r : Pipe) (answer : Option Answer) → is_filling p.writer ≡ false → h ≡ heard Writer (write_action p.writer) p → answer ≡ (stepped r.lent (Go Writer) h).answer → r ≡ (stepped r.lent (Go Writer) h).pipe

@@ -1,11 +1,10 @@
 -- Each step keeps what the log says of both sides' calls, and what they move and answer is right.
-use Rattle.std.proofs.Common.{◌≡◌, ℕ, ◌≤◌, List, ◌∷◌, ◌++◌, length, None, Some, ◌==◌, refl, sym, ap, subst, ◌∙◌, arith, []}
+use Rattle.std.proofs.Common.{◌≡◌, ℕ, ◌≤◌, List, ◌∷◌, ◌++◌, None, Some, ◌==◌, refl, sym, ap, subst, ◌∙◌, arith, []}
 use Rattle.piper_machine.specs.Types.{Purpose, Side, Call, Step, Event, ReadPoint, WritePoint, Reader, Writer, Begin, Go, Put, Began, Try, Polling, Slice, Acts}
 use Rattle.piper_machine.specs.Call.{kind_of, waker_of}
 use Rattle.piper_machine.specs.Log.{answer_event}
 use Rattle.piper_protocol.specs.Table.{read_action, write_action}
 use Rattle.piper_machine.specs.Pipe.{Pipe, fresh}
-use Rattle.piper_machine.specs.Lend.{Lendable}
 use Rattle.piper_machine.specs.Refusal.{refusal_of}
 use Rattle.piper_machine.specs.Sound.{IsSound}
 use Rattle.piper_machine.specs.Action.{performed, logged_of}
@@ -70,10 +69,6 @@ begin-reader lent (Call.Drop Reader) p steps t h = reader-begins p.capacity (Cal
 begin-reader lent (Call.WriteBuf most) p steps t h = ((tt, (tt, tt)), record { coming = h.coming; valid = h.valid })
 begin-reader lent c p steps t h = ((tt, tt), record { coming = h.coming; valid = h.valid })
 
--- a slice is lent as the call is opened
-lends : (lent : List ℕ) (most : ℕ) (p : Pipe) (steps : List Step) (t : Noted) → p.writer ≡ WritePoint.Idle → Lendable most p (length lent) → t.coming ≡ Call.WriteBuf most ∷ calls_of Writer steps → Keeps p.capacity Writer steps (stepped lent (Begin (Call.WriteBuf most)) p) t
-lends lent most p steps t idle may coming = grind arith
-
 begin-writer : (lent : List ℕ) (c : Call) (p : Pipe) (steps : List Step) (t : Noted) → MayLend lent (Begin c) p → refusal_of (Begin c) p ≡ None → IsNoted p.capacity Writer p (Begin c ∷ steps) t → Keeps p.capacity Writer steps (stepped lent (Begin c) p) t
 begin-writer lent (Call.Query Writer query) p steps t may accepted h = writer-begins p.capacity (Call.Query Writer query) steps t (opened lent (Call.Query Writer query) p) h.coming (refl, refl)
 begin-writer lent (Call.IsClosed Writer) p steps t may accepted h = writer-begins p.capacity (Call.IsClosed Writer) steps t (opened lent (Call.IsClosed Writer) p) h.coming (refl, refl)
@@ -89,7 +84,7 @@ begin-writer lent (Call.PollFillBytes waker luck bytes) p steps t may accepted h
 begin-writer lent (Call.PollFill waker luck acts) p steps t may accepted h =
     let c = Call.PollFill waker luck acts in
     writer-begins p.capacity c steps t (opened lent c p) h.coming (record { fill = c; is = refl; fills = (refl, refl); count = refl; found = refl })
-begin-writer lent (Call.WriteBuf most) p steps t may accepted h = lends lent most p steps t (writer-idle p.writer _ accepted) may h.coming
+begin-writer lent (Call.WriteBuf most) p steps t may accepted h = grind arith
 begin-writer lent (Call.Produced n) p steps t may accepted h = writer-begins p.capacity (Call.Produced n) steps t (opened lent (Call.Produced n) p) h.coming (refl, refl)
 begin-writer lent Call.Close p steps t may accepted h = writer-begins p.capacity Call.Close steps t (opened lent Call.Close p) h.coming refl
 begin-writer lent (Call.Drop Writer) p steps t may accepted h = writer-begins p.capacity (Call.Drop Writer) steps t (opened lent (Call.Drop Writer) p) h.coming refl
@@ -163,8 +158,7 @@ answers_more steps coming s capacity p q before after sound same given made =
     subst (λ (c : ℕ). Answers c steps coming q after) same here
 
 answers_runs : (steps coming : List Step) (capacity : ℕ) (p q : Pipe) (before after : List Event) → p.capacity ≡ capacity → Answers capacity steps coming p before → SoundRuns p before coming q after → Answers capacity steps [] q after
-answers_runs steps [] capacity p q before after same given run =
-    subst (λ (es : List Event). Answers capacity steps [] q es) (sym run.1) (subst (λ (x : Pipe). Answers capacity steps [] x before) (sym run.0) given)
+answers_runs steps [] capacity p q before after same given run = grind arith
 answers_runs steps (s ∷ coming) capacity p q before after same given run =
     let next = answers_more steps coming s capacity p run.0 before run.1 run.2 same given run.3 in
     answers_runs steps coming capacity run.0 q run.1 after (capacity-kept p run.0 s before run.1 run.2 run.3 ∙ same) next run.4

@@ -11,7 +11,7 @@ use Rattle.piper_machine.specs.Step.{Stepped, stepped, went, action_of, MayLend,
 use Rattle.piper_machine.specs.Run.{Runs}
 use Rattle.piper_machine.specs.Alone.{Ended, heard, reader_alone, writer_alone, alone_of, is_draining, is_filling, is_copying, wakes_of}
 use Rattle.piper_machine.specs.BySteps.{named_by, names_of}
-use Rattle.piper_machine.proofs.Alone.{Nearer, reads_left, writes_left, reader_rest, read_step, write_step, reader-rest, reader-nearer, writer-nearer, writer-went, writer_rest, writer-rest, plain-step}
+use Rattle.piper_machine.proofs.Alone.{Nearer, reads_left, writes_left, reader_rest, read_step, write_step, reader-rest, reader-nearer, writer-nearer, writer-went, writer_rest, writer-rest}
 use Rattle.piper_machine.proofs.Copies.{WriterValid, fill_step, fill-rest}
 use Rattle.piper_machine.proofs.Falling.{reads-some, writes-some}
 use Rattle.piper_machine.proofs.Validity.{IsSettled, ReaderValid, reader-settled, reader-valid, closes_round, writer-settled, writer-valid}
@@ -97,7 +97,7 @@ writer-hears point lent p names = grind (arith, common_steps)
 write-rest : (point : WritePoint) (lent : List ℕ) (p : Pipe) (fills : Bool) → is_filling point ≡ fills → writer_state point ≡ Busy → WriterValid point p → MayOffer point p.source lent (record p { writer = point })
     → let s = fill_step point lent p in writer_alone point p ≡ writer_rest s.answer s.pipe
 write-rest point lent p true is busy valid may = fill-rest point lent p is valid may
-write-rest point lent p false is busy valid may = writer-rest point p busy is ∙ ap (λ (s : Stepped). writer_rest s.answer s.pipe) (sym (plain-step point lent p is))
+write-rest point lent p false is busy valid may = grind arith
 
 write-falls : (point : WritePoint) (lent : List ℕ) (p : Pipe) (fills : Bool) → is_filling point ≡ fills → writer_state point ≡ Busy → WriterValid point p → MayOffer point p.source lent (record p { writer = point })
     → let s = fill_step point lent p in s.answer ≡ None → writes_left s.pipe.writer s.pipe < writes_left point p

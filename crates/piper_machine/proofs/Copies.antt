@@ -1,19 +1,18 @@
 -- A step of a copying call leaves what remains of it, and it brings the answer nearer.
 use Rattle.std.proofs.lemmas.Grind.{common_steps}
-use Rattle.std.proofs.Common.{◌≡◌, ℕ, ◌+◌, ◌-◌, ◌<◌, ◌≤◌, min, List, ◌∷◌, ◌++◌, take, drop, length, Bool, true, false, Option, None, ◌==◌, is_some, refl, sym, ap, ◌∙◌, arith, Result, Ok, Err, []}
+use Rattle.std.proofs.Common.{◌≡◌, ℕ, ◌+◌, ◌-◌, ◌<◌, ◌≤◌, min, List, ◌∷◌, ◌++◌, take, drop, length, Bool, true, false, ◌==◌, refl, sym, ap, ◌∙◌, arith, Result, Ok, Err, []}
 use Rattle.std.proofs.lemmas.Bool.Decides.{nat_tests}
 use Rattle.piper_machine.specs.Types.{AfterWrite, Purpose, Failed, DestAct, SourceAct, Form, ReadPoint, WritePoint, Writer, Ready, MOST_A_ROUND, Slice, Acts, Go}
-use Rattle.piper_machine.specs.Open.{is_granted}
-use Rattle.piper_protocol.specs.Table.{Next, goes_on, count_answer, failed_answer, write_action, reader_moved, writer_is_open, writer_looked, writer_looked_again, writer_registered, writer_is_true, writer_moved, writer_rounds, reader_taken, tail_store}
+use Rattle.piper_protocol.specs.Table.{Next, count_answer, failed_answer, write_action, reader_moved, writer_moved, tail_store}
 use Rattle.piper_machine.specs.Pipe.{Pipe}
-use Rattle.piper_machine.specs.Move.{with_waker, published, reader_woken}
+use Rattle.piper_machine.specs.Move.{published, reader_woken}
 use Rattle.piper_machine.specs.Copy.{Copied, answered, drained, filled, unlent}
 use Rattle.piper_machine.specs.Scripted.{drain_moves_to, taken_by, fill_moves_more}
-use Rattle.piper_machine.specs.Round.{taken, unspent}
-use Rattle.piper_machine.specs.Action.{index_loaded_by, registered_in, round_count}
+use Rattle.piper_machine.specs.Round.{unspent}
+use Rattle.piper_machine.specs.Action.{round_count}
 use Rattle.piper_machine.specs.Lend.{Lendable}
 use Rattle.piper_machine.specs.Step.{Stepped, stepped, filled_out, MayOffer}
-use Rattle.piper_machine.specs.Alone.{Ended, heard, moved_answer, reader_left, reader_ended, reader_alone, is_draining, writer_ended, writer_filled, writer_open_alone, writer_looks_alone, writer_granted_alone, writer_again_alone, writer_takes_alone, writer_done_alone, writer_rounds_alone, writer_alone, writer_moves_alone, is_filling}
+use Rattle.piper_machine.specs.Alone.{Ended, heard, moved_answer, reader_left, reader_ended, reader_alone, is_draining, writer_ended, writer_filled, writer_alone, writer_moves_alone, is_filling}
 use Rattle.piper_machine.proofs.Alone.{reader_rest, read_step, reader_rest_at, writer_rest, writer_rest_at}
 use Rattle.piper_machine.proofs.Rounds.{filled_nothing}
 use Rattle.piper_machine.proofs.Acts.{give-part, give-ends, give-fails, give-none, give-nothing}
@@ -53,27 +52,6 @@ drain-rest point p drains start known = grind (arith, common_steps)
 -- a fill that has returned leaves nothing lent
 abbrev pub fill_rest_at : Next WritePoint → Pipe → Ended
 fill_rest_at next p = writer_rest_at next (record p { lent = filled_out true next.answer p.lent })
-
-open-rest : (is_closed none : Bool) (form : Form) (p : Pipe) → writer_open_alone is_closed none (Purpose.Copy form) (record p { writer = WritePoint.Idle }) ≡ fill_rest_at (writer_is_open is_closed none (Purpose.Copy form)) p
-open-rest is_closed none form p = grind arith
-
-loads-rest : (none : Bool) (form : Form) (p : Pipe) → writer_looks_alone none (Purpose.Copy form) (record p { writer = WritePoint.Idle }) ≡ fill_rest_at (goes_on (writer_looked none (Purpose.Copy form))) p
-loads-rest none form p = grind arith
-
-writer_registers-rest : (granted : Bool) (form : Form) (p : Pipe) → writer_granted_alone granted (Purpose.Copy form) (record p { writer = WritePoint.Idle }) ≡ fill_rest_at (writer_registered granted (Purpose.Copy form)) p
-writer_registers-rest granted form p = grind arith
-
-writer_again-rest : (none : Bool) (form : Form) (p : Pipe) → writer_again_alone none (Purpose.Copy form) (record p { writer = WritePoint.Idle }) ≡ fill_rest_at (goes_on (writer_looked_again none (Purpose.Copy form))) p
-writer_again-rest none form p = grind arith
-
-writer_takes-rest : (form : Form) (p : Pipe) → writer_takes_alone (Purpose.Copy form) (record p { writer = WritePoint.Idle }) ≡ fill_rest_at (writer_is_true (Purpose.Copy form)) (record p { writer_waker = None; writer_call = record p.writer_call { taken = p.writer_waker } })
-writer_takes-rest form p = grind arith
-
-reader_wakes-rest : (form : Form) (sum : ℕ) (name : Option ℕ) (p : Pipe) → writer_done_alone (AfterWrite.Round form sum) (record p { writer = WritePoint.Idle; reader_waker = None; woken = with_waker p.woken name }) ≡ writer_rest_at (reader_taken (AfterWrite.Round form sum) (is_some name)) (record p { reader_waker = None; writer_call = record p.writer_call { taken = name } })
-reader_wakes-rest form sum name p = grind arith
-
-rounds-rest : (is_closed : Bool) (n : ℕ) (form : Form) (sum : ℕ) (p : Pipe) → writer_rounds_alone is_closed n form sum (record p { writer = WritePoint.Idle }) ≡ fill_rest_at (writer_rounds is_closed n form sum) p
-rounds-rest is_closed n form sum p = grind arith
 
 -- a round that moves some bytes wakes the reader
 woken-filled : (n : ℕ) (bytes lent : List ℕ) (p : Pipe) → 1 ≤ n → n ≤ length bytes → p.lent ≡ take n bytes ++ drop n lent → filled (take n bytes) p ≡ unlent (reader_woken (published n p))
@@ -153,17 +131,17 @@ fill_step point lent p = stepped lent (Go Writer) (heard Writer (write_action po
 
 pub fill-rest : (point : WritePoint) (lent : List ℕ) (p : Pipe) → is_filling point ≡ true → WriterValid point p → MayOffer point p.source lent (record p { writer = point })
     → let s = fill_step point lent p in writer_alone point p ≡ writer_rest s.answer s.pipe
-fill-rest (WritePoint.LookClosed (Purpose.Copy form)) lent p fills valid may = open-rest p.is_closed (p.room == 0) form p
-fill-rest (WritePoint.LookHead (Purpose.Copy form)) lent p fills valid may = loads-rest (p.capacity - length p.unread == 0) form (index_loaded_by Writer p)
-fill-rest (WritePoint.LookRegister (Purpose.Copy form)) lent p fills valid may = writer_registers-rest (is_granted p.writer_call.context) form (record p { writer_waker = registered_in p.writer_call.context p.writer_waker })
-fill-rest (WritePoint.LookHeadAgain (Purpose.Copy form)) lent p fills valid may = writer_again-rest (p.capacity - length p.unread == 0) form (index_loaded_by Writer p)
+fill-rest (WritePoint.LookClosed (Purpose.Copy form)) lent p fills valid may = grind arith
+fill-rest (WritePoint.LookHead (Purpose.Copy form)) lent p fills valid may = grind arith
+fill-rest (WritePoint.LookRegister (Purpose.Copy form)) lent p fills valid may = grind arith
+fill-rest (WritePoint.LookHeadAgain (Purpose.Copy form)) lent p fills valid may = grind arith
 fill-rest (WritePoint.LookClosedAgain (Purpose.Copy form)) lent p fills valid may = refl
-fill-rest (WritePoint.LookTake (Purpose.Copy form)) lent p fills valid may = writer_takes-rest form p
+fill-rest (WritePoint.LookTake (Purpose.Copy form)) lent p fills valid may = grind arith
 fill-rest WritePoint.Yield lent p fills valid may = refl
 fill-rest (WritePoint.CallSource form sum) lent p fills valid may = source-rest form sum p.source lent p valid may
-fill-rest (WritePoint.RoundClosed n form sum) lent p fills valid may = rounds-rest p.is_closed n form sum p
+fill-rest (WritePoint.RoundClosed n form sum) lent p fills valid may = grind arith
 fill-rest (WritePoint.StoreTail n (AfterWrite.Round form sum)) lent p fills valid may = refl
-fill-rest (WritePoint.TakeReader (AfterWrite.Round form sum)) lent p fills valid may = reader_wakes-rest form sum p.reader_waker p
+fill-rest (WritePoint.TakeReader (AfterWrite.Round form sum)) lent p fills valid may = grind arith
 fill-rest (WritePoint.WakeReader (AfterWrite.Round form sum)) lent p fills valid may = refl
 fill-rest (WritePoint.StoreClosed (AfterWrite.Round form sum)) lent p fills valid may = refl
 fill-rest point lent p fills valid may = absurd (cc)

@@ -13,7 +13,7 @@ use Rattle.piper_machine.specs.Alone.{read_steps, write_steps}
 use Rattle.piper_machine.specs.Known.{Knowledge, knowledge_from}
 use Rattle.piper_machine.specs.Counts.{Tally, most_of, tallied}
 use Rattle.piper_machine.specs.Called.{called}
-use Rattle.piper_machine.proofs.Knowing.{knowledge-append, answer-shows, learns, learned, learned-enough, writer-shows, reader-shows}
+use Rattle.piper_machine.proofs.Knowing.{knowledge-append, answer-shows, learns, learned, learned-enough}
 use Rattle.piper_machine.proofs.ReaderCounts.{read_calls, read_least, ReaderSees}
 use Rattle.piper_machine.proofs.WriterCounts.{write_calls, write_least, WriterSees, writer-fits, writer-goes, writer_next}
 
@@ -40,10 +40,6 @@ Counts Writer p k t calls = WriterCounts p.writer p.room k t calls
 pub counts-found : (side : Side) (p : Pipe) (k : Knowledge) (t : Tally) (calls : ℕ) → Counts side p k t calls → (t.made ≤ most_of k.found t.call) × (calls ≤ k.found + 1)
 counts-found side p k t calls held = grind arith
 
--- a side's step leaves where the other is, and what it knows
-pub reader_leaves-writer : (action : Action) (p : Pipe) → ((n : ℕ) → action ≡ Action.StoreTail n → ⊥) → let q = performed Reader action p in (q.writer ≡ p.writer) × (q.room ≡ p.room) × (q.capacity ≡ p.capacity)
-reader_leaves-writer action p never = grind arith
-
 pub writer_leaves-reader : (action : Action) (p : Pipe) → ((n : ℕ) → action ≡ Action.StoreHead n → ⊥) → let q = performed Writer action p in (q.reader ≡ p.reader) × (q.known ≡ p.known) × (q.capacity ≡ p.capacity)
 writer_leaves-reader action p never = grind arith
 
@@ -54,11 +50,6 @@ pub writer_never-head : (point : WritePoint) (n : ℕ) → write_action point �
 writer_never-head point n e = grind arith
 
 -- how a call begins
-
--- the call that is opened begins anew, and leaves the other side as it is
-begin-counts : (side : Side) (cap : ℕ) (lent : List ℕ) (c : Call) (p : Pipe) (k : Knowledge) (t : Tally) (calls : ℕ) → refusal_of (Begin c) p ≡ None → Counts side p k t calls
-    → let new = stepped lent (Begin c) p in Counts side new.pipe (knowledge_from cap side k new.events) (tallied side t (Begin c)) (called side p (Begin c) calls)
-begin-counts side cap lent c p k t calls accepted held = grind arith
 
 -- what a step reports to a side, with the answer after it
 pub noted : (c : ℕ) (side actor : Side) (k j : Knowledge) (es : List Event) (answer : Option Answer) → knowledge_from c side k es ≡ j → knowledge_from c side k (es ++ answer_event actor answer) ≡ j
@@ -88,19 +79,10 @@ writer-counts lent p k t calls may accepted held =
 
 pub counts-step : (side : Side) (s : Step) (lent : List ℕ) (p : Pipe) (k : Knowledge) (t : Tally) (calls : ℕ) → MayLend lent s p → refusal_of s p ≡ None → Counts side p k t calls
     → let new = stepped lent s p in Counts side new.pipe (knowledge_from p.capacity side k new.events) (tallied side t s) (called side p s calls)
-counts-step side (Begin c) lent p k t calls may accepted held = begin-counts side p.capacity lent c p k t calls accepted held
+counts-step side (Begin c) lent p k t calls may accepted held = grind arith
 counts-step Reader (Go Reader) lent p k t calls may accepted held = reader-counts p k t calls accepted held
 counts-step Writer (Go Writer) lent p k t calls may accepted held = writer-counts lent p k t calls may accepted held
-counts-step Writer (Go Reader) lent p k t calls may accepted held =
-    let action = read_action p.reader in
-    let same = reader_leaves-writer action p (reader_never-tail p.reader) in
-    let quiet = noted p.capacity Writer Reader k k (logged_of Reader action p) (went Reader p).answer (reader-shows p.capacity action p k (reader_never-tail p.reader)) in
-    rw (quiet, same.0, same.1) held
-counts-step Reader (Go Writer) lent p k t calls may accepted held =
-    let action = write_action p.writer in
-    let q = offering lent p in
-    let same = writer_leaves-reader action q (writer_never-head p.writer) in
-    let quiet = noted p.capacity Reader Writer k k (logged_of Writer action q) (went Writer q).answer (writer-shows p.capacity action q k (writer_never-head p.writer)) in
-    rw (quiet, same.0, same.1) held
+counts-step Writer (Go Reader) lent p k t calls may accepted held = grind arith
+counts-step Reader (Go Writer) lent p k t calls may accepted held = grind arith
 counts-step Reader (Put offset byte) lent p k t calls may accepted held = held
 counts-step Writer (Put offset byte) lent p k t calls may accepted held = held

@@ -24,10 +24,7 @@ pub record CanLend (most : ℕ) (p : Pipe) : Type 0 where
 
 -- as many as there are, and none of a shut pipe
 can-lend : (is_shut : Bool) (most : ℕ) (p : Pipe) → p.is_shut ≡ is_shut → length p.unread ≤ p.capacity → p.start < p.capacity → CanLend most p
-can-lend true most p shut unread start = record {
-  count = 0;
-  may = record { at_most = omega arith; at_least = λ is_open. absurd (cc); some = λ is_open. absurd (cc); shut = λ is_shut. refl };
-}
+can-lend true most p shut unread start = grind arith
 can-lend false most p shut unread start =
     let left = place_left p.capacity (p.start + length p.unread) (omega arith) in
     record {
@@ -82,18 +79,10 @@ writer-can (WritePoint.CallSource form sum) p before busy unread start =
       log = before ++ (stepped new.lent (Go Writer) q).events;
       made = record { accepted = ap cannot_go busy; made = record { lent = goes.lent; pipe = goes.pipe; events = refl } };
     }
-writer-can point p before busy unread start =
-    let q = record p { writer = point } in
-    record {
-      pipe = (stepped [] (Go Writer) q).pipe;
-      log = before ++ (stepped [] (Go Writer) q).events;
-      made = record { accepted = ap cannot_go busy; made = record { lent = tt; pipe = refl; events = refl } };
-    }
+writer-can point p before busy unread start = grind arith
 
 can-go : (side : Side) (p : Pipe) (names : List ℕ) (before : List Event) → state_of side p ≡ Busy → IsValid side p → CanGo side (named names p) before
-can-go Reader p names before busy valid =
-    let s = stepped [] (Go Reader) (named names p) in
-    record { pipe = s.pipe; log = before ++ s.events; made = record { accepted = ap cannot_go busy; made = record { lent = tt; pipe = refl; events = refl } } }
+can-go Reader p names before busy valid = grind arith
 can-go Writer p names before busy valid = writer-can p.writer (named names p) before busy valid.0.unread valid.0.start
 
 -- a call that gave its answer is not open
@@ -122,10 +111,7 @@ returns-on side p mid names before log made (Some answer) heard mid_is step late
 
 -- from any point inside a call
 returns-from : (most : ℕ) (side : Side) (p : Pipe) (names : List ℕ) (before : List Event) → state_of side p ≡ Busy → IsValid side p → left_of side p ≤ most → Returns side (named names p) before
-returns-from zero side p names before busy valid few =
-    let can = can-go side p names before busy valid in
-    let some = (one_step side can.pipe.lent p names busy valid can.made.made.lent).some in
-    absurd (omega arith)
+returns-from zero side p names before busy valid few = grind arith
 returns-from (suc most) side p names before busy valid few =
     let can = can-go side p names before busy valid in
     let step = stepped can.pipe.lent (Go side) (named names p) in
@@ -135,8 +121,7 @@ returns-from (suc most) side p names before busy valid few =
 -- steps that were made before lead to a point from which the side returns
 comes-on : (k : ℕ) (side : Side) (names : List ℕ) (mid q : Pipe) (log after : List Event) (made : Stepped) (p : Pipe) (answer : Option Answer) → IsHeard side p names made answer → mid ≡ made.pipe → Runs mid log (replicate k (Go side)) q after
     → ((u : Pipe) → state_of side u ≡ Busy → IsValid side u → Runs (named names u) log (replicate k (Go side)) q after → Returns side q after) → Returns side q after
-comes-on k side names mid q log after made p None heard mid_is run later =
-    later heard.after heard.settled heard.valid (subst (λ (r : Pipe). Runs r log (replicate k (Go side)) q after) (mid_is ∙ heard.pipe) run)
+comes-on k side names mid q log after made p None heard mid_is run later = grind arith
 comes-on k side names mid q log after made p (Some answer) heard mid_is run later =
     let u = heard.after in
     let over = no_more k side (named names u) q log after (subst (λ (s : SideState). cannot_go s ≡ None → ⊥) (sym (state-named side names u)) heard.settled) (subst (λ (r : Pipe). Runs r log (replicate k (Go side)) q after) (mid_is ∙ heard.pipe) run) in

@@ -56,12 +56,6 @@ learned-exactly side action p k stores same = grind (arith, common_steps)
 
 -- the other side's step
 
-pub writer-shows : (c : ℕ) (action : Action) (p : Pipe) (k : Knowledge) → ((n : ℕ) → action ≡ Action.StoreHead n → ⊥) → knowledge_from c Reader k (logged_of Writer action p) ≡ k
-writer-shows c action p k never = grind arith
-
-pub reader-shows : (c : ℕ) (action : Action) (p : Pipe) (k : Knowledge) → ((n : ℕ) → action ≡ Action.StoreTail n → ⊥) → knowledge_from c Writer k (logged_of Reader action p) ≡ k
-reader-shows c action p k never = grind arith
-
 -- what a step returns, if it does
 
 abbrev pub IsReadyNext : Side → Knowledge → Option Answer → Type 0

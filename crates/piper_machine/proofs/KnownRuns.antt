@@ -1,23 +1,22 @@
 -- What the laws say of what the sides know, over a run from a fresh pipe.
-use Rattle.std.proofs.Common.{◌≡◌, ℕ, ◌≤◌, List, ◌∷◌, ◌++◌, length, Bool, true, false, Option, None, refl, sym, subst, ◌∙◌, arith, []}
-use Rattle.piper_machine.specs.Types.{Side, Call, Kind, Step, Event, ReadPoint, WritePoint, Action, Reader, Writer, Begin, Go, Put, Began}
-use Rattle.piper_machine.specs.Call.{side_of, kind_of, waker_of}
+use Rattle.std.proofs.Common.{◌≡◌, ℕ, ◌≤◌, List, ◌∷◌, ◌++◌, length, None, refl, sym, subst, ◌∙◌, arith, []}
+use Rattle.piper_machine.specs.Types.{Side, Step, Event, ReadPoint, WritePoint, Action, Reader, Writer, Begin, Go, Put}
 use Rattle.piper_protocol.specs.Table.{head_store, read_action, tail_store, write_action}
 use Rattle.piper_machine.specs.Pipe.{Pipe, fresh}
 use Rattle.piper_machine.specs.Action.{logged_of}
 use Rattle.piper_machine.specs.Sound.{IsSound}
-use Rattle.piper_machine.specs.Step.{went, opened, stepped, offering, answer_at_once, MayLend}
+use Rattle.piper_machine.specs.Step.{went, stepped, offering, MayLend}
 use Rattle.piper_machine.specs.Places.{peeked_count}
 use Rattle.piper_machine.specs.Refusal.{refusal_of}
-use Rattle.piper_machine.specs.Known.{Knowledge, opened_with, knowledge_after, knowledge_from, knowledge_first, knowledge_of, IsKnown}
+use Rattle.piper_machine.specs.Known.{Knowledge, knowledge_after, knowledge_from, knowledge_first, knowledge_of, IsKnown}
 use Rattle.piper_machine.specs.Ready.{IsReadyFrom, IsReady}
-use Rattle.piper_machine.specs.Counts.{Tally, tallied, tally_from, tally_of, IsCounted, is_same}
+use Rattle.piper_machine.specs.Counts.{Tally, tallied, tally_from, tally_of, IsCounted}
 use Rattle.piper_machine.specs.Called.{called, calls_from, AreCallsCounted}
 use Rattle.piper_machine.specs.Run.{Made, Runs}
-use Rattle.piper_machine.proofs.Knowing.{knowledge-append, answer-shows, learns, learned, learned-exactly, Stores, knows, writer-shows, reader-shows}
+use Rattle.piper_machine.proofs.Knowing.{knowledge-append, learns, learned, learned-exactly, Stores, knows}
 use Rattle.piper_machine.proofs.ReaderCounts.{reader-fits}
 use Rattle.piper_machine.proofs.WriterCounts.{writer-fits}
-use Rattle.piper_machine.proofs.Counting.{Counts, noted, counts-step, counts-found, reader_leaves-writer, writer_leaves-reader, reader_never-tail, writer_never-head}
+use Rattle.piper_machine.proofs.Counting.{Counts, noted, counts-step, counts-found}
 
 -- a poll that is true leaves something to do
 
@@ -30,9 +29,6 @@ ready-step : (side : Side) (s : Step) (lent : List ℕ) (p : Pipe) (k : Knowledg
 ready-step side s lent p k t calls may accepted held = grind arith
 
 -- a step leaves the capacity, and a call as it is opened what is known
-
-opened-knows : (side : Side) (lent : List ℕ) (c : Call) (p : Pipe) → knows side (opened lent c p) ≡ knows side p
-opened-knows side lent c p = grind arith
 
 step-capacity : (s : Step) (lent : List ℕ) (p : Pipe) → (stepped lent s p).pipe.capacity ≡ p.capacity
 step-capacity s lent p = grind arith
@@ -68,8 +64,7 @@ along-step c side s p q before after t calls held made =
 
 along-runs : (c : ℕ) (side : Side) (ss : List Step) (p : Pipe) (before : List Event) (q : Pipe) (after : List Event) (t : Tally) (calls : ℕ) → Along c side p before t calls
     → (run : Runs p before ss q after) → Along c side q after (tally_from side t ss) (calls_from side calls ss p before q after run)
-along-runs c side [] p before q after t calls held run =
-    subst (λ (es : List Event). Along c side q es t calls) (sym run.1) (subst (λ (x : Pipe). Along c side x before t calls) (sym run.0) held)
+along-runs c side [] p before q after t calls held run = grind arith
 along-runs c side (s ∷ ss) p before q after t calls held run =
     along-runs c side ss run.0 run.1 q after (tallied side t s) (called side p s calls) (along-step c side s p run.0 before run.1 t calls held run.2) run.3
 
@@ -101,30 +96,12 @@ record Known (c : ℕ) (side : Side) (p : Pipe) (k : Knowledge) : Type 0 where
   known : k.known ≡ knows side p
   found : k.found ≤ c
 
-began_if : Bool → Kind → Knowledge → Knowledge
-began_if true kind k = opened_with kind k
-began_if false kind k = k
-
-began-shows : (cap : ℕ) (side other : Side) (kind : Kind) (waker : Option ℕ) (k : Knowledge) → knowledge_after cap side k (Began other kind waker) ≡ began_if (is_same side other) kind k
-unfolding began_if
-began-shows cap side other kind waker k = grind arith
-
-began-known : (side : Side) (b : Bool) (kind : Kind) (p : Pipe) (k : Knowledge) → IsSound p → Known p.capacity side p k → Known p.capacity side p (began_if b kind k)
-unfolding began_if
-began-known side b kind p k sound held = grind arith
-
 learned-within : (side : Side) (action : Action) (p : Pipe) (k : Knowledge) → length p.unread ≤ p.capacity → k.found ≤ p.capacity → (learned side action p k).found ≤ p.capacity
 learned-within side action p k fits held = grind arith
 
 known-step : (side : Side) (s : Step) (lent : List ℕ) (p : Pipe) (k : Knowledge) (t : Tally) (calls : ℕ) → IsSound p → Counts side p k t calls → Known p.capacity side p k
     → let new = stepped lent s p in Known p.capacity side new.pipe (knowledge_from p.capacity side k new.events)
-known-step side (Begin c) lent p k t calls sound held same =
-    let answer = answer_at_once lent c in
-    let begins = knowledge_after p.capacity side k (Began (side_of c) (kind_of c) (waker_of c)) in
-    let noted = answer-shows p.capacity side (side_of c) begins answer ∙ began-shows p.capacity side (side_of c) (kind_of c) (waker_of c) k in
-    let next = began-known side (is_same side (side_of c)) (kind_of c) p k sound same in
-    let here = subst (λ (j : Knowledge). Known p.capacity side p j) (sym noted) next in
-    record { known = here.known ∙ sym (opened-knows side lent c p); found = here.found }
+known-step side (Begin c) lent p k t calls sound held same = grind arith
 known-step Reader (Go Reader) lent p k t calls sound held same =
     let action = read_action p.reader in
     let j = learned Reader action p k in
@@ -142,17 +119,8 @@ known-step Writer (Go Writer) lent p k t calls sound held same =
       found = learned-within Writer action q k sound.unread same.found;
     } in
     subst (λ (i : Knowledge). Known p.capacity Writer (went Writer q).pipe i) (sym (noted p.capacity Writer Writer k j (logged_of Writer action q) (went Writer q).answer (learns Writer action q k (writer-fits p.writer p.room k held.sees)))) next
-known-step Writer (Go Reader) lent p k t calls sound held same =
-    let action = read_action p.reader in
-    let never = reader_never-tail p.reader in
-    let quiet = noted p.capacity Writer Reader k k (logged_of Reader action p) (went Reader p).answer (reader-shows p.capacity action p k never) in
-    subst (λ (i : Knowledge). Known p.capacity Writer (went Reader p).pipe i) (sym quiet) (record { known = same.known ∙ sym (reader_leaves-writer action p never).1; found = same.found })
-known-step Reader (Go Writer) lent p k t calls sound held same =
-    let action = write_action p.writer in
-    let q = offering lent p in
-    let never = writer_never-head p.writer in
-    let quiet = noted p.capacity Reader Writer k k (logged_of Writer action q) (went Writer q).answer (writer-shows p.capacity action q k never) in
-    subst (λ (i : Knowledge). Known p.capacity Reader (went Writer q).pipe i) (sym quiet) (record { known = same.known ∙ sym (writer_leaves-reader action q never).1; found = same.found })
+known-step Writer (Go Reader) lent p k t calls sound held same = grind arith
+known-step Reader (Go Writer) lent p k t calls sound held same = grind arith
 known-step Reader (Put offset byte) lent p k t calls sound held same = record { known = same.known; found = same.found }
 known-step Writer (Put offset byte) lent p k t calls sound held same = record { known = same.known; found = same.found }
 

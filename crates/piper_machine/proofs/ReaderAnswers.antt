@@ -4,16 +4,16 @@ use Rattle.std.proofs.lemmas.Grind.{common_steps}
 use Rattle.std.proofs.Common.{◌≡◌, ℕ, ◌+◌, ◌≤◌, List, ◌∷◌, ◌++◌, take, length, Bool, true, Some, ◌==◌, is_some, Result, Ok, Err, refl, sym, ap, subst, ◌∙◌, arith, length-take-le, IsSomeAnd, []}
 use Rattle.piper_machine.specs.Types.{Call, Event, Seen, Polled, Failed, Form, Purpose, AfterRead, ReadPoint, Destination, Reader, Looked, Try, Polling, Granted as granted, Slice, Acts}
 use Rattle.piper_machine.specs.Open.{is_granted, is_yield_granted}
-use Rattle.piper_protocol.specs.Table.{Next, copy_answer, count_answer, failed_answer, head_store, query_answer, read_after, read_done, reader_found, reader_is_true, reader_looked, reader_looked_again, reader_looks_for, reader_moved, reader_registered, writer_taken, yield_answer}
+use Rattle.piper_protocol.specs.Table.{Next, copy_answer, count_answer, failed_answer, head_store, read_after, read_done, reader_found, reader_is_true, reader_looked, reader_looked_again, reader_looks_for, reader_moved, reader_registered, writer_taken, yield_answer}
 use Rattle.piper_machine.specs.Log.{answer_event}
 use Rattle.piper_machine.specs.Pipe.{Pipe}
 use Rattle.piper_machine.specs.Round.{taken, found_of, left_of_destination}
-use Rattle.piper_machine.specs.Action.{round_count, registration_of, wake_of, yield_of}
+use Rattle.piper_machine.specs.Action.{registration_of, yield_of}
 use Rattle.piper_machine.specs.Step.{went, destination_after}
 use Rattle.piper_machine.specs.Noted.{Noted, noted_from}
-use Rattle.piper_machine.specs.Outcome.{places_of, may_fail, IsAnswer, MayHaveMoved, number_found}
+use Rattle.piper_machine.specs.Outcome.{places_of, may_fail, IsAnswer, MayHaveMoved}
 use Rattle.piper_machine.specs.Answered.{AreRightFrom}
-use Rattle.piper_machine.proofs.Showing.{noted-append, right-append, registers-leaves, wake-leaves, yield-leaves, answers, Polls}
+use Rattle.piper_machine.proofs.Showing.{noted-append, right-append, registers-leaves, yield-leaves, Polls}
 
 -- a drain of this form, whose destination has so much left where so many bytes were taken
 abbrev pub IsDrain : Form → Call → Destination → ℕ → Type 0
@@ -150,18 +150,13 @@ pub reader-point : (point : ReadPoint) (p : Pipe) (t : Noted) → length p.unrea
 reader-point ReadPoint.Idle p t fits within held = (tt, tt)
 reader-point ReadPoint.Dropped p t fits within held = (tt, tt)
 reader-point (ReadPoint.QueryHead query) p t fits within held = ((tt, tt), (length p.unread, held.0, ap (λ (looks : List Seen). Seen.Head (length p.unread) ∷ looks) held.1))
-reader-point (ReadPoint.QueryTail query) p t fits within held =
-    let looks = ap (λ (before : List Seen). Seen.Tail (length p.unread) ∷ before) held.2 in
-    let u = record t { looks = Seen.Tail (length p.unread) ∷ t.looks } in
-    ((tt, answers p.capacity u Reader (Call.Query Reader query) (query_answer query p.capacity (length p.unread)) held.1 (record { number = length p.unread; is_found = ap (λ (all : List Seen). number_found Reader all) looks; within = fits; answers = refl })), tt)
-reader-point ReadPoint.QueryClosed p t fits within held =
-    let u = record t { looks = Seen.Closed p.is_closed ∷ t.looks } in
-    ((tt, answers p.capacity u Reader (Call.IsClosed Reader) _ held.0 (ap (λ (before : List Seen). Seen.Closed p.is_closed ∷ before) held.1)), tt)
-reader-point (ReadPoint.LookTail l) p t fits within held = ((tt, tt), looks-leads p.capacity _ p.destination (length p.unread == 0) l (looked p.capacity l p.destination t _ held))
+reader-point (ReadPoint.QueryTail query) p t fits within held = grind arith
+reader-point ReadPoint.QueryClosed p t fits within held = grind arith
+reader-point (ReadPoint.LookTail l) p t fits within held = grind arith
 reader-point (ReadPoint.LookRegister l) p t fits within held =
     let quiet = registers-leaves p.capacity t Reader Reader p.reader_call.context in
     steps p.capacity p.destination (reader_registered (is_granted p.reader_call.context) l) t t (registration_of Reader p.reader_call.context) quiet.0 quiet.1 (registers-leads p.capacity t p.destination (is_granted p.reader_call.context) l held)
-reader-point (ReadPoint.LookClosed l) p t fits within held = ((tt, tt), looked p.capacity l p.destination t _ held)
+reader-point (ReadPoint.LookClosed l) p t fits within held = grind arith
 reader-point (ReadPoint.LookTailAgain l was_closed) p t fits within held =
     let u = record t { looks = Seen.Tail (length p.unread) ∷ t.looks } in
     steps p.capacity p.destination (reader_looked_again (length p.unread == 0) l was_closed) t u (Looked Reader (Seen.Tail (length p.unread)) ∷ []) (tt, tt) refl (again-leads p.capacity u p.destination (length p.unread == 0) was_closed l (looked p.capacity l p.destination t _ held))
@@ -169,15 +164,10 @@ reader-point (ReadPoint.LookTake l) p t fits within held = steps p.capacity p.de
 reader-point ReadPoint.Yield p t fits within held =
     let quiet = yield-leaves p.capacity t Reader p.reader_call.context in
     steps p.capacity p.destination (read_after p.capacity ReadPoint.Yield (granted (is_yield_granted p.reader_call.context))) t t (yield_of p.reader_call.context) quiet.0 quiet.1 (yields-leads p.capacity t p.destination (is_yield_granted p.reader_call.context) held, tt)
-reader-point (ReadPoint.CallDestination form sum) p t fits within held =
-    let left = left_of_destination (round_count p) p.destination in
-    steps p.capacity left (read_after p.capacity (ReadPoint.CallDestination form sum) (found_of (taken (round_count p) p.destination))) t t [] tt refl
-    (moved-leads p.capacity t p.destination (taken (round_count p) p.destination) form sum left held (takes p.capacity form held.drain (round_count p) p.destination sum t.looks t.moved held.drains))
+reader-point (ReadPoint.CallDestination form sum) p t fits within held = grind arith
 reader-point (ReadPoint.StoreHead n next) p t fits within held =
     let stored = stores p.capacity n next p.destination t (take n p.unread) (length-take-le n p.unread within) held in
     ((stored.0, tt), stored.1)
 reader-point (ReadPoint.TakeWriter next) p t fits within held = steps p.capacity p.destination (writer_taken next (is_some p.writer_waker)) t t [] tt refl (take-leads p.capacity t p.destination next (is_some p.writer_waker) held)
-reader-point (ReadPoint.WakeWriter next) p t fits within held =
-    let quiet = wake-leaves p.capacity t Reader p.reader_call.taken in
-    steps p.capacity p.destination (read_done next) t t (wake_of p.reader_call.taken) quiet.0 quiet.1 (done-leads p.capacity t p.destination next held)
+reader-point (ReadPoint.WakeWriter next) p t fits within held = grind arith
 reader-point ReadPoint.StoreClosed p t fits within held = ((tt, tt), held)

@@ -1,20 +1,17 @@
 -- Each step keeps both sides remembered: its own side goes on from point to point, and the other is
 -- touched by it.
-use Rattle.std.proofs.Common.{◌≡◌, ℕ, List, ◌∷◌, ◌++◌, Option, None, Some, ◌==◌, refl, sym, subst, slice_set, arith, []}
-use Rattle.piper_machine.specs.Types.{AfterRead, AfterWrite, OpenCall, Call, Step, Event, StepRefusal, Action, Context, SourceAct, Purpose, ReadPoint, WritePoint, Destination, Reader, Writer, Begin, Go, Put, Try, Polling, Slice, Acts}
-use Rattle.piper_machine.specs.Open.{called_with}
-use Rattle.piper_protocol.specs.Table.{read_action, write_action, reader_looks_for}
+use Rattle.std.proofs.Common.{◌≡◌, ℕ, List, ◌∷◌, ◌++◌, Option, None, ◌==◌, refl, sym, subst, arith, []}
+use Rattle.piper_machine.specs.Types.{Call, Step, Event, StepRefusal, Action, WritePoint, Reader, Writer, Begin, Go, Put}
+use Rattle.piper_protocol.specs.Table.{read_action, write_action}
 use Rattle.piper_machine.specs.Pipe.{Pipe, fresh}
 use Rattle.piper_machine.specs.Sound.{IsSound}
 use Rattle.piper_machine.specs.Action.{performed}
 use Rattle.piper_machine.specs.Step.{stepped, went, offering}
-use Rattle.piper_machine.specs.Refusal.{reader_state, writer_state, cannot_begin, or_else, refusal_of}
+use Rattle.piper_machine.specs.Refusal.{writer_state, cannot_begin, or_else, refusal_of}
 use Rattle.piper_machine.specs.Run.{Made}
-use Rattle.piper_machine.specs.Look.{context}
-use Rattle.piper_machine.specs.Lend.{lending}
-use Rattle.piper_machine.specs.Wait.{Wait, no_wait, handed_over, wait_from, wait_of}
+use Rattle.piper_machine.specs.Wait.{Wait, no_wait, wait_from, wait_of}
 use Rattle.piper_machine.specs.Remembered.{AreRemembered}
-use Rattle.piper_machine.proofs.Watching.{HasBegun, Errand, away, read_errand, write_errand, wait-append}
+use Rattle.piper_machine.proofs.Watching.{Errand, read_errand, write_errand, wait-append}
 use Rattle.piper_machine.proofs.ReaderWaits.{ReadWaits, reader-touched, reader-goes, reader-touches}
 use Rattle.piper_machine.proofs.WriterWaits.{WriteWaits, writer-touched, writer-goes, writer-touches}
 
@@ -33,73 +30,29 @@ writer_leaves action p = grind arith
 
 -- a call is opened outside any other call of its side
 
-pub reader-idle : (point : ReadPoint) (more : Option StepRefusal) → or_else (cannot_begin (reader_state point)) more ≡ None → point ≡ ReadPoint.Idle
-reader-idle point more accepted = grind arith
-
 pub writer-idle : (point : WritePoint) (more : Option StepRefusal) → or_else (cannot_begin (writer_state point)) more ≡ None → point ≡ WritePoint.Idle
 writer-idle point more accepted = grind arith
 
-module _ (p : Pipe) (reads writes : Wait) (kept : Keeps p reads writes) where
-  -- the reader opens a call: it goes to a point away from the writer's slot, and the writer does
-  -- not notice
-  reader-opens : (point : ReadPoint) (c : OpenCall) (destination : Destination) (now : Wait) → p.reader ≡ ReadPoint.Idle → read_errand point c ≡ away
-      → (ReadWaits (record p { reader = ReadPoint.Idle }) (write_errand p.writer p.writer_call) reads → ReadWaits (record p { reader = point; reader_call = c; destination = destination }) (write_errand p.writer p.writer_call) now)
-      → Keeps (record p { reader = point; reader_call = c; destination = destination }) now writes
-  reader-opens point c destination now idle errand own = grind arith
-
-  -- the writer opens a call, or a byte is put, with these bytes in what is lent
-  writer-opens : (point : WritePoint) (c : OpenCall) (source : List SourceAct) (lent : List ℕ) (now : Wait) → p.writer ≡ WritePoint.Idle → write_errand point c ≡ away
-      → (WriteWaits (record p { writer = WritePoint.Idle }) (read_errand p.reader p.reader_call) writes → WriteWaits (record p { writer = point; writer_call = c; source = source; lent = lent }) (read_errand p.reader p.reader_call) now)
-      → Keeps (record p { writer = point; writer_call = c; source = source; lent = lent }) reads now
-  writer-opens point c source lent now idle errand own = grind arith
-
-  lends : (lent : List ℕ) → p.writer ≡ WritePoint.Idle → Keeps (lending lent p) reads writes
-  lends lent idle = grind arith
-
-  reads_on : (point : ReadPoint) → p.reader ≡ ReadPoint.Idle → read_errand point p.reader_call ≡ away
-      → (ReadWaits (record p { reader = ReadPoint.Idle }) (write_errand p.writer p.writer_call) reads → ReadWaits (record p { reader = point }) (write_errand p.writer p.writer_call) reads)
-      → Keeps (record p { reader = point }) reads writes
-  reads_on point = reader-opens point p.reader_call p.destination reads
-
-  writes_on : (point : WritePoint) → p.writer ≡ WritePoint.Idle → write_errand point p.writer_call ≡ away
-      → (WriteWaits (record p { writer = WritePoint.Idle }) (read_errand p.reader p.reader_call) writes → WriteWaits (record p { writer = point }) (read_errand p.reader p.reader_call) writes)
-      → Keeps (record p { writer = point }) reads writes
-  writes_on point = writer-opens point p.writer_call p.source p.lent writes
-
-  -- a look with a waker; with none, the last polling call's wait goes on
-  reader-polls : (cx : Context) (l : Purpose) (destination : Destination) → let now = handed_over (Some cx.waker) reads in HasBegun l (Some cx) now → p.reader ≡ ReadPoint.Idle
-      → Keeps (record p { reader = reader_looks_for (p.known == 0) l; reader_call = called_with (Some cx); destination = destination }) now writes
-  reader-polls cx l destination begun idle = grind arith
-
-  reader-tries : (destination : Destination) → p.reader ≡ ReadPoint.Idle
-      → Keeps (record p { reader = reader_looks_for (p.known == 0) (Purpose.Copy Try); reader_call = called_with None; destination = destination }) reads writes
-  reader-tries destination idle = grind arith
-
-  writer-polls : (cx : Context) (l : Purpose) (source : List SourceAct) → let now = handed_over (Some cx.waker) writes in HasBegun l (Some cx) now → p.writer ≡ WritePoint.Idle
-      → Keeps (record p { writer = WritePoint.LookClosed l; writer_call = called_with (Some cx); source = source }) reads now
-  writer-polls cx l source begun idle = grind arith
-
 begin-keeps : (lent : List ℕ) (c : Call) (p : Pipe) (reads writes : Wait) → refusal_of (Begin c) p ≡ None → Keeps p reads writes
     → let new = stepped lent (Begin c) p in Keeps new.pipe (wait_from Reader reads new.events) (wait_from Writer writes new.events)
-begin-keeps lent (Call.Query Reader query) p reads writes accepted kept = reads_on p reads writes kept (ReadPoint.QueryHead query) (reader-idle p.reader _ accepted) refl (λ h. record { waiting = h.waiting; look = tt })
-begin-keeps lent (Call.IsClosed Reader) p reads writes accepted kept = reads_on p reads writes kept ReadPoint.QueryClosed (reader-idle p.reader _ accepted) refl (λ h. record { waiting = h.waiting; look = tt })
-begin-keeps lent (Call.Consume n) p reads writes accepted kept = reads_on p reads writes kept (ReadPoint.StoreHead n AfterRead.Answer) (reader-idle p.reader _ accepted) refl (λ h. record { waiting = h.waiting; look = tt })
-begin-keeps lent (Call.Drop Reader) p reads writes accepted kept = reads_on p reads writes kept ReadPoint.StoreClosed (reader-idle p.reader _ accepted) refl (λ h. record { waiting = h.waiting; look = tt })
-begin-keeps lent (Call.Poll Reader waker luck) p reads writes accepted kept = reader-polls p reads writes kept (context waker luck) Purpose.Poll p.destination (refl, refl) (reader-idle p.reader _ accepted)
-begin-keeps lent (Call.PollDrainBytes waker luck size) p reads writes accepted kept = reader-polls p reads writes kept (context waker luck) (Purpose.Copy (Polling (luck.draw == 0))) (Slice size) (refl, refl) (reader-idle p.reader _ accepted)
-begin-keeps lent (Call.PollDrain waker luck acts) p reads writes accepted kept = reader-polls p reads writes kept (context waker luck) (Purpose.Copy (Polling (luck.draw == 0))) (Acts acts) (refl, refl) (reader-idle p.reader _ accepted)
-begin-keeps lent (Call.TryDrain size) p reads writes accepted kept = reader-tries p reads writes kept (Slice size) (reader-idle p.reader _ accepted)
-begin-keeps lent (Call.Query Writer query) p reads writes accepted kept = writes_on p reads writes kept (WritePoint.QueryHead query) (writer-idle p.writer _ accepted) refl (λ h. record { waiting = h.waiting; look = tt })
-begin-keeps lent (Call.IsClosed Writer) p reads writes accepted kept = writes_on p reads writes kept WritePoint.QueryClosed (writer-idle p.writer _ accepted) refl (λ h. record { waiting = h.waiting; look = tt })
-begin-keeps lent (Call.WriteBuf most) p reads writes accepted kept = lends p reads writes kept lent (writer-idle p.writer _ accepted)
-begin-keeps lent (Call.Produced n) p reads writes accepted kept = writes_on p reads writes kept (WritePoint.StoreTail n AfterWrite.Answer) (writer-idle p.writer _ accepted) refl (λ h. record { waiting = h.waiting; look = tt })
-begin-keeps lent Call.Close p reads writes accepted kept = writes_on p reads writes kept (WritePoint.StoreClosed AfterWrite.WakeWriter) (writer-idle p.writer _ accepted) refl (λ h. record { waiting = h.waiting; look = tt })
-begin-keeps lent (Call.Drop Writer) p reads writes accepted kept = writes_on p reads writes kept (WritePoint.StoreClosed AfterWrite.Drop) (writer-idle p.writer _ accepted) refl (λ h. record { waiting = h.waiting; look = tt })
-begin-keeps lent (Call.Poll Writer waker luck) p reads writes accepted kept = writer-polls p reads writes kept (context waker luck) Purpose.Poll p.source (refl, refl) (writer-idle p.writer _ accepted)
-begin-keeps lent (Call.PollFillBytes waker luck bytes) p reads writes accepted kept = writer-polls p reads writes kept (context waker luck) (Purpose.Copy (Polling (luck.draw == 0))) (SourceAct.Bytes bytes ∷ []) (refl, refl) (writer-idle p.writer _ accepted)
-begin-keeps lent (Call.PollFill waker luck acts) p reads writes accepted kept = writer-polls p reads writes kept (context waker luck) (Purpose.Copy (Polling (luck.draw == 0))) acts (refl, refl) (writer-idle p.writer _ accepted)
-begin-keeps lent (Call.TryFill bytes) p reads writes accepted kept =
-    writer-opens p reads writes kept (WritePoint.LookClosed (Purpose.Copy Try)) (called_with None) (SourceAct.Bytes bytes ∷ []) p.lent writes (writer-idle p.writer _ accepted) refl (λ h. record { waiting = h.waiting; look = tt })
+begin-keeps lent (Call.Query Reader query) p reads writes accepted kept = grind arith
+begin-keeps lent (Call.IsClosed Reader) p reads writes accepted kept = grind arith
+begin-keeps lent (Call.Consume n) p reads writes accepted kept = grind arith
+begin-keeps lent (Call.Drop Reader) p reads writes accepted kept = grind arith
+begin-keeps lent (Call.Poll Reader waker luck) p reads writes accepted kept = grind arith
+begin-keeps lent (Call.PollDrainBytes waker luck size) p reads writes accepted kept = grind arith
+begin-keeps lent (Call.PollDrain waker luck acts) p reads writes accepted kept = grind arith
+begin-keeps lent (Call.TryDrain size) p reads writes accepted kept = grind arith
+begin-keeps lent (Call.Query Writer query) p reads writes accepted kept = grind arith
+begin-keeps lent (Call.IsClosed Writer) p reads writes accepted kept = grind arith
+begin-keeps lent (Call.WriteBuf most) p reads writes accepted kept = grind arith
+begin-keeps lent (Call.Produced n) p reads writes accepted kept = grind arith
+begin-keeps lent Call.Close p reads writes accepted kept = grind arith
+begin-keeps lent (Call.Drop Writer) p reads writes accepted kept = grind arith
+begin-keeps lent (Call.Poll Writer waker luck) p reads writes accepted kept = grind arith
+begin-keeps lent (Call.PollFillBytes waker luck bytes) p reads writes accepted kept = grind arith
+begin-keeps lent (Call.PollFill waker luck acts) p reads writes accepted kept = grind arith
+begin-keeps lent (Call.TryFill bytes) p reads writes accepted kept = grind arith
 
 write_errand-same : (p q : Pipe) → q.writer ≡ p.writer → q.writer_call ≡ p.writer_call → write_errand p.writer p.writer_call ≡ write_errand q.writer q.writer_call
 write_errand-same p q point call = rw (point, call) refl
@@ -123,7 +76,7 @@ step-keeps lent (Go Writer) p reads writes sound accepted kept =
       writer = subst (λ (e : Errand). WriteWaits to.pipe e (wait_from Writer writes to.events)) (read_errand-same p to.pipe same.0 same.1) (writer-goes lent p.writer p (read_errand p.reader p.reader_call) writes sound kept.writer);
       reader = reader-touched p _ _ _ reads _ same.0 same.1 (writer-touches lent p.writer p reads) kept.reader;
     }
-step-keeps lent (Put offset byte) p reads writes sound accepted kept = lends p reads writes kept (slice_set p.lent offset byte) (writer-idle p.writer _ accepted)
+step-keeps lent (Put offset byte) p reads writes sound accepted kept = grind arith
 
 -- what that says of a side outside any call
 

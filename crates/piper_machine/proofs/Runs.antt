@@ -1,14 +1,12 @@
 -- A run goes on by one step.
-use Rattle.std.proofs.Common.{◌≡◌, List, ◌∷◌, ◌++◌, refl, subst, []}
+use Rattle.std.proofs.Common.{◌≡◌, List, ◌∷◌, ◌++◌, [], arith}
 use Rattle.piper_machine.specs.Types.{Step, Event}
 use Rattle.piper_machine.specs.Pipe.{Pipe}
 use Rattle.piper_machine.specs.Sound.{IsSound}
 use Rattle.piper_machine.specs.Run.{Made, Runs}
 
 pub runs_more : (p q r : Pipe) (ss : List Step) (s : Step) (before mid after : List Event) → Runs p before ss q mid → Made q s r mid after → Runs p before (ss ++ s ∷ []) r after
-runs_more p q r [] s before mid after run made =
-    let made_here : Made p s r before after = subst (λ (es : List Event). Made p s r es after) run.1 (subst (λ (x : Pipe). Made x s r mid after) run.0 made) in
-    (r, after, made_here, (refl, refl))
+runs_more p q r [] s before mid after run made = grind arith
 runs_more p q r (t ∷ ss) s before mid after run made = (run.0, run.1, run.2, runs_more run.0 q r ss s run.1 mid after run.3 made)
 
 -- a run of which each pipe that a step is made on is sound
@@ -18,9 +16,7 @@ SoundRuns p before (s ∷ ss) q after =
     (mid : Pipe) × (events : List Event) × IsSound p × Made p s mid before events × SoundRuns mid events ss q after
 
 pub sound_runs_more : (p q r : Pipe) (ss : List Step) (s : Step) (before mid after : List Event) → SoundRuns p before ss q mid → IsSound q → Made q s r mid after → SoundRuns p before (ss ++ s ∷ []) r after
-sound_runs_more p q r [] s before mid after run sound made =
-    let made_here : Made p s r before after = subst (λ (es : List Event). Made p s r es after) run.1 (subst (λ (x : Pipe). Made x s r mid after) run.0 made) in
-    (r, after, subst (λ (x : Pipe). IsSound x) run.0 sound, made_here, (refl, refl))
+sound_runs_more p q r [] s before mid after run sound made = grind arith
 sound_runs_more p q r (t ∷ ss) s before mid after run sound made = (run.0, run.1, run.2, run.3, sound_runs_more run.0 q r ss s run.1 mid after run.4 sound made)
 
 pub as_runs : (p q : Pipe) (ss : List Step) (before after : List Event) → SoundRuns p before ss q after → Runs p before ss q after

@@ -2,14 +2,12 @@
 -- other side changes that.
 use Rattle.std.proofs.Common.{◌≡◌, ℕ, List, ◌∷◌, ◌++◌, Bool, true, false, Option, None, Some, refl, ◌∙◌, arith, []}
 use Rattle.std.specs.Bool.{⊤}
-use Rattle.piper_machine.specs.Types.{Side, OpenCall, Query, Answer, Event, Context, Purpose, ReadPoint, WritePoint, Try, Polling}
+use Rattle.piper_machine.specs.Types.{Side, OpenCall, Answer, Event, Context, Purpose, ReadPoint, WritePoint, Try, Polling}
 use Rattle.piper_machine.specs.Log.{answer_event}
-use Rattle.piper_protocol.specs.Table.{query_answer}
 use Rattle.piper_machine.specs.Pipe.{Pipe}
 use Rattle.piper_machine.specs.Action.{registration_of, wake_of, yield_of}
 use Rattle.piper_machine.specs.Counts.{is_same}
-use Rattle.piper_machine.specs.Wait.{Wait, called, noted, wait_after, wait_from}
-use Rattle.piper_machine.proofs.Queries.{query-holds}
+use Rattle.piper_machine.specs.Wait.{Wait, called, wait_after, wait_from}
 
 -- how far the other side is with the wake that follows its store: away from it, about to empty the
 -- slot, or with what it found there
@@ -117,10 +115,6 @@ yielded (Some cx) = named_if cx.luck.yield_granted cx.waker
 
 pub yield-heard : (side : Side) (w : Wait) (context : Option Context) → wait_from side w (yield_of context) ≡ hears (yielded context) w
 yield-heard side w context = grind arith
-
--- a query returns a count or a flag, and does not wait
-pub query-noted : (query : Query) (capacity count : ℕ) (w : Wait) → noted (query_answer query capacity count) w ≡ w
-query-noted query capacity count w = query-holds (λ (answer : Answer). noted answer w ≡ w) query capacity count refl (λ is. refl)
 
 -- a context, part by part
 abbrev pub context_of : Bool → ℕ → ℕ → Bool → Context

@@ -1,8 +1,7 @@
 -- Every call made by steps, none of which is the other side's, is the call run whole.
-use Rattle.std.proofs.Common.{◌≡◌, ℕ, ◌+◌, ◌*◌, ◌≤◌, List, ◌∷◌, ◌++◌, length, replicate, Bool, true, false, Option, None, if◌then◌else◌, ◌==◌, nat_le, refl, sym, ap, ◌∙◌, subst, arith, append_assoc, []}
-use Rattle.std.proofs.lemmas.Bool.Decides.{nat_tests}
+use Rattle.std.proofs.Common.{◌≡◌, ℕ, ◌+◌, ◌*◌, ◌≤◌, List, ◌∷◌, ◌++◌, length, replicate, Bool, true, false, Option, None, if◌then◌else◌, ◌==◌, refl, sym, ap, ◌∙◌, subst, arith, append_assoc, []}
 use Rattle.std.proofs.lemmas.List.{length-replicate}
-use Rattle.piper_machine.specs.Types.{SourceAct, Side, Call, Answer, Event, StepRefusal, Form, Purpose, ReadPoint, WritePoint, Reader, Writer, Busy, Begin, Go, Lent, Began, Answered, Try, Polling, Slice}
+use Rattle.piper_machine.specs.Types.{SourceAct, Side, Call, Answer, Event, StepRefusal, ReadPoint, WritePoint, Reader, Writer, Busy, Begin, Go, Lent, Began, Answered, Slice}
 use Rattle.piper_machine.specs.declared.refusals.StepRefusal.TheVariants.{BadDraw}
 use Rattle.piper_machine.specs.Counts.{most_steps}
 use Rattle.piper_machine.specs.Open.{no_call}
@@ -10,20 +9,19 @@ use Rattle.piper_machine.specs.declared.machine.Machine.TheInside.{Inside}
 use Rattle.piper_machine.specs.Machine.{pipe_of, IsMachine}
 use Rattle.piper_machine.proofs.Soundness.{sound}
 use Rattle.piper_machine.specs.Call.{side_of, kind_of, waker_of, has_good_draw}
-use Rattle.piper_protocol.specs.Table.{head_store, reader_looks_for}
 use Rattle.piper_machine.specs.Log.{answer_event}
 use Rattle.piper_machine.specs.Pipe.{Pipe, begun}
 use Rattle.piper_machine.specs.Sound.{IsSound}
 use Rattle.piper_machine.specs.Look.{context}
 use Rattle.piper_machine.specs.Lend.{Lendable, lending}
-use Rattle.piper_machine.specs.Refusal.{IsIdle, reader_state, writer_state, state_of, cannot_begin, cannot_go, unless, or_else, past, refusal_of}
+use Rattle.piper_machine.specs.Refusal.{IsIdle, writer_state, state_of, cannot_begin, cannot_go, unless, or_else, past, refusal_of}
 use Rattle.piper_machine.specs.Step.{began, opened, answer_at_once}
 use Rattle.piper_machine.specs.Run.{Made, Runs}
-use Rattle.piper_machine.specs.Alone.{Ended, read_steps, resting, alone_of, is_copying, wakes_of}
+use Rattle.piper_machine.specs.Alone.{Ended, resting, alone_of, is_copying, wakes_of}
 use Rattle.piper_machine.specs.BySteps.{names_of, whole, is_plain, found_alone, IsWholeBySteps, AreWholeBySteps}
 use Rattle.piper_machine.proofs.BySteps.{named, left_of, IsValid, no_more, finish}
 use Rattle.piper_machine.proofs.Going.{lends-some, comes-back}
-use Rattle.piper_machine.proofs.Whole.{reader-polls, drain-slice, drain-acts, try_drain-whole, writer-polls, given-slice, failure-slice, fill-slice, fill-acts, try_fill-whole}
+use Rattle.piper_machine.proofs.Whole.{given-slice, failure-slice, fill-slice, try_fill-whole}
 
 -- between two calls a side holds nothing of a call
 abbrev pub HoldsNothing : Side → Pipe → Type 0
@@ -49,25 +47,6 @@ pub record IsOpened (c : Call) (lent others : List ℕ) (p : Pipe) : Type 0 wher
   pub unwoken : (opened lent c (begun p)).woken ≡ []
   pub few : left_of (side_of c) (opened lent c (begun p)) ≤ most_steps (found_alone (side_of c) p) c
 
-looks-busy : (knows_none : Bool) (l : Purpose) → reader_state (reader_looks_for knows_none l) ≡ Busy
-looks-busy knows_none l = grind arith
-
-looks-store : (knows_none : Bool) (l : Purpose) → head_store (reader_looks_for knows_none l) ≡ 0
-looks-store knows_none l = grind arith
-
--- the look of a drain, and its rounds
-looks-few : (knows_none : Bool) (form : Form) (unread known : ℕ) → (known == 0) ≡ knows_none → read_steps unread known (reader_looks_for knows_none (Purpose.Copy form)) ≤ 6 + 4 * (if known == 0 then unread else known)
-looks-few knows_none form unread known test = grind arith
-
-poll-few : (knows_none : Bool) (capacity known : ℕ) → read_steps capacity known (reader_looks_for knows_none Purpose.Poll) ≤ 5
-poll-few knows_none capacity known = grind arith
-
-test-holds : (test : Bool) (r : StepRefusal) → unless test r ≡ None → test ≡ true
-test-holds test r none = grind arith
-
-within-of : (n most : ℕ) → nat_le n most ≡ true → n ≤ most
-within-of n most test = grind (arith, nat_tests)
-
 is_lending : Call → Bool
 is_lending (Call.WriteBuf most) = true
 is_lending c = false
@@ -76,31 +55,18 @@ opens : (c : Call) (lent others : List ℕ) (r : Pipe) → is_lending c ≡ fals
 unfolding is_lending
 opens (Call.Query Reader query) lent others r stepped sound fits = record { commutes = refl; at_once = refl; busy = refl; valid = record { unread = sound.unread; start = sound.start; known = sound.known; store = omega arith }; rest = refl; unwoken = refl; few = omega arith }
 opens (Call.IsClosed Reader) lent others r stepped sound fits = record { commutes = refl; at_once = refl; busy = refl; valid = record { unread = sound.unread; start = sound.start; known = sound.known; store = omega arith }; rest = refl; unwoken = refl; few = omega arith }
-opens (Call.Poll Reader waker luck) lent others r stepped sound fits =
-    let none = looks-store (r.known == 0) Purpose.Poll in
-    record { commutes = refl; at_once = refl; busy = looks-busy (r.known == 0) Purpose.Poll; valid = record { unread = sound.unread; start = sound.start; known = sound.known; store = omega arith }; rest = reader-polls (context waker luck) r; unwoken = refl; few = poll-few (r.known == 0) (length r.unread) r.known }
-opens (Call.TryDrain size) lent others r stepped sound fits =
-    let none = looks-store (r.known == 0) (Purpose.Copy Try) in
-    record { commutes = refl; at_once = refl; busy = looks-busy (r.known == 0) (Purpose.Copy Try); valid = record { unread = sound.unread; start = sound.start; known = sound.known; store = omega arith }; rest = try_drain-whole size r; unwoken = refl; few = looks-few (r.known == 0) Try (length r.unread) r.known refl }
-opens (Call.PollDrainBytes waker luck size) lent others r stepped sound fits =
-    let none = looks-store (r.known == 0) (Purpose.Copy (Polling (luck.draw == 0))) in
-    record { commutes = refl; at_once = refl; busy = looks-busy (r.known == 0) (Purpose.Copy (Polling (luck.draw == 0))); valid = record { unread = sound.unread; start = sound.start; known = sound.known; store = omega arith }; rest = drain-slice (context waker luck) size r; unwoken = refl; few = looks-few (r.known == 0) (Polling (luck.draw == 0)) (length r.unread) r.known refl }
-opens (Call.PollDrain waker luck acts) lent others r stepped sound fits =
-    let none = looks-store (r.known == 0) (Purpose.Copy (Polling (luck.draw == 0))) in
-    record { commutes = refl; at_once = refl; busy = looks-busy (r.known == 0) (Purpose.Copy (Polling (luck.draw == 0))); valid = record { unread = sound.unread; start = sound.start; known = sound.known; store = omega arith }; rest = drain-acts (context waker luck) acts r; unwoken = refl; few = looks-few (r.known == 0) (Polling (luck.draw == 0)) (length r.unread) r.known refl }
-opens (Call.Consume n) lent others r stepped sound fits =
-    let within = within-of n _ (test-holds _ _ fits) in
-    record { commutes = refl; at_once = refl; busy = refl; valid = record { unread = sound.unread; start = sound.start; known = sound.known; store = within }; rest = refl; unwoken = refl; few = omega arith }
+opens (Call.Poll Reader waker luck) lent others r stepped sound fits = grind arith
+opens (Call.TryDrain size) lent others r stepped sound fits = grind arith
+opens (Call.PollDrainBytes waker luck size) lent others r stepped sound fits = grind arith
+opens (Call.PollDrain waker luck acts) lent others r stepped sound fits = grind arith
+opens (Call.Consume n) lent others r stepped sound fits = grind arith
 opens (Call.Drop Reader) lent others r stepped sound fits = record { commutes = refl; at_once = refl; busy = refl; valid = record { unread = sound.unread; start = sound.start; known = sound.known; store = omega arith }; rest = refl; unwoken = refl; few = omega arith }
 opens (Call.WriteBuf most) lent others r stepped sound fits = absurd (cc)
-opens (Call.Produced n) lent others r stepped sound fits =
-    let within = within-of n _ (test-holds _ _ fits) in
-    let room = sound.lent_room in
-    record { commutes = refl; at_once = refl; busy = refl; valid = (record { unread = sound.unread; start = sound.start; room = sound.room; store = omega arith; shut = sound.closed; unclosed = λ saw. absurd (cc) }, refl); rest = refl; unwoken = refl; few = omega arith }
-opens (Call.Poll Writer waker luck) lent others r stepped sound fits = record { commutes = refl; at_once = refl; busy = refl; valid = (record { unread = sound.unread; start = sound.start; room = sound.room; store = omega arith; shut = sound.closed; unclosed = λ saw. absurd (cc) }, refl); rest = writer-polls (context waker luck) r; unwoken = refl; few = omega arith }
+opens (Call.Produced n) lent others r stepped sound fits = grind arith
+opens (Call.Poll Writer waker luck) lent others r stepped sound fits = grind arith
 opens (Call.TryFill bytes) lent others r stepped sound fits = record { commutes = refl; at_once = refl; busy = refl; valid = (record { unread = sound.unread; start = sound.start; room = sound.room; store = omega arith; shut = sound.closed; unclosed = λ saw. absurd (cc) }, refl); rest = try_fill-whole (SourceAct.Bytes bytes ∷ []) bytes (given-slice bytes) (failure-slice bytes) r; unwoken = refl; few = omega arith }
 opens (Call.PollFillBytes waker luck bytes) lent others r stepped sound fits = record { commutes = refl; at_once = refl; busy = refl; valid = (record { unread = sound.unread; start = sound.start; room = sound.room; store = omega arith; shut = sound.closed; unclosed = λ saw. absurd (cc) }, refl); rest = fill-slice (SourceAct.Bytes bytes ∷ []) bytes (given-slice bytes) (failure-slice bytes) (context waker luck) r; unwoken = refl; few = omega arith }
-opens (Call.PollFill waker luck acts) lent others r stepped sound fits = record { commutes = refl; at_once = refl; busy = refl; valid = (record { unread = sound.unread; start = sound.start; room = sound.room; store = omega arith; shut = sound.closed; unclosed = λ saw. absurd (cc) }, refl); rest = fill-acts (context waker luck) acts r; unwoken = refl; few = omega arith }
+opens (Call.PollFill waker luck acts) lent others r stepped sound fits = grind arith
 opens c lent others r stepped sound fits = record { commutes = refl; at_once = refl; busy = refl; valid = (record { unread = sound.unread; start = sound.start; room = sound.room; store = omega arith; shut = sound.closed; unclosed = λ saw. absurd (cc) }, refl); rest = refl; unwoken = refl; few = omega arith }
 
 or_else-second : (first second : Option StepRefusal) → or_else first second ≡ None → second ≡ None

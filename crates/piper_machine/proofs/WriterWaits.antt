@@ -1,21 +1,19 @@
 -- The writer as a waiter, from point to point of its own calls, and what each of its steps is to a
 -- waiting reader.
 use Rattle.std.proofs.lemmas.Grind.{common_steps}
-use Rattle.std.proofs.Common.{◌≡◌, ℕ, ◌-◌, ◌≤◌, List, ◌++◌, length, Bool, true, Option, None, Some, ◌==◌, Result, refl, ◌∙◌, arith, []}
+use Rattle.std.proofs.Common.{◌≡◌, ℕ, ◌-◌, ◌≤◌, List, ◌++◌, length, Bool, true, Option, None, Some, ◌==◌, refl, ◌∙◌, arith, []}
 use Rattle.std.specs.Bool.{⊤}
-use Rattle.std.proofs.lemmas.Bool.Decides.{nat_tests}
-use Rattle.piper_machine.specs.Types.{Query, Context, Failed, SourceAct, Form, Purpose, AfterWrite, WritePoint, Reader, Writer, Done}
-use Rattle.piper_protocol.specs.Table.{Next, write_action, end_or_pending, look_answer, writer_is_open, writer_looked, writer_looked_again, writer_rounds, write_after, yield_answer, ends, write_done}
+use Rattle.piper_machine.specs.Types.{Context, SourceAct, Purpose, AfterWrite, WritePoint, Reader, Writer, Done}
+use Rattle.piper_protocol.specs.Table.{Next, write_action, writer_is_open, yield_answer, write_done}
 use Rattle.piper_machine.specs.Log.{answer_event}
 use Rattle.piper_machine.specs.Open.{is_yield_granted}
 use Rattle.piper_machine.specs.Pipe.{Pipe}
 use Rattle.piper_machine.specs.Sound.{IsSound}
-use Rattle.piper_machine.specs.Action.{logged_of, registration_of, wake_of, yield_of, index_loaded_by}
+use Rattle.piper_machine.specs.Action.{logged_of, registration_of, wake_of, yield_of}
 use Rattle.piper_machine.specs.Step.{call_after, went, offering}
-use Rattle.piper_machine.specs.Round.{given, found_of}
 use Rattle.piper_machine.specs.Waiting.{IsBlocked}
 use Rattle.piper_machine.specs.Wait.{Wait, wait_from}
-use Rattle.piper_machine.proofs.Watching.{Errand, write_errand, Watched, same, Touch, rests, stores, finds, misses, calls, IsHanded, HasBegun, Awaits, yielded, yield-heard, answered-passes, registration-passes, wake-heard, context_of, query-noted}
+use Rattle.piper_machine.proofs.Watching.{Errand, write_errand, Watched, same, Touch, rests, stores, finds, misses, calls, IsHanded, HasBegun, Awaits, yielded, yield-heard, answered-passes, registration-passes, wake-heard, context_of}
 
 -- what holds of the pipe while the waker is registered in the slot: nothing any more once the
 -- writer itself has closed; after its own take it is not there, and a close that wakes the reader
@@ -63,9 +61,6 @@ writer-touched p q e e_after w v point call t h = grind arith
 abbrev Goes : Pipe → Errand → Wait → Type 0
 Goes p e w = WriteWaits p e w → let to = went Writer p in WriteWaits to.pipe e (wait_from Writer w to.events)
 
-queried : (query : Query) (count : ℕ) (p : Pipe) (e : Errand) (w : Wait) → Goes (record p { writer = WritePoint.QueryTail query count }) e w
-queried query count p e w h = rw (query-noted query p.capacity count w) (record { waiting = h.waiting; look = tt })
-
 -- a call that goes on, or has returned, with this left of its source and of what is lent
 abbrev IsValid : Next WritePoint → List SourceAct → List ℕ → Pipe → Errand → Wait → Type 0
 IsValid next source lent p e w =
@@ -74,9 +69,6 @@ IsValid next source lent p e w =
 opens : (l : Purpose) (is_closed none : Bool) (source : List SourceAct) (lent : List ℕ) (p : Pipe) (e : Errand) (w : Wait) → WriteWaits (record p { writer = WritePoint.LookClosed l }) e w → IsValid (writer_is_open is_closed none l) source lent p e w
 opens l is_closed none source lent p e w h = grind arith
 
-looked : (l : Purpose) (none : Bool) (p : Pipe) (e : Errand) (w : Wait) → WriteWaits (record p { writer = WritePoint.LookHead l }) e w → WriteWaits (record p { writer = writer_looked none l }) e w
-looked l none p e w h = grind arith
-
 abbrev with_context : Option Context → Option ℕ → Purpose → Pipe → Pipe
 with_context context taken l p = record p { writer = WritePoint.LookRegister l; writer_call = record { context = context; taken = taken } }
 
@@ -84,57 +76,13 @@ registers : (l : Purpose) (granted : Bool) (waker draw : ℕ) (yields : Bool) (t
     → Goes (with_context (Some (context_of granted waker draw yields)) taken l p) e w
 registers l granted waker draw yields taken p e w h = grind arith
 
-registers-if : (l : Purpose) (context : Option Context) (taken : Option ℕ) (p : Pipe) (e : Errand) (w : Wait) → Goes (with_context context taken l p) e w
-registers-if l context taken p e w h = grind arith
-
--- the second load of head
-looked-again : (l : Purpose) (none : Bool) (p : Pipe) (e : Errand) (w : Wait) → (none ≡ true → length p.unread ≡ p.capacity) → WriteWaits (record p { writer = WritePoint.LookHeadAgain l }) e w
-    → WriteWaits (record p { writer = writer_looked_again none l }) e w
-looked-again l none p e w full h = grind arith
-
--- the last load of closed: without room in an open pipe the writer waits from now on
-closed-again : (l : Purpose) (is_closed : Bool) (source : List SourceAct) (lent : List ℕ) (p : Pipe) (e : Errand) (w : Wait) → p.is_closed ≡ is_closed → WriteWaits (record p { writer = WritePoint.LookClosedAgain l }) e w
-    → IsValid (ends WritePoint.Idle (look_answer l (end_or_pending is_closed))) source lent p e w
-closed-again l is_closed source lent p e w flag h = grind arith
-
-takes-own-room : (l : Purpose) (p : Pipe) (e : Errand) (w : Wait) → Goes (record p { writer = WritePoint.LookTake l }) e w
-takes-own-room l p e w h = grind arith
-
 -- a yield: the call returns pending, and its waker was called
 yields : (granted : Bool) (waker draw : ℕ) (registers : Bool) (taken : Option ℕ) (p : Pipe) (e : Errand) (w : Wait)
     → Goes (record p { writer = WritePoint.Yield; writer_call = record { context = Some (record { waker = waker; luck = record { draw = draw; register_granted = registers; yield_granted = granted } }); taken = taken } }) e w
 yields granted waker draw registers taken p e w h = grind arith
 
-yields-if : (context : Option Context) (taken : Option ℕ) (p : Pipe) (e : Errand) (w : Wait) → Goes (record p { writer = WritePoint.Yield; writer_call = record { context = context; taken = taken } }) e w
-yields-if context taken p e w h = grind arith
-
-moves : (given : Result ℕ Failed) (form : Form) (sum : ℕ) (source : List SourceAct) (lent : List ℕ) (p : Pipe) (e : Errand) (w : Wait) → WriteWaits (record p { writer = WritePoint.CallSource form sum }) e w
-    → IsValid (write_after p.capacity p.room (WritePoint.CallSource form sum) (found_of given)) source lent p e w
-moves given form sum source lent p e w h = grind arith
-
-rounds : (is_closed : Bool) (n : ℕ) (form : Form) (sum : ℕ) (source : List SourceAct) (lent : List ℕ) (p : Pipe) (e : Errand) (w : Wait) → WriteWaits (record p { writer = WritePoint.RoundClosed n form sum }) e w → IsValid (writer_rounds is_closed n form sum) source lent p e w
-rounds is_closed n form sum source lent p e w h = grind arith
-
 publishes : (next : AfterWrite) (n : ℕ) (p : Pipe) (e : Errand) (w : Wait) → IsSound (record p { writer = WritePoint.StoreTail n next }) → Goes (record p { writer = WritePoint.StoreTail n next }) e w
 publishes next n p e w sound h = grind (arith, common_steps)
-
-takes-readers : (next : AfterWrite) (slot : Option ℕ) (p : Pipe) (e : Errand) (w : Wait) → Goes (record p { writer = WritePoint.TakeReader next; reader_waker = slot }) e w
-takes-readers next slot p e w h = grind arith
-
-wakes-reader : (next : AfterWrite) (context : Option Context) (name : Option ℕ) (p : Pipe) (e : Errand) (w : Wait) → Goes (record p { writer = WritePoint.WakeReader next; writer_call = record { context = context; taken = name } }) e w
-wakes-reader next context name p e w h = grind arith
-
-closes : (next : AfterWrite) (p : Pipe) (e : Errand) (w : Wait) → Goes (record p { writer = WritePoint.StoreClosed next }) e w
-closes next p e w h = grind arith
-
-takes-own-slot : (slot : Option ℕ) (p : Pipe) (e : Errand) (w : Wait) → Goes (record p { writer = WritePoint.TakeWriter; writer_waker = slot }) e w
-takes-own-slot slot p e w h = grind arith
-
-wakes-own : (context : Option Context) (name : Option ℕ) (p : Pipe) (e : Errand) (w : Wait) → Goes (record p { writer = WritePoint.WakeWriter; writer_call = record { context = context; taken = name } }) e w
-wakes-own context name p e w h = grind arith
-
-full_from : (p : Pipe) → IsSound p → (p.capacity - length p.unread == 0) ≡ true → length p.unread ≡ p.capacity
-full_from p sound none = let within = sound.unread in grind (arith, nat_tests)
 
 -- the writer makes its next step, where a call of the source is lent these places first
 abbrev pub GoesOffered : List ℕ → Pipe → Errand → Wait → Type 0
@@ -144,24 +92,23 @@ pub writer-goes : (offered : List ℕ) (point : WritePoint) (p : Pipe) (e : Erra
 writer-goes offered WritePoint.Idle p e w sound h = record { waiting = h.waiting; look = tt }
 writer-goes offered WritePoint.Dropped p e w sound h = record { waiting = h.waiting; look = tt }
 writer-goes offered (WritePoint.QueryHead query) p e w sound h = record { waiting = h.waiting; look = tt }
-writer-goes offered (WritePoint.QueryTail query count) p e w sound h = queried query count p e w h
+writer-goes offered (WritePoint.QueryTail query count) p e w sound h = grind arith
 writer-goes offered WritePoint.QueryClosed p e w sound h = record { waiting = h.waiting; look = tt }
 writer-goes offered (WritePoint.LookClosed l) p e w sound h = opens l p.is_closed (p.room == 0) _ _ p e w h
-writer-goes offered (WritePoint.LookHead l) p e w sound h = looked l (p.capacity - length p.unread == 0) (index_loaded_by Writer p) e w (record { waiting = h.waiting; look = h.look })
-writer-goes offered (WritePoint.LookRegister l) p e w sound h = registers-if l p.writer_call.context p.writer_call.taken p e w h
-writer-goes offered (WritePoint.LookHeadAgain l) p e w sound h =
-    looked-again l (p.capacity - length p.unread == 0) (index_loaded_by Writer p) e w (full_from (record p { writer = WritePoint.LookHeadAgain l }) sound) (record { waiting = h.waiting; look = h.look })
-writer-goes offered (WritePoint.LookClosedAgain l) p e w sound h = closed-again l p.is_closed _ _ p e w refl h
-writer-goes offered (WritePoint.LookTake l) p e w sound h = takes-own-room l p e w h
-writer-goes offered WritePoint.Yield p e w sound h = yields-if p.writer_call.context p.writer_call.taken p e w h
-writer-goes offered (WritePoint.CallSource form sum) p e w sound h = moves (given (length offered) p.source) form sum _ _ p e w h
-writer-goes offered (WritePoint.RoundClosed n form sum) p e w sound h = rounds p.is_closed n form sum _ _ p e w h
+writer-goes offered (WritePoint.LookHead l) p e w sound h = grind arith
+writer-goes offered (WritePoint.LookRegister l) p e w sound h = grind arith
+writer-goes offered (WritePoint.LookHeadAgain l) p e w sound h = grind arith
+writer-goes offered (WritePoint.LookClosedAgain l) p e w sound h = grind arith
+writer-goes offered (WritePoint.LookTake l) p e w sound h = grind arith
+writer-goes offered WritePoint.Yield p e w sound h = grind arith
+writer-goes offered (WritePoint.CallSource form sum) p e w sound h = grind arith
+writer-goes offered (WritePoint.RoundClosed n form sum) p e w sound h = grind arith
 writer-goes offered (WritePoint.StoreTail n next) p e w sound h = publishes next n p e w sound h
-writer-goes offered (WritePoint.TakeReader next) p e w sound h = takes-readers next p.reader_waker p e w h
-writer-goes offered (WritePoint.WakeReader next) p e w sound h = wakes-reader next p.writer_call.context p.writer_call.taken p e w h
-writer-goes offered (WritePoint.StoreClosed next) p e w sound h = closes next p e w h
-writer-goes offered WritePoint.TakeWriter p e w sound h = takes-own-slot p.writer_waker p e w h
-writer-goes offered WritePoint.WakeWriter p e w sound h = wakes-own p.writer_call.context p.writer_call.taken p e w h
+writer-goes offered (WritePoint.TakeReader next) p e w sound h = grind arith
+writer-goes offered (WritePoint.WakeReader next) p e w sound h = grind arith
+writer-goes offered (WritePoint.StoreClosed next) p e w sound h = grind arith
+writer-goes offered WritePoint.TakeWriter p e w sound h = grind arith
+writer-goes offered WritePoint.WakeWriter p e w sound h = grind arith
 
 -- what each step is to a waiting reader
 

@@ -1,7 +1,7 @@
 -- The table goes on in the same way, whatever a copy that has still to draw will draw.
 use Rattle.std.proofs.Common.{◌≡◌, ℕ, ◌≤◌, Bool, Option, None, Some, arith, []}
 use Rattle.piper_machine.specs.Types.{Action, Answer, Found, ReadPoint, Reader}
-use Rattle.piper_protocol.specs.Table.{Next, read_action, read_after, head_store, moved_in}
+use Rattle.piper_protocol.specs.Table.{Next, read_action, read_after}
 use Rattle.piper_machine.specs.Log.{answer_event}
 use Rattle.piper_machine.specs.Refusal.{cannot_go, reader_state}
 use Rattle.piper_machine.specs.logs.Reading.{HasDrawn}
@@ -17,9 +17,6 @@ action-same draw b point = grind arith
 pub next-same : (capacity : ℕ) (draw : Option Bool) (b : Bool) (point : ReadPoint) (f : Found) → (read_action point ≡ Action.Take Reader → HasDrawn point draw)
     → read_after capacity (reader_point draw b point) f ≡ reader_next draw b (read_after capacity point f)
 next-same capacity draw b point f drawn = grind arith
-
-pub stores-moved : (capacity : ℕ) (point : ReadPoint) (f : Found) → head_store (read_after capacity point f).point ≤ moved_in f
-stores-moved capacity point f = grind arith
 
 -- a call that returns leaves no point of a call
 pub ends-at : (capacity : ℕ) (point : ReadPoint) (f : Found) (answer : Answer) → (read_after capacity point f).answer ≡ Some answer → (read_action (read_after capacity point f).point ≡ Action.Rest)

@@ -11,7 +11,7 @@ use Rattle.piper_protocol.specs.Lines as handle
 use Rattle.piper_protocol.specs.OneList as shared
 use Rattle.piper_protocol.specs.Table.{Next}
 use Rattle.piper_protocol.specs.declared.table.Point.{Point}
-use Rattle.piper_protocol.specs.Told.{alike, both, fits, has_drawn, is_idle, is_made, is_settled, may_draw, moved_in, passes, rests, seen_in, tickets_in, waits_in}
+use Rattle.piper_protocol.specs.Told.{both, fits, has_drawn, is_idle, is_made, is_settled, may_draw, moved_in, passes, rests, seen_in, tickets_in, waits_in}
 use Rattle.piper_machine.specs.logs.Calling.{Calling}
 use Rattle.piper_machine.specs.logs.OfHandles.{given_or_any, of_length, taken_in, waker_in}
 
@@ -22,9 +22,6 @@ first-of a b e = grind arith
 
 pub second-of : (a b : Bool) → both a b ≡ true → b ≡ true
 second-of a b e = grind arith
-
-pub alike-is : (a b : Bool) → alike a b ≡ true → a ≡ b
-alike-is a b e = grind arith
 
 pub equal-is : (m n : ℕ) → (m == n) ≡ true → m ≡ n
 equal-is m n e = grind (arith, nat_tests)

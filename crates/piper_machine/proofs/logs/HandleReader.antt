@@ -5,14 +5,14 @@ use Rattle.piper_machine.specs.Types.{Action, AfterRead, Answer, Found, Purpose,
 use Rattle.piper_protocol.specs.declared.table.Form.{Form}
 use Rattle.piper_protocol.specs.declared.table.Point.{Point}
 use Rattle.piper_protocol.specs.Lines as handle
-use Rattle.piper_protocol.specs.Table.{Next, goes_on, read_action, read_after, read_done, read_row, reader_is_true, reader_moved}
+use Rattle.piper_protocol.specs.Table.{Next, goes_on, read_action, read_after, read_row, reader_is_true, reader_moved}
 use Rattle.piper_protocol.specs.Told.{has_drawn, is_idle, may_empty, rests}
 use Rattle.piper_machine.specs.logs.Calling.{Calling, calling_after, may_wait_after}
 use Rattle.piper_machine.specs.logs.Line.{Line}
 use Rattle.piper_machine.specs.logs.OfHandles.{of_length}
 use Rattle.piper_machine.specs.logs.Reading.{HasDrawn, IsReaderNext, ReaderAt, reader_after, reader_answered, reader_changed, reader_stepped, reader_told}
 use Rattle.piper_machine.proofs.logs.Draws.{ends-at}
-use Rattle.piper_machine.proofs.logs.HandleCalls.{Calls, Counted, Known, OfCopy, Stage, When, goes-true, is_dead, is_true, known_of, looks, moves, opens, registers, stays, takes, wakes, yields}
+use Rattle.piper_machine.proofs.logs.HandleCalls.{Calls, Counted, Known, OfCopy, Stage, goes-true, is_dead, is_true, known_of, looks, moves, opens, registers, stays, takes, wakes, yields}
 
 abbrev pub is_round : AfterRead → Bool
 is_round (AfterRead.Round form sum) = true
@@ -39,9 +39,6 @@ stage-true l = grind arith
 module _ (k : Known) (c : Calling) (Own : Type 0) where
   pub emptied : (l : Purpose) → (c.handed ≡ Some k.waker) × OfCopy l Own → Calls (stage (reader_is_true l).point) k c Own
   emptied l h = subst (λ (s : Stage). Calls s k c Own) (sym (stage-true l)) (goes-true l k c Own h)
-
-  pub done : (next : AfterRead) → When (is_round next) Own → Calls (stage (read_done next).point) k c Own
-  done next h = grind arith
 
   pub moved : (none : Bool) (n sum : ℕ) (form : Form) → Own → Calls (stage (reader_moved none n form sum).point) k c Own
   moved none n sum form h = grind arith

@@ -1,5 +1,5 @@
 -- Where an access of the reader leads, which says what it found.
-use Rattle.std.proofs.Common.{◌≡◌, inl, ℕ, ◌+◌, ◌-◌, ◌%◌, ◌≤◌, ◌==◌, min, List, ◌∷◌, length, Bool, true, false, None, refl, sym, ap, ◌∙◌, arith, length-append}
+use Rattle.std.proofs.Common.{◌≡◌, ℕ, ◌+◌, ◌-◌, ◌%◌, ◌≤◌, ◌==◌, min, List, ◌∷◌, length, Bool, true, false, None, refl, sym, ap, ◌∙◌, arith, length-append}
 use Rattle.piper_machine.specs.Types.{Action, AfterRead, Found, Purpose, ReadPoint, Reader}
 use Rattle.piper_protocol.specs.declared.log.Note.{Note}
 use Rattle.piper_protocol.specs.declared.table.Point.{Point}
@@ -7,13 +7,13 @@ use Rattle.piper_protocol.specs.Index.{offset_of}
 use Rattle.piper_protocol.specs.Lines as handle
 use Rattle.piper_protocol.specs.OneList as shared
 use Rattle.piper_protocol.specs.Table.{read_action}
-use Rattle.piper_protocol.specs.Told.{fits, may_empty, moved_in, piece_in, seen_in, tickets_in, waits_in}
+use Rattle.piper_protocol.specs.Told.{fits, moved_in, piece_in, seen_in, tickets_in, waits_in}
 use Rattle.piper_machine.specs.logs.Line.{stored_head, loaded_slot, swapped}
 use Rattle.piper_machine.specs.logs.Listed.{line_of}
 use Rattle.piper_machine.specs.logs.OfHandles.{given_by}
 use Rattle.piper_machine.specs.logs.Reading.{ReaderAt}
-use Rattle.piper_machine.proofs.logs.HandleCalls.{Counted, equal-is, of-own-length, place-after, second-of}
-use Rattle.piper_machine.proofs.logs.HandleReader.{Follows, IsAt, at, emptied, has-drawn, row, steps}
+use Rattle.piper_machine.proofs.logs.HandleCalls.{Counted, equal-is, of-own-length, place-after}
+use Rattle.piper_machine.proofs.logs.HandleReader.{Follows, IsAt, at, row, steps}
 
 module _ (capacity : ℕ) (some : 1 ≤ capacity) where
   module _ (r : ReaderAt) (before : List handle.Line) (given : List ℕ) where
@@ -47,26 +47,10 @@ module _ (capacity : ℕ) (some : 1 ≤ capacity) where
 
     told-take : (l : Purpose) (a : shared.Access) (f : Found) → ToldAt (ReadPoint.LookTake l) a f
     unfolding moved_in seen_in waits_in tickets_in
-    told-take l (shared.loaded_slot Reader false) (Found.Waker false) = λ e fit is. (
-      inl (refl, has-drawn l r.calling.draw before e fit is.calls.1),
-      λ alive. steps capacity _ given (loaded_slot Reader false) (ReadPoint.LookTake l) (Found.Waker false) r (λ x. absurd cc) refl
-          (record { moves = is.counted.moves; sees = is.counted.sees; lies = is.counted.lies; may_wait = refl }) (emptied _ _ _ l (is.calls.0, is.calls.2)),
-    )
-    told-take l (shared.loaded_slot Reader false) Found.Nothing = λ e fit is. (
-      inl (refl, has-drawn l r.calling.draw before e fit is.calls.1),
-      λ alive. steps capacity _ given (loaded_slot Reader false) (ReadPoint.LookTake l) Found.Nothing r (λ x. absurd cc) refl
-          (record { moves = is.counted.moves; sees = is.counted.sees; lies = is.counted.lies; may_wait = refl }) (emptied _ _ _ l (is.calls.0, is.calls.2)),
-    )
-    told-take l (shared.swapped Reader old None) (Found.Waker said) = λ e fit is. (
-      inl (refl, has-drawn l r.calling.draw before e (second-of _ (may_empty Reader Reader before) fit) is.calls.1),
-      λ alive. steps capacity _ given (swapped Reader old None) (ReadPoint.LookTake l) (Found.Waker said) r (λ x. absurd cc) refl
-          (record { moves = is.counted.moves; sees = is.counted.sees; lies = is.counted.lies; may_wait = refl }) (emptied _ _ _ l (is.calls.0, is.calls.2)),
-    )
-    told-take l (shared.swapped Reader old None) Found.Nothing = λ e fit is. (
-      inl (refl, has-drawn l r.calling.draw before e fit is.calls.1),
-      λ alive. steps capacity _ given (swapped Reader old None) (ReadPoint.LookTake l) Found.Nothing r (λ x. absurd cc) refl
-          (record { moves = is.counted.moves; sees = is.counted.sees; lies = is.counted.lies; may_wait = refl }) (emptied _ _ _ l (is.calls.0, is.calls.2)),
-    )
+    told-take l (shared.loaded_slot Reader false) (Found.Waker false) = grind arith
+    told-take l (shared.loaded_slot Reader false) Found.Nothing = grind arith
+    told-take l (shared.swapped Reader old None) (Found.Waker said) = grind arith
+    told-take l (shared.swapped Reader old None) Found.Nothing = grind arith
     told-take l (shared.loaded_slot side is_filled) (Found.Waker false) = λ e fit is. absurd (let no : false ≡ true = fit in cc)
     told-take l (shared.loaded_slot side is_filled) Found.Nothing = λ e fit is. absurd (let no : false ≡ true = fit in cc)
     told-take l (shared.swapped side old None) (Found.Waker said) = λ e fit is. absurd (let no : false ≡ true = fit in cc)

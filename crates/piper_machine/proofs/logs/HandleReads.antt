@@ -9,13 +9,13 @@ use Rattle.piper_protocol.specs.Lines as handle
 use Rattle.piper_protocol.specs.OneList as shared
 use Rattle.piper_protocol.specs.Table.{Next, read_action, reader_looks_for, reader_moved}
 use Rattle.piper_protocol.specs.Told.{IsTrueLog, alike, begins as call_begins, fits, is_idle, is_made, known_in, may_draw, may_empty, moved_in, passes, piece_in, reader_begins, rests, seen_in, shut_in, tickets_in, waits_in}
-use Rattle.piper_machine.specs.logs.Line.{Line, began, met_tail, knew_empty, took, failed, drew, refused, yielded, woke}
+use Rattle.piper_machine.specs.logs.Line.{Line, began, met_tail, knew_empty, took, drew}
 use Rattle.piper_machine.specs.logs.Listed.{line_of}
-use Rattle.piper_machine.specs.logs.OfHandles.{given_by, line_made, lines_in, of_length, opening_at, reader_opening, taken_in, waker_in}
+use Rattle.piper_machine.specs.logs.OfHandles.{given_by, line_made, lines_in, of_length, opening_at, reader_opening}
 use Rattle.piper_machine.specs.logs.Reading.{AreReaderRuns, fresh_reader, IsReaderNext, MayTake, ReaderAt, reader_after, reader_begun, size_after}
 use Rattle.piper_machine.proofs.logs.HandleLogs.{AreRuns, runs-of}
 use Rattle.piper_machine.proofs.logs.HandleCalls.{Calls, Counted, first-of, kept, known_of, lent-within, moved-within, not-true, of-length, rests-idle, second-of, zero-is}
-use Rattle.piper_machine.proofs.logs.HandleReader.{Arrives, Follows, IsAt, at, done, emptied, has-drawn, idle-point, leads, moved, moved-stores, row, stage, steps, takes-within}
+use Rattle.piper_machine.proofs.logs.HandleReader.{Arrives, Follows, IsAt, at, emptied, has-drawn, idle-point, leads, moved, moved-stores, row, stage, steps, takes-within}
 use Rattle.piper_machine.proofs.logs.HandleReaderTold.{pieces, told}
 
 module _ (capacity : ℕ) (some : 1 ≤ capacity) where
@@ -48,18 +48,9 @@ module _ (capacity : ℕ) (some : 1 ≤ capacity) where
           ),
           λ alive. steps capacity _ given knew_empty (ReadPoint.LookTake l) (Found.Waker false) r (λ x. absurd cc) refl (kept _ _ before _ _ _ _ _ refl refl refl is.counted) (emptied _ _ _ l (is.calls.0, is.calls.2)),
         )
-    made (ReadPoint.LookRegister l) (Found.Granted false) e fit is = (
-      (refl, is.calls.3),
-      λ alive. steps capacity _ given refused (ReadPoint.LookRegister l) (Found.Granted false) r (λ x. absurd cc) refl (kept _ _ before _ _ _ _ _ refl refl refl is.counted) tt,
-    )
-    made (ReadPoint.WakeWriter next) Found.Nothing e fit is = (
-      (refl, is.calls.0),
-      λ alive. steps capacity _ given (woke (taken_in before)) (ReadPoint.WakeWriter next) Found.Nothing r (λ x. absurd cc) refl (kept _ _ before _ _ _ _ _ refl refl refl is.counted) (done _ _ _ next is.calls.1),
-    )
-    made ReadPoint.Yield (Found.Granted true) e fit is = (
-      (refl, is.calls),
-      λ alive. steps capacity _ given (yielded (waker_in before)) ReadPoint.Yield (Found.Granted true) r (λ x. absurd cc) refl (kept _ _ before _ _ _ _ _ refl refl refl is.counted) tt,
-    )
+    made (ReadPoint.LookRegister l) (Found.Granted false) e fit is = grind arith
+    made (ReadPoint.WakeWriter next) Found.Nothing e fit is = grind arith
+    made ReadPoint.Yield (Found.Granted true) e fit is = grind arith
     made (ReadPoint.CallDestination form sum) (Found.Moved n) e fit is =
         let within = moved-within (shut_in before) MOST_A_ROUND n (piece_in capacity Reader before) fit in
         let shows : n ≤ min (r.tail - r.head) (capacity - r.start) = subst (λ (m : ℕ). n ≤ m) (sym (pieces capacity some r before given is.counted)) within.1 in
@@ -72,10 +63,7 @@ module _ (capacity : ℕ) (some : 1 ≤ capacity) where
               (moved-stores capacity given (n == 0) n sum r.start form (omega (arith, shows)))
               (moved _ _ _ (n == 0) n sum form (ap (size_after (length (of_length n given))) is.calls)),
         )
-    made (ReadPoint.CallDestination form sum) Found.Failed e fit is = (
-      (refl, is.calls),
-      λ alive. leads capacity _ given failed (at (ReadPoint.CallDestination form sum) r) (row (ReadPoint.CallDestination form sum) Found.Failed) refl (kept _ _ before _ _ _ _ _ refl refl refl is.counted) tt tt,
-    )
+    made (ReadPoint.CallDestination form sum) Found.Failed e fit is = grind arith
     made (ReadPoint.TakeWriter next) Found.Nothing e fit is = absurd (let no : false ≡ true = fit in cc)
     made (ReadPoint.TakeWriter next) (Found.Waker false) e fit is = absurd (let no : false ≡ true = fit in cc)
     made point f e fit is = absurd (let no : false ≡ true = fit in cc)

@@ -5,14 +5,14 @@ use Rattle.piper_machine.specs.Types.{Action, AfterWrite, Answer, Found, Purpose
 use Rattle.piper_protocol.specs.declared.table.Form.{Form}
 use Rattle.piper_protocol.specs.declared.table.Point.{Point}
 use Rattle.piper_protocol.specs.Lines as handle
-use Rattle.piper_protocol.specs.Table.{Next, ends_fill, goes_on, write_action, write_after, write_done, write_row, writer_is_open, writer_is_true, writer_moved}
+use Rattle.piper_protocol.specs.Table.{Next, ends_fill, goes_on, write_action, write_after, write_row, writer_is_true, writer_moved}
 use Rattle.piper_protocol.specs.Told.{has_drawn, may_empty, shut_in}
 use Rattle.piper_machine.specs.logs.Calling.{Calling, calling_after, may_wait_after}
 use Rattle.piper_machine.specs.logs.Line.{Line}
 use Rattle.piper_machine.specs.logs.OfHandles.{of_length}
 use Rattle.piper_machine.specs.logs.Writing.{HasDrawn, IsWriterNext, WriterAt, own, room_to, unless, writer_after, writer_answered, writer_changed, writer_stepped, writer_told}
 use Rattle.piper_machine.proofs.logs.WriterDraws.{ends-at}
-use Rattle.piper_machine.proofs.logs.HandleCalls.{Calls, Counted, Known, OfCopy, Stage, When, goes-true, is_dead, is_true, known_of, looks, moves, opens, registers, stays, takes, wakes, yields}
+use Rattle.piper_machine.proofs.logs.HandleCalls.{Calls, Counted, Known, OfCopy, Stage, goes-true, is_dead, is_true, known_of, looks, moves, opens, registers, stays, takes, wakes, yields}
 
 abbrev pub is_round : AfterWrite → Bool
 is_round (AfterWrite.Round form sum) = true
@@ -41,14 +41,8 @@ pub stage-true : (l : Purpose) → stage (writer_is_true l).point ≡ is_true l
 stage-true l = grind arith
 
 module _ (k : Known) (c : Calling) (Own : Type 0) where
-  pub is-open : (is_closed none : Bool) (l : Purpose) → k.is_drawn ≡ false → Calls (opens l) k c Own → Calls (stage (writer_is_open is_closed none l).point) k c Own
-  is-open is_closed none l new h = grind arith
-
   pub emptied : (l : Purpose) → (c.handed ≡ Some k.waker) × OfCopy l Own → Calls (stage (writer_is_true l).point) k c Own
   emptied l h = subst (λ (s : Stage). Calls s k c Own) (sym (stage-true l)) (goes-true l k c Own h)
-
-  pub done : (next : AfterWrite) → When (is_round next) Own → Calls (stage (write_done next).point) k c Own
-  done next h = grind arith
 
   pub moved : (none : Bool) (n sum : ℕ) (form : Form) → Own → Calls (stage (writer_moved none n form sum).point) k c Own
   moved none n sum form h = grind arith
@@ -83,9 +77,6 @@ row point f = write_row (goes_on WritePoint.Idle) point f
 
 pub row-stores : (point : WritePoint) (f : Found) → is_given point ≡ false → is_store (row point f).point ≡ false
 row-stores point f other = grind arith
-
-pub open-stores : (is_closed none : Bool) (l : Purpose) → is_store (writer_is_open is_closed none l).point ≡ false
-open-stores is_closed none l = grind arith
 
 pub moved-stores : (capacity : ℕ) (given : List ℕ) (none : Bool) (n sum end : ℕ) (form : Form) → n ≤ capacity - end → Stores capacity given (writer_moved none n form sum).point end (of_length n given)
 moved-stores capacity given none n sum end form within = grind arith

@@ -1,5 +1,5 @@
 -- Where an access of the writer leads, which says what it found.
-use Rattle.std.proofs.Common.{◌≡◌, inl, ℕ, ◌+◌, ◌-◌, ◌%◌, ◌≤◌, ◌==◌, List, ◌∷◌, length, true, false, None, Some, refl, sym, ap, subst, ◌∙◌, arith, length-append}
+use Rattle.std.proofs.Common.{◌≡◌, ℕ, ◌+◌, ◌-◌, ◌%◌, ◌≤◌, ◌==◌, List, ◌∷◌, length, true, false, None, Some, refl, sym, ap, subst, ◌∙◌, arith, length-append}
 use Rattle.piper_machine.specs.Types.{Action, AfterWrite, Found, Purpose, WritePoint, Reader, Writer}
 use Rattle.piper_protocol.specs.declared.log.Note.{Note}
 use Rattle.piper_protocol.specs.declared.table.Form.{Form}
@@ -8,19 +8,16 @@ use Rattle.piper_protocol.specs.Index.{offset_of}
 use Rattle.piper_protocol.specs.Lines as handle
 use Rattle.piper_protocol.specs.OneList as shared
 use Rattle.piper_protocol.specs.Table.{write_action}
-use Rattle.piper_protocol.specs.Told.{fits, known_in, may_empty, moved_in, piece_in, seen_in, shut_in, tickets_in, waits_in}
+use Rattle.piper_protocol.specs.Told.{fits, moved_in, piece_in, seen_in, shut_in, tickets_in, waits_in}
 use Rattle.piper_machine.specs.logs.Line.{stored_tail, loaded_slot, swapped}
 use Rattle.piper_machine.specs.logs.Listed.{line_of}
 use Rattle.piper_machine.specs.logs.OfHandles.{given_by}
-use Rattle.piper_machine.specs.logs.Writing.{WriterAt, contiguous, room_to}
-use Rattle.piper_machine.proofs.logs.HandleCalls.{Counted, equal-is, kept, of-own-length, place-after, second-of}
-use Rattle.piper_machine.proofs.logs.HandleWriter.{Follows, IsAt, at, done, emptied, has-drawn, row, steps}
+use Rattle.piper_machine.specs.logs.Writing.{WriterAt, contiguous}
+use Rattle.piper_machine.proofs.logs.HandleCalls.{Counted, equal-is, of-own-length, place-after}
+use Rattle.piper_machine.proofs.logs.HandleWriter.{Follows, IsAt, at, row, steps}
 
 module _ (capacity : ℕ) (some : 1 ≤ capacity) where
   module _ (w : WriterAt) (before : List handle.Line) (given : List ℕ) where
-    pub rooms : Counted capacity Writer before w.tail w.head w.end w.may_wait → room_to capacity w ≡ known_in capacity Writer before
-    rooms counted = let moves_so = counted.moves in let sees_so = counted.sees in cc
-
     pub pieces : Counted capacity Writer before w.tail w.head w.end w.may_wait → contiguous capacity w ≡ piece_in capacity Writer before
     pieces counted = let moves_so = counted.moves in let sees_so = counted.sees in let lies_so = counted.lies in cc
 
@@ -62,22 +59,10 @@ module _ (capacity : ℕ) (some : 1 ≤ capacity) where
 
     told-take : (l : Purpose) (a : shared.Access) (f : Found) → ToldAt (WritePoint.LookTake l) a f
     unfolding moved_in seen_in waits_in tickets_in shut_in
-    told-take l (shared.loaded_slot Writer false) (Found.Waker false) = λ e fit is. (
-      inl (refl, has-drawn l w.calling.draw before e fit is.calls.1),
-      λ alive. steps capacity _ given (loaded_slot Writer false) (WritePoint.LookTake l) (Found.Waker false) w refl refl (record { moves = is.counted.moves; sees = is.counted.sees; lies = is.counted.lies; may_wait = refl }) is.shut (emptied _ _ _ l (is.calls.0, is.calls.2)),
-    )
-    told-take l (shared.loaded_slot Writer false) Found.Nothing = λ e fit is. (
-      inl (refl, has-drawn l w.calling.draw before e fit is.calls.1),
-      λ alive. steps capacity _ given (loaded_slot Writer false) (WritePoint.LookTake l) Found.Nothing w refl refl (record { moves = is.counted.moves; sees = is.counted.sees; lies = is.counted.lies; may_wait = refl }) is.shut (emptied _ _ _ l (is.calls.0, is.calls.2)),
-    )
-    told-take l (shared.swapped Writer old None) (Found.Waker said) = λ e fit is. (
-      inl (refl, has-drawn l w.calling.draw before e (second-of _ (may_empty Writer Writer before) fit) is.calls.1),
-      λ alive. steps capacity _ given (swapped Writer old None) (WritePoint.LookTake l) (Found.Waker said) w refl refl (record { moves = is.counted.moves; sees = is.counted.sees; lies = is.counted.lies; may_wait = refl }) is.shut (emptied _ _ _ l (is.calls.0, is.calls.2)),
-    )
-    told-take l (shared.swapped Writer old None) Found.Nothing = λ e fit is. (
-      inl (refl, has-drawn l w.calling.draw before e fit is.calls.1),
-      λ alive. steps capacity _ given (swapped Writer old None) (WritePoint.LookTake l) Found.Nothing w refl refl (record { moves = is.counted.moves; sees = is.counted.sees; lies = is.counted.lies; may_wait = refl }) is.shut (emptied _ _ _ l (is.calls.0, is.calls.2)),
-    )
+    told-take l (shared.loaded_slot Writer false) (Found.Waker false) = grind arith
+    told-take l (shared.loaded_slot Writer false) Found.Nothing = grind arith
+    told-take l (shared.swapped Writer old None) (Found.Waker said) = grind arith
+    told-take l (shared.swapped Writer old None) Found.Nothing = grind arith
     told-take l (shared.loaded_slot side is_filled) (Found.Waker false) = λ e fit is. absurd (let no : false ≡ true = fit in cc)
     told-take l (shared.loaded_slot side is_filled) Found.Nothing = λ e fit is. absurd (let no : false ≡ true = fit in cc)
     told-take l (shared.swapped side old None) (Found.Waker said) = λ e fit is. absurd (let no : false ≡ true = fit in cc)
@@ -100,26 +85,11 @@ module _ (capacity : ℕ) (some : 1 ≤ capacity) where
 
     told-take-reader : (next : AfterWrite) (a : shared.Access) (f : Found) → ToldAt (WritePoint.TakeReader next) a f
     unfolding moved_in seen_in waits_in tickets_in shut_in
-    told-take-reader next (shared.loaded_slot Reader false) (Found.Waker false) = λ e fit is. (
-      inl (refl, tt),
-      λ alive. steps capacity _ given (loaded_slot Reader false) (WritePoint.TakeReader next) (Found.Waker false) w refl refl (kept _ _ before _ _ _ _ _ refl refl refl is.counted) is.shut (done _ _ _ next is.calls),
-    )
-    told-take-reader next (shared.loaded_slot Reader false) Found.Nothing = λ e fit is. (
-      inl (refl, tt),
-      λ alive. absurd (let no : true ≡ false = alive in cc),
-    )
-    told-take-reader next (shared.swapped Reader None None) (Found.Waker false) = λ e fit is. (
-      inl (refl, tt),
-      λ alive. steps capacity _ given (swapped Reader None None) (WritePoint.TakeReader next) (Found.Waker false) w refl refl (kept _ _ before _ _ _ _ _ refl refl refl is.counted) is.shut (done _ _ _ next is.calls),
-    )
-    told-take-reader next (shared.swapped Reader (Some waker) None) (Found.Waker true) = λ e fit is. (
-      inl (refl, tt),
-      λ alive. steps capacity _ given (swapped Reader (Some waker) None) (WritePoint.TakeReader next) (Found.Waker true) w refl refl (kept _ _ before _ _ _ _ _ refl refl refl is.counted) is.shut (refl, is.calls),
-    )
-    told-take-reader next (shared.swapped Reader old None) Found.Nothing = λ e fit is. (
-      inl (refl, tt),
-      λ alive. absurd (let no : true ≡ false = alive in cc),
-    )
+    told-take-reader next (shared.loaded_slot Reader false) (Found.Waker false) = grind arith
+    told-take-reader next (shared.loaded_slot Reader false) Found.Nothing = grind arith
+    told-take-reader next (shared.swapped Reader None None) (Found.Waker false) = grind arith
+    told-take-reader next (shared.swapped Reader (Some waker) None) (Found.Waker true) = grind arith
+    told-take-reader next (shared.swapped Reader old None) Found.Nothing = grind arith
     told-take-reader next (shared.loaded_slot side is_filled) (Found.Waker false) = λ e fit is. absurd (let no : false ≡ true = fit in cc)
     told-take-reader next (shared.loaded_slot side is_filled) Found.Nothing = λ e fit is. absurd (let no : false ≡ true = fit in cc)
     told-take-reader next (shared.swapped side old None) (Found.Waker said) = λ e fit is. absurd (let no : false ≡ true = fit in cc)

@@ -8,16 +8,16 @@ use Rattle.piper_protocol.specs.declared.table.Point.{Point}
 use Rattle.piper_protocol.specs.declared.table.Purpose.TheVariants.{Copy}
 use Rattle.piper_protocol.specs.Lines as handle
 use Rattle.piper_protocol.specs.OneList as shared
-use Rattle.piper_protocol.specs.Table.{Next, write_action, writer_is_open, writer_moved}
+use Rattle.piper_protocol.specs.Table.{Next, write_action, writer_moved}
 use Rattle.piper_protocol.specs.Told.{IsTrueLog, alike, begins as call_begins, fits, is_made, known_in, may_draw, moved_in, passes, piece_in, rests, seen_in, shut_in, tickets_in, waits_in, writer_begins}
-use Rattle.piper_machine.specs.logs.Line.{Line, began, loaded_closed, met_head, knew_empty, gave, failed, drew, refused, yielded, woke}
+use Rattle.piper_machine.specs.logs.Line.{Line, began, loaded_closed, met_head, knew_empty, gave, drew}
 use Rattle.piper_machine.specs.logs.Listed.{line_of}
-use Rattle.piper_machine.specs.logs.OfHandles.{given_by, line_made, lines_in, of_length, opening_at, writer_opening, taken_in, waker_in}
-use Rattle.piper_machine.specs.logs.Writing.{AreWriterRuns, IsWriterNext, MayGive, Source, WriterAt, contiguous, fresh_writer, most_lent, own, room_to, source_after, unless, writer_after, writer_begun}
+use Rattle.piper_machine.specs.logs.OfHandles.{given_by, line_made, lines_in, of_length, opening_at, writer_opening}
+use Rattle.piper_machine.specs.logs.Writing.{AreWriterRuns, IsWriterNext, MayGive, Source, WriterAt, contiguous, fresh_writer, most_lent, own, source_after, unless, writer_after, writer_begun}
 use Rattle.piper_machine.proofs.logs.HandleLogs.{AreRuns, runs-of}
-use Rattle.piper_machine.proofs.logs.HandleCalls.{Calls, Counted, alike-is, first-of, is_dead, kept, known_of, moved-within, not-true, of-length, second-of}
-use Rattle.piper_machine.proofs.logs.HandleWriter.{Arrives, Follows, IsAt, at, done, emptied, has-drawn, is-open, leads, lent-so, moved, moved-stores, open-stores, row, stage, steps, stores-none}
-use Rattle.piper_machine.proofs.logs.HandleWriterTold.{pieces, rooms, told}
+use Rattle.piper_machine.proofs.logs.HandleCalls.{Calls, Counted, first-of, is_dead, kept, known_of, moved-within, not-true, of-length, second-of}
+use Rattle.piper_machine.proofs.logs.HandleWriter.{Arrives, Follows, IsAt, at, emptied, has-drawn, leads, lent-so, moved, moved-stores, row, stage, steps}
+use Rattle.piper_machine.proofs.logs.HandleWriterTold.{pieces, told}
 
 module _ (capacity : ℕ) (some : 1 ≤ capacity) where
   module _ (w : WriterAt) (before : List handle.Line) (given : List ℕ) where
@@ -31,15 +31,7 @@ module _ (capacity : ℕ) (some : 1 ≤ capacity) where
     looks-first : (point : WritePoint) (a : shared.Access) (none is_closed : Bool) → (handle.comes_to before).point ≡ Point.Writer point → alike none (known_in capacity Writer before == 0) ≡ true → fits capacity Writer before (write_action point) a (Found.Flag is_closed) ≡ true → IsAt capacity before (given_by given a) (at point w)
         → IsWriterNext capacity (line_of a) (at point w) × (is_dead (handle.looks none is_closed (Point.Writer point)) ≡ false → ((handle.looks none is_closed (Point.Writer point)).point ≡ Point.Writer (writer_after capacity (line_of a) (at point w)).point) × IsAt capacity (handle.note (Note.ClosedLoaded none is_closed) ∷ handle.access a ∷ before) given (writer_after capacity (line_of a) (at point w)))
     unfolding moved_in seen_in waits_in tickets_in shut_in
-    looks-first (WritePoint.LookClosed l) (shared.loaded_closed b) none is_closed e knows fit is = (
-      refl,
-      λ alive. leads capacity _ given (loaded_closed b) (at (WritePoint.LookClosed l) w) (writer_is_open is_closed none l)
-          (ap (λ (x : Bool). writer_is_open x (room_to capacity w == 0) l) (alike-is b is_closed fit) ∙ ap (λ (x : Bool). writer_is_open is_closed x l) (ap (λ (n : ℕ). n == 0) (rooms capacity some w before given is.counted) ∙ sym (alike-is none (known_in capacity Writer before == 0) knows)))
-          (kept _ _ before _ _ _ _ _ refl refl refl is.counted)
-          is.shut
-          (stores-none capacity given (writer_is_open is_closed none l).point w.end w.given (open-stores is_closed none l))
-          (is-open _ _ _ is_closed none l refl is.calls),
-    )
+    looks-first (WritePoint.LookClosed l) (shared.loaded_closed b) none is_closed e knows fit is = grind arith
     looks-first (WritePoint.LookClosed l) a none is_closed e knows fit is = absurd (let no : false ≡ true = fit in cc)
     looks-first point a none is_closed e knows fit is = ((told capacity some w before given point a (Found.Flag is_closed) e fit is).0, λ alive. absurd (let no : true ≡ false = alive in cc))
 
@@ -55,30 +47,12 @@ module _ (capacity : ℕ) (some : 1 ≤ capacity) where
       (refl, has-drawn l w.calling.draw before e (second-of (not (waits_in Writer before)) _ fit) is.calls.1, is.counted.may_wait ∙ not-true (waits_in Writer before) (first-of (not (waits_in Writer before)) _ fit)),
       λ alive. steps capacity _ given knew_empty (WritePoint.LookTake l) (Found.Waker false) w refl refl (kept _ _ before _ _ _ _ _ refl refl refl is.counted) is.shut (emptied _ _ _ l (is.calls.0, is.calls.2)),
     )
-    made WritePoint.TakeWriter Found.Nothing e fit is = (
-      (refl, tt, is.counted.may_wait ∙ not-true (waits_in Writer before) (first-of (not (waits_in Writer before)) _ fit)),
-      λ alive. absurd (let no : true ≡ false = alive in cc),
-    )
-    made WritePoint.TakeWriter (Found.Waker false) e fit is = (
-      (refl, tt, is.counted.may_wait ∙ not-true (waits_in Writer before) (first-of (not (waits_in Writer before)) _ fit)),
-      λ alive. steps capacity _ given knew_empty WritePoint.TakeWriter (Found.Waker false) w refl refl (kept _ _ before _ _ _ _ _ refl refl refl is.counted) is.shut tt,
-    )
-    made (WritePoint.LookRegister l) (Found.Granted false) e fit is = (
-      (refl, is.calls.3),
-      λ alive. steps capacity _ given refused (WritePoint.LookRegister l) (Found.Granted false) w refl refl (kept _ _ before _ _ _ _ _ refl refl refl is.counted) is.shut tt,
-    )
-    made (WritePoint.WakeReader next) Found.Nothing e fit is = (
-      (refl, is.calls.0),
-      λ alive. steps capacity _ given (woke (taken_in before)) (WritePoint.WakeReader next) Found.Nothing w refl refl (kept _ _ before _ _ _ _ _ refl refl refl is.counted) is.shut (done _ _ _ next is.calls.1),
-    )
-    made WritePoint.WakeWriter Found.Nothing e fit is = (
-      (refl, is.calls.0),
-      λ alive. steps capacity _ given (woke (taken_in before)) WritePoint.WakeWriter Found.Nothing w refl refl (kept _ _ before _ _ _ _ _ refl refl refl is.counted) is.shut tt,
-    )
-    made WritePoint.Yield (Found.Granted true) e fit is = (
-      (refl, is.calls),
-      λ alive. steps capacity _ given (yielded (waker_in before)) WritePoint.Yield (Found.Granted true) w refl refl (kept _ _ before _ _ _ _ _ refl refl refl is.counted) is.shut tt,
-    )
+    made WritePoint.TakeWriter Found.Nothing e fit is = grind arith
+    made WritePoint.TakeWriter (Found.Waker false) e fit is = grind arith
+    made (WritePoint.LookRegister l) (Found.Granted false) e fit is = grind arith
+    made (WritePoint.WakeReader next) Found.Nothing e fit is = grind arith
+    made WritePoint.WakeWriter Found.Nothing e fit is = grind arith
+    made WritePoint.Yield (Found.Granted true) e fit is = grind arith
     made (WritePoint.CallSource form sum) (Found.Moved n) e fit is =
         let as_long : length (of_length n given) ≡ n = of-length n given in
         let within = moved-within (shut_in before) MOST_A_ROUND n (piece_in capacity Writer before) fit in
@@ -94,10 +68,7 @@ module _ (capacity : ℕ) (some : 1 ≤ capacity) where
               (moved-stores capacity given (n == 0) n sum w.end form (omega (arith, fits_in)))
               (moved _ _ _ (n == 0) n sum form (ap (source_after (length (of_length n given))) is.calls)),
         )
-    made (WritePoint.CallSource form sum) Found.Failed e fit is = (
-      (refl, is.calls),
-      λ alive. leads capacity _ given failed (at (WritePoint.CallSource form sum) w) (row (WritePoint.CallSource form sum) Found.Failed) refl (kept _ _ before _ _ _ _ _ refl refl refl is.counted) is.shut tt tt,
-    )
+    made (WritePoint.CallSource form sum) Found.Failed e fit is = grind arith
     made (WritePoint.TakeReader next) Found.Nothing e fit is = absurd (let no : false ≡ true = fit in cc)
     made (WritePoint.TakeReader next) (Found.Waker false) e fit is = absurd (let no : false ≡ true = fit in cc)
     made (WritePoint.StoreClosed AfterWrite.WakeWriter) f e fit is = absurd (let no : false ≡ true = fit in cc)

@@ -1,7 +1,7 @@
 -- The writer's table goes on in the same way, whatever a copy that has still to draw will draw.
 use Rattle.std.proofs.Common.{◌≡◌, ℕ, ◌+◌, ◌≤◌, List, Bool, Option, None, Some, arith, []}
 use Rattle.piper_machine.specs.Types.{Action, Answer, Found, WritePoint, Writer}
-use Rattle.piper_protocol.specs.Table.{Next, ends_fill, write_action, write_after, tail_store, moved_in}
+use Rattle.piper_protocol.specs.Table.{Next, ends_fill, write_action, write_after, tail_store}
 use Rattle.piper_machine.specs.Log.{answer_event}
 use Rattle.piper_machine.specs.Refusal.{cannot_go, writer_state}
 use Rattle.piper_machine.specs.Step.{filled_out, lent_after, lent_at}
@@ -21,9 +21,6 @@ fill-same draw b point = grind arith
 pub next-same : (capacity room : ℕ) (draw : Option Bool) (b : Bool) (point : WritePoint) (f : Found) → (write_action point ≡ Action.Take Writer → HasDrawn point draw)
     → write_after capacity room (writer_point draw b point) f ≡ writer_next draw b (write_after capacity room point f)
 next-same capacity room draw b point f drawn = grind arith
-
-pub stores-moved : (capacity room : ℕ) (point : WritePoint) (f : Found) → tail_store (write_after capacity room point f).point ≤ moved_in f + tail_store point
-stores-moved capacity room point f = grind arith
 
 -- a store of the tail leaves no other to be made
 pub stored-none : (capacity room n : ℕ) (point : WritePoint) (f : Found) → write_action point ≡ Action.StoreTail n → tail_store (write_after capacity room point f).point ≡ 0
