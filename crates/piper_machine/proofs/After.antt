@@ -48,8 +48,6 @@ none_test xs h = rw h refl
 abbrev pub Quiet : Bool → Bool → List Event → Type 0
 Quiet saw ended es = IsFinalFrom saw ended es × (ended_from saw ended es ≡ ended) × (saw_closed_from Reader saw es ≡ saw)
 
--- what the reader's step logs before its answer
-
 -- what it has seen of the close is so, and is in its point where it checks again
 abbrev pub IsLinked : Option Bool → Bool → Type 0
 IsLinked None saw = ⊤

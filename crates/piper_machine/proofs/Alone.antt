@@ -1,12 +1,12 @@
 -- A step of a side leaves what remains of its call, and it brings the answer nearer.
 use Rattle.std.proofs.lemmas.Grind.{common_steps}
-use Rattle.std.proofs.Common.{◌≡◌, ℕ, ◌+◌, ◌-◌, ◌<◌, ◌≤◌, length, false, Option, None, Some, if◌then◌else◌, ◌==◌, ◌∙◌, arith}
+use Rattle.std.proofs.Common.{◌≡◌, ℕ, ◌+◌, ◌-◌, ◌<◌, ◌≤◌, length, false, Option, None, Some, if◌then◌else◌, ◌==◌, arith}
 use Rattle.piper_machine.specs.Types.{Answer, ReadPoint, WritePoint, Reader, Writer, Busy, Go}
 use Rattle.piper_machine.specs.Pipe.{Pipe}
 use Rattle.piper_machine.specs.Refusal.{reader_state, writer_state}
 use Rattle.piper_protocol.specs.Table.{Next, read_action, write_action}
 use Rattle.piper_machine.specs.Step.{Stepped, went, call_after, source_after, destination_after, stepped}
-use Rattle.piper_machine.specs.Alone.{Ended, heard, reader_alone, read_steps, read_wakes, is_draining, is_filling, writer_alone, write_steps, write_wakes, steps_after, wakes_after}
+use Rattle.piper_machine.specs.Alone.{Ended, heard, reader_alone, read_steps, read_wakes, is_draining, is_filling, writer_alone, write_steps, write_wakes}
 
 -- what remains after a step of the reader: all that is left, or the answer that the step gave
 abbrev pub reader_rest : Option Answer → Pipe → Ended

@@ -1,5 +1,5 @@
 -- Each step keeps what the log says of both sides' calls, and what they move and answer is right.
-use Rattle.std.proofs.Common.{◌≡◌, ℕ, ◌≤◌, List, ◌∷◌, ◌++◌, None, Some, ◌==◌, refl, sym, ap, subst, ◌∙◌, arith, []}
+use Rattle.std.proofs.Common.{◌≡◌, ℕ, List, ◌∷◌, ◌++◌, None, Some, ◌==◌, refl, sym, ap, subst, ◌∙◌, arith, []}
 use Rattle.piper_machine.specs.Types.{Purpose, Side, Call, Step, Event, ReadPoint, WritePoint, Reader, Writer, Begin, Go, Put, Began, Try, Polling, Slice, Acts}
 use Rattle.piper_machine.specs.Call.{kind_of, waker_of}
 use Rattle.piper_machine.specs.Log.{answer_event}

@@ -1,8 +1,8 @@
 -- Who has closed: the reader by its drop; or the writer, by its drop or its close, and then it
 -- publishes nothing more.
-use Rattle.std.proofs.Common.{◌≡◌, ◌⊎◌, inl, inr, ℕ, ◌-◌, List, Bool, true, false, ◌==◌, is_some, refl, arith}
+use Rattle.std.proofs.Common.{◌≡◌, ◌⊎◌, inl, inr, ℕ, List, Bool, true, false, is_some, refl, arith}
 use Rattle.piper_machine.specs.Types.{AfterRead, AfterWrite, ReadPoint, WritePoint, Reader, Writer}
-use Rattle.piper_protocol.specs.Table.{writer_taken, read_done}
+use Rattle.piper_protocol.specs.Table.{writer_taken}
 use Rattle.piper_machine.specs.Pipe.{Pipe}
 use Rattle.piper_machine.specs.Step.{went, offering}
 
@@ -41,11 +41,6 @@ reader-caused ReadPoint.StoreClosed p caused closed = inl refl
 reader-caused (ReadPoint.StoreHead n next) p caused closed = elim (caused closed) [ inl leaves ↦ absurd (cc) | inr ended ↦ inr ended ]
 reader-caused (ReadPoint.TakeWriter next) p caused closed = take-caused next (is_some p.writer_waker) (caused closed)
   where
-    done-caused : (next : AfterRead) → (read_leaves (ReadPoint.TakeWriter next) ≡ true) ⊎ IsEnded p → (read_leaves (read_done next).point ≡ true) ⊎ IsEnded p
-    done-caused AfterRead.Answer caused = elim caused [ inl leaves ↦ absurd (cc) | inr ended ↦ inr ended ]
-    done-caused AfterRead.Drop caused = inl refl
-    done-caused (AfterRead.Round form sum) caused = elim caused [ inl leaves ↦ absurd (cc) | inr ended ↦ inr ended ]
-
     take-caused : (next : AfterRead) (is_found : Bool) → (read_leaves (ReadPoint.TakeWriter next) ≡ true) ⊎ IsEnded p → (read_leaves (writer_taken next is_found).point ≡ true) ⊎ IsEnded p
     take-caused next is_found caused = grind arith
 reader-caused (ReadPoint.WakeWriter AfterRead.Answer) p caused closed = elim (caused closed) [ inl leaves ↦ absurd (cc) | inr ended ↦ inr ended ]

@@ -1,7 +1,7 @@
 -- What each side knows, and how many steps its call has made, and calls of its destination or
 -- source: what one step does to them.
 use Rattle.std.proofs.lemmas.Grind.{common_steps}
-use Rattle.std.proofs.Common.{◌≡◌, ℕ, ◌+◌, ◌*◌, ◌≤◌, List, ◌++◌, Option, None, ◌==◌, sym, subst, ◌∙◌, arith}
+use Rattle.std.proofs.Common.{◌≡◌, ℕ, ◌+◌, ◌≤◌, List, ◌++◌, Option, None, sym, subst, ◌∙◌, arith}
 use Rattle.piper_machine.specs.Types.{Side, Call, Step, Answer, Event, ReadPoint, WritePoint, Action, Reader, Writer, Begin, Go, Put}
 use Rattle.piper_machine.specs.Log.{answer_event}
 use Rattle.piper_protocol.specs.Table.{read_action, write_action}
@@ -48,8 +48,6 @@ reader_never-tail point n e = grind arith
 
 pub writer_never-head : (point : WritePoint) (n : ℕ) → write_action point ≡ Action.StoreHead n → ⊥
 writer_never-head point n e = grind arith
-
--- how a call begins
 
 -- what a step reports to a side, with the answer after it
 pub noted : (c : ℕ) (side actor : Side) (k j : Knowledge) (es : List Event) (answer : Option Answer) → knowledge_from c side k es ≡ j → knowledge_from c side k (es ++ answer_event actor answer) ≡ j

@@ -1,5 +1,5 @@
 -- An end that was found, kept along a log, and what that says of each moment of the log.
-use Rattle.std.proofs.Common.{◌≡◌, ◌⊎◌, ℕ, zero, List, ◌∷◌, ◌++◌, Bool, true, false, refl, ap, subst, ◌∙◌, arith, []}
+use Rattle.std.proofs.Common.{◌≡◌, ℕ, zero, List, ◌∷◌, ◌++◌, Bool, true, false, refl, ap, subst, ◌∙◌, arith, []}
 use Rattle.std.specs.Bool.{⊤}
 use Rattle.std.specs.List.{All}
 use Rattle.std.proofs.lemmas.List.Elements.{All-nil, All-cons}

@@ -1,5 +1,5 @@
 -- Every step of a call brings its answer nearer: fewer steps remain.
-use Rattle.std.proofs.Common.{◌≡◌, ℕ, ◌+◌, ◌-◌, ◌<◌, ◌≤◌, List, ◌∷◌, true, None, ◌==◌, if◌then◌else◌, arith}
+use Rattle.std.proofs.Common.{◌≡◌, ℕ, ◌<◌, ◌≤◌, List, true, None, arith}
 use Rattle.piper_machine.specs.Types.{ReadPoint, WritePoint, Busy}
 use Rattle.piper_machine.specs.Pipe.{Pipe}
 use Rattle.piper_machine.specs.Refusal.{reader_state, writer_state}

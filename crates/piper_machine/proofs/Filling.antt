@@ -1,6 +1,6 @@
 -- A fill run whole: its source stays with the caller, and each step is that of a call which holds
 -- this source.
-use Rattle.std.proofs.Common.{◌≡◌, ℕ, ◌-◌, ◌<◌, ◌≤◌, min, List, ◌∷◌, take, length, true, false, Option, None, Some, ◌==◌, sym, ap, subst, ◌∙◌, arith, Result, Ok, Err}
+use Rattle.std.proofs.Common.{◌≡◌, ℕ, ◌<◌, min, List, take, length, true, false, Option, None, Some, sym, ap, subst, ◌∙◌, arith, Result, Ok, Err}
 use Rattle.piper_machine.specs.Types.{Action, OpenCall, Answer, Failed, SourceAct, WritePoint, Found, Writer, Go, Busy, MOST_A_ROUND}
 use Rattle.piper_protocol.specs.Table.{write_action}
 use Rattle.piper_machine.specs.Pipe.{Pipe}

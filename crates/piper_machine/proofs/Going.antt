@@ -1,5 +1,5 @@
 -- A side that is inside a call can go on, and comes to its answer.
-use Rattle.std.proofs.Common.{◌≡◌, ℕ, zero, suc, ◌+◌, ◌-◌, ◌<◌, ◌≤◌, min, List, ◌++◌, take, drop, length, replicate, Bool, true, false, Option, None, Some, refl, sym, ap, ◌∙◌, subst, arith, length-append, length-drop, length-take-le, []}
+use Rattle.std.proofs.Common.{◌≡◌, ℕ, zero, suc, ◌+◌, ◌-◌, ◌<◌, ◌≤◌, min, List, ◌++◌, take, drop, length, replicate, Bool, true, false, Option, None, Some, refl, sym, ap, ◌∙◌, subst, arith, length-append, length-drop, length-take-le}
 use Rattle.std.proofs.lemmas.List.{length-replicate}
 use Rattle.std.proofs.lemmas.Slice.{drop-append-drop}
 use Rattle.piper_machine.specs.Types.{Side, WritePoint, Answer, SideState, Event, Reader, Writer, MOST_A_ROUND, Busy, Go}

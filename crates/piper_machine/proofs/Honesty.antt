@@ -1,6 +1,6 @@
 -- Each step keeps the honest end: what the reader knows of the close it read off the pipe, before
 -- its last look.
-use Rattle.std.proofs.Common.{◌≡◌, ℕ, List, ◌∷◌, ◌++◌, Bool, true, false, Option, None, Some, ◌==◌, refl, sym, subst, ◌∙◌, arith, []}
+use Rattle.std.proofs.Common.{◌≡◌, ℕ, List, ◌∷◌, ◌++◌, Bool, true, false, Option, None, Some, refl, sym, subst, arith, []}
 use Rattle.piper_machine.specs.Types.{Step, Event, Action, ReadPoint, Reader, Writer}
 use Rattle.piper_protocol.specs.Table.{read_action}
 use Rattle.piper_machine.specs.Pipe.{Pipe, fresh}
@@ -18,8 +18,6 @@ honest-append : (h : History) (es fs : List Event) → IsHonestFrom h es → IsH
 honest-append h [] fs first then = then
 honest-append h (e ∷ es) fs first then = (first.0, honest-append (history_after h e) es fs first.1 then)
 
--- the step of an action tells the history what it does to the flag, and returns to nobody
-
 -- what the reader loaded of the flag, between this load and its last look
 abbrev pub loaded : ReadPoint → Option Bool
 loaded (ReadPoint.LookTailAgain l was_closed) = Some was_closed
@@ -36,8 +34,6 @@ saw_close point = is_set (loaded point)
 -- what the reader returns where it is, after the events of its step
 abbrev noted : History → ReadPoint → Pipe → History
 noted h point p = history_from h (logged_of Reader (read_action point) p)
-
--- where the reader comes to, it has loaded the flag only by the step that loads it
 
 -- what the log says of the flag is so, and what the reader carries of it, too
 pub record Aware (p : Pipe) (h : History) : Type 0 where

@@ -18,8 +18,6 @@ knowledge-append c side k (e ∷ es) fs = knowledge-append c side (knowledge_aft
 pub answer-shows : (c : ℕ) (side actor : Side) (k : Knowledge) (answer : Option Answer) → knowledge_from c side k (answer_event actor answer) ≡ k
 answer-shows c side actor k answer = grind arith
 
--- a side's own step
-
 -- a query's load is not taken in, and a look's is
 abbrev pub Fits : Side → Action → Knowledge → Type 0
 Fits Reader Action.LoadTail k = (k.is_query ≡ true)
@@ -53,8 +51,6 @@ Stores side action p = ⊤
 
 pub learned-exactly : (side : Side) (action : Action) (p : Pipe) (k : Knowledge) → Stores side action p → k.known ≡ knows side p → (learned side action p k).known ≡ knows side (performed side action p)
 learned-exactly side action p k stores same = grind (arith, common_steps)
-
--- the other side's step
 
 -- what a step returns, if it does
 

@@ -1,5 +1,5 @@
 -- A call of the source: what it was lent is read back off the pipe that the step leaves.
-use Rattle.std.proofs.Common.{◌≡◌, ◌∷◌, length, Option, ◌==◌, ◌∙◌, arith}
+use Rattle.std.proofs.Common.{◌≡◌, length, Option, arith}
 use Rattle.piper_machine.specs.Types.{Action, Answer, Writer, Go, MOST_A_ROUND}
 use Rattle.piper_protocol.specs.Table.{write_action}
 use Rattle.piper_machine.specs.Pipe.{Pipe}

@@ -1,2 +1,1 @@
 -- What the last load of a query returns, of all queries at once.
-use Rattle.std.proofs.Common.{◌==◌}

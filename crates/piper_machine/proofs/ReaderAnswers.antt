@@ -1,17 +1,16 @@
 -- What the log says of the reader's open call at each point, and that its steps keep this and give
 -- right answers.
 use Rattle.std.proofs.lemmas.Grind.{common_steps}
-use Rattle.std.proofs.Common.{◌≡◌, ℕ, ◌+◌, ◌≤◌, List, ◌∷◌, ◌++◌, take, length, Bool, true, Some, ◌==◌, is_some, Result, Ok, Err, refl, sym, ap, subst, ◌∙◌, arith, length-take-le, IsSomeAnd, []}
-use Rattle.piper_machine.specs.Types.{Call, Event, Seen, Polled, Failed, Form, Purpose, AfterRead, ReadPoint, Destination, Reader, Looked, Try, Polling, Granted as granted, Slice, Acts}
+use Rattle.std.proofs.Common.{◌≡◌, ℕ, ◌+◌, ◌≤◌, List, ◌∷◌, ◌++◌, take, length, Bool, true, Some, ◌==◌, is_some, refl, sym, ap, subst, ◌∙◌, arith, length-take-le, IsSomeAnd, []}
+use Rattle.piper_machine.specs.Types.{Call, Event, Seen, Form, Purpose, AfterRead, ReadPoint, Destination, Reader, Looked, Try, Polling, Granted as granted, Slice, Acts}
 use Rattle.piper_machine.specs.Open.{is_granted, is_yield_granted}
-use Rattle.piper_protocol.specs.Table.{Next, copy_answer, count_answer, failed_answer, head_store, read_after, read_done, reader_found, reader_is_true, reader_looked, reader_looked_again, reader_looks_for, reader_moved, reader_registered, writer_taken, yield_answer}
+use Rattle.piper_protocol.specs.Table.{Next, head_store, read_after, reader_is_true, reader_looked_again, reader_looks_for, reader_registered, writer_taken, yield_answer}
 use Rattle.piper_machine.specs.Log.{answer_event}
 use Rattle.piper_machine.specs.Pipe.{Pipe}
-use Rattle.piper_machine.specs.Round.{taken, found_of, left_of_destination}
 use Rattle.piper_machine.specs.Action.{registration_of, yield_of}
 use Rattle.piper_machine.specs.Step.{went, destination_after}
 use Rattle.piper_machine.specs.Noted.{Noted, noted_from}
-use Rattle.piper_machine.specs.Outcome.{places_of, may_fail, IsAnswer, MayHaveMoved}
+use Rattle.piper_machine.specs.Outcome.{places_of, may_fail, MayHaveMoved}
 use Rattle.piper_machine.specs.Answered.{AreRightFrom}
 use Rattle.piper_machine.proofs.Showing.{noted-append, right-append, registers-leaves, yield-leaves, Polls}
 
@@ -82,32 +81,9 @@ steps capacity destination next t u es right noted leads =
 module _ (capacity : ℕ) where
   -- the answers of a drain
 
-  drain-counts : (form : Form) (c : Call) (destination : Destination) (sum : ℕ) (looks : List Seen) (moved : List ℕ) → IsDrain form c destination sum → length moved + 0 ≡ sum → IsAnswer capacity c looks moved (count_answer form sum)
-  drain-counts form c destination sum looks moved drains count = grind arith
-
-  drain-waits : (form : Form) (c : Call) (destination : Destination) (answer : Polled Bool) (looks : List Seen) (moved : List ℕ) → IsDrain form c destination 0 → length moved + 0 ≡ 0 → IsAnswer capacity c looks moved (copy_answer form answer)
-  drain-waits form c destination answer looks moved drains count = grind (arith, common_steps)
-
-  drain-moves : (form : Form) (c : Call) (destination : Destination) (sum : ℕ) (moved : List ℕ) → IsDrain form c destination sum → length moved ≡ sum → MayHaveMoved c moved
-  drain-moves form c destination sum moved drains count = grind arith
-
-  -- one call of the destination: it takes some bytes, or fails
-  abbrev Takes : Form → Call → Result ℕ Failed → Destination → ℕ → List Seen → List ℕ → Type 0
-  Takes form c (Ok n) left sum looks moved = IsDrain form c left (sum + n)
-  Takes form c (Err fails) left sum looks moved = IsAnswer capacity c looks moved failed_answer
-
-  takes : (form : Form) (c : Call) (most : ℕ) (destination : Destination) (sum : ℕ) (looks : List Seen) (moved : List ℕ) → IsDrain form c destination sum → Takes form c (taken most destination) (left_of_destination most destination) sum looks moved
-  takes form c most destination sum looks moved drains = grind arith
-
   -- where each step leads
 
   module _ (t : Noted) (destination : Destination) where
-    found-leads : (l : Purpose) → ReaderLooks l destination t → ReaderAt (reader_found l) destination t
-    found-leads l looks = grind arith
-
-    looks-leads : (none : Bool) (l : Purpose) → ReaderLooks l destination t → ReaderAt (reader_looked none l) destination t
-    looks-leads none l looks = grind arith
-
     pub opens-leads : (none : Bool) (l : Purpose) → ReaderLooks l destination t → ReaderAt (reader_looks_for none l) destination t
     opens-leads none l looks = grind arith
 
@@ -122,15 +98,6 @@ module _ (capacity : ℕ) where
 
     yields-leads : (is_granted : Bool) → Drains (Polling true) destination 0 0 t → AreRightFrom capacity Reader t (answer_event Reader (Some (yield_answer is_granted)))
     yields-leads is_granted looks = grind (arith, common_steps)
-
-    round-leads : (none : Bool) (n : ℕ) (form : Form) (sum : ℕ) (left : Destination) (held : Drains form destination 0 sum t) → IsDrain form held.drain left (sum + n) → Leads capacity left (reader_moved none n form sum) t
-    round-leads none n form sum left held on = grind arith
-
-    moved-leads : (result : Result ℕ Failed) (form : Form) (sum : ℕ) (left : Destination) (held : Drains form destination 0 sum t) → Takes form held.drain result left sum t.looks t.moved → Leads capacity left (read_after capacity (ReadPoint.CallDestination form sum) (found_of result)) t
-    moved-leads result form sum left held on = grind arith
-
-    done-leads : (next : AfterRead) → ReaderAfter next destination t → Leads capacity destination (read_done next) t
-    done-leads next after = grind arith
 
     take-leads : (next : AfterRead) (is_found : Bool) → ReaderAfter next destination t → Leads capacity destination (writer_taken next is_found) t
     take-leads next is_found after = grind arith

@@ -1,13 +1,11 @@
 -- Where a step of the reader leads: fewer steps remain, no more calls of the destination, and a
 -- poll is true only where a byte is known.
-use Rattle.std.proofs.Common.{◌≡◌, ℕ, ◌+◌, ◌-◌, ◌<◌, ◌≤◌, ◌∷◌, true, false, ◌==◌, arith}
+use Rattle.std.proofs.Common.{◌≡◌, ℕ, ◌+◌, ◌-◌, ◌<◌, ◌≤◌, true, false, arith}
 use Rattle.std.specs.Prelude.{⊤}
 use Rattle.piper_machine.specs.Types.{Purpose, AfterRead, ReadPoint, Reader}
-use Rattle.piper_protocol.specs.Table.{Next, read_action}
-use Rattle.piper_machine.specs.Alone.{read_steps}
+use Rattle.piper_protocol.specs.Table.{read_action}
 use Rattle.piper_machine.specs.Known.{Knowledge}
-use Rattle.piper_machine.specs.Called.{calls_of}
-use Rattle.piper_machine.proofs.Knowing.{Fits, IsReadyNext}
+use Rattle.piper_machine.proofs.Knowing.{Fits}
 
 -- the calls of the destination that remain at most
 abbrev look_calls : ℕ → Purpose → ℕ
@@ -51,14 +49,3 @@ ReaderSees point known k = ⊤
 
 pub reader-fits : (point : ReadPoint) (known : ℕ) (k : Knowledge) → ReaderSees point known k → Fits Reader (read_action point) k
 reader-fits point known k sees = grind arith
-
--- where a look finds so much
-pub record ReadNearer (f : ℕ) (point : ReadPoint) (found known : ℕ) (next : ReadPoint) (known_next : ℕ) : Type 0 where
-  pub from : read_least found point ≤ f
-  pub steps : read_steps f known_next next < read_steps f known point
-  pub calls : calls_of (read_action point) + read_calls f known_next next ≤ read_calls f known point
-
-pub record ReaderGoes (point : ReadPoint) (known : ℕ) (k : Knowledge) (next : Next ReadPoint) (known_next : ℕ) (k_next : Knowledge) : Type 0 where
-  pub sees : ReaderSees next.point known_next k_next
-  pub ready : known_next ≤ k_next.known → IsReadyNext Reader k_next next.answer
-  pub nearer : (f : ℕ) → read_least k_next.found next.point ≤ f → ReadNearer f point k.found known next.point known_next

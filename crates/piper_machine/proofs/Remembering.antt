@@ -1,6 +1,6 @@
 -- Each step keeps both sides remembered: its own side goes on from point to point, and the other is
 -- touched by it.
-use Rattle.std.proofs.Common.{◌≡◌, ℕ, List, ◌∷◌, ◌++◌, Option, None, ◌==◌, refl, sym, subst, arith, []}
+use Rattle.std.proofs.Common.{◌≡◌, ℕ, List, ◌++◌, Option, None, refl, sym, subst, arith, []}
 use Rattle.piper_machine.specs.Types.{Call, Step, Event, StepRefusal, Action, WritePoint, Reader, Writer, Begin, Go, Put}
 use Rattle.piper_protocol.specs.Table.{read_action, write_action}
 use Rattle.piper_machine.specs.Pipe.{Pipe, fresh}

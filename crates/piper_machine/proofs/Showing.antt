@@ -1,6 +1,6 @@
 -- How what the log says of a side's calls grows with the log: the events that leave it, and those
 -- of the other side.
-use Rattle.std.proofs.Common.{◌≡◌, ℕ, ◌+◌, arith, List, ◌∷◌, ◌++◌, Option, Some, refl, sym, ap, subst, ◌∙◌, []}
+use Rattle.std.proofs.Common.{◌≡◌, ℕ, arith, List, ◌∷◌, ◌++◌, Option, Some, refl, sym, ap, subst, ◌∙◌, []}
 use Rattle.piper_machine.specs.Types.{Side, Call, Answer, Event, Context, Action, Reader, Writer}
 use Rattle.piper_machine.specs.Log.{answer_event}
 use Rattle.piper_machine.specs.Pipe.{Pipe}

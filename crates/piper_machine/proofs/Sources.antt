@@ -1,6 +1,6 @@
 -- What is left of a source that has given some bytes more.
 use Rattle.std.proofs.lemmas.Grind.{common_steps}
-use Rattle.std.proofs.Common.{subst, ◌≡◌, ℕ, ◌+◌, ◌-◌, ◌<◌, ◌≤◌, List, ◌∷◌, length, take, drop, ◌++◌, min, refl, sym, ap, ◌∙◌, arith, length-drop, []}
+use Rattle.std.proofs.Common.{subst, ◌≡◌, ℕ, ◌+◌, ◌-◌, ◌<◌, ◌≤◌, List, ◌∷◌, length, take, drop, min, refl, sym, ap, ◌∙◌, arith, length-drop, []}
 use Rattle.std.proofs.lemmas.List.{drop-drop}
 use Rattle.piper_machine.specs.Types.{SourceAct, MOST_A_ROUND}
 use Rattle.piper_machine.specs.Source.{bytes_of, without}

@@ -1,6 +1,6 @@
 -- At each step the writer publishes only where its call has not found the
 -- pipe closed.
-use Rattle.std.proofs.Common.{◌≡◌, ℕ, ◌-◌, List, ◌∷◌, ◌++◌, Bool, true, false, ◌==◌, refl, sym, subst, ◌∙◌, arith, []}
+use Rattle.std.proofs.Common.{◌≡◌, ℕ, List, ◌∷◌, ◌++◌, Bool, true, false, refl, sym, subst, ◌∙◌, arith, []}
 use Rattle.std.specs.Bool.{⊤}
 use Rattle.piper_machine.specs.Types.{Step, Event, WritePoint, Writer, Published}
 use Rattle.piper_machine.specs.Pipe.{Pipe, fresh}
@@ -28,8 +28,6 @@ stops-append saw (e ∷ es) fs first then = (first.0, stops-append (saw_closed_a
 stopped-from : (saw : Bool) (before after : List Event) (bytes : List ℕ) → StopsFrom saw (before ++ Published bytes ∷ after) → saw_closed_from Writer saw before ≡ false
 stopped-from saw [] after bytes stops = stops.0
 stopped-from saw (e ∷ before) after bytes stops = stopped-from (saw_closed_after Writer saw e) before after bytes stops.1
-
--- what reports nothing of closed
 
 -- where the writer comes before a publication
 abbrev is_storing : WritePoint → Bool

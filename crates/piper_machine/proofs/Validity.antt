@@ -1,23 +1,19 @@
 -- What a side that runs alone depends on, and that its steps keep it.
 use Rattle.std.proofs.lemmas.Grind.{common_steps}
-use Rattle.std.proofs.Common.{◌≡◌, ℕ, ◌+◌, ◌-◌, ◌<◌, ◌≤◌, List, ◌∷◌, length, Bool, true, false, Option, None, Some, ◌==◌, arith}
-use Rattle.piper_machine.specs.Types.{AfterWrite, SideState, Answer, ReadPoint, WritePoint, Found, Busy, Unread as unread}
-use Rattle.piper_protocol.specs.Table.{Next, head_store, moved_in, read_after, tail_store}
+use Rattle.std.proofs.Common.{◌≡◌, ℕ, ◌+◌, ◌<◌, ◌≤◌, List, length, Bool, true, false, Option, None, Some, arith}
+use Rattle.piper_machine.specs.Types.{AfterWrite, SideState, Answer, ReadPoint, WritePoint, Busy}
+use Rattle.piper_protocol.specs.Table.{head_store}
 use Rattle.piper_machine.specs.Pipe.{Pipe}
 use Rattle.piper_machine.specs.Places.{peeked_count}
 use Rattle.piper_machine.specs.Refusal.{reader_state, writer_state, cannot_go}
 use Rattle.piper_machine.specs.Step.{MayOffer}
 use Rattle.piper_machine.proofs.Alone.{read_step}
-use Rattle.piper_machine.proofs.Copies.{WriterValid, saw_open, fill_step}
+use Rattle.piper_machine.proofs.Copies.{WriterValid, fill_step}
 
 -- a side that gave no answer goes on, and one that gave it rests
 abbrev pub IsSettled : Option Answer → SideState → Type 0
 IsSettled None state = state ≡ Busy
 IsSettled (Some answer) state = cannot_go state ≡ None → ⊥
-
-pub record IsNextRead (found : Found) (next : Next ReadPoint) : Type 0 where
-  pub settled : IsSettled next.answer (reader_state next.point)
-  pub store : head_store next.point ≤ moved_in found
 
 pub record ReaderValid (point : ReadPoint) (p : Pipe) : Type 0 where
   pub unread : length p.unread ≤ p.capacity
@@ -28,11 +24,6 @@ pub record ReaderValid (point : ReadPoint) (p : Pipe) : Type 0 where
 pub reader-settled : (point : ReadPoint) (p : Pipe) → reader_state point ≡ Busy → let s = read_step point p in IsSettled s.answer (reader_state s.pipe.reader)
 reader-settled point p busy = grind arith
 
--- a step that finds no bytes moved leaves no store next
-module _ (point : ReadPoint) (p : Pipe) (busy : reader_state point ≡ Busy) (valid : ReaderValid point p) where
-  abbrev next : Found → ReadPoint
-  next found = (read_after p.capacity point found).point
-
 pub reader-valid : (point : ReadPoint) (p : Pipe) → reader_state point ≡ Busy → ReaderValid point p → let s = read_step point p in ReaderValid s.pipe.reader s.pipe
 reader-valid point p busy valid = grind (arith, common_steps)
 
@@ -42,12 +33,6 @@ reader-valid point p busy valid = grind (arith, common_steps)
 abbrev pub closes_round : WritePoint → Bool
 closes_round (WritePoint.StoreClosed (AfterWrite.Round form sum)) = true
 closes_round point = false
-
-pub record IsNextWrite (point : WritePoint) (found : Found) (next : Next WritePoint) : Type 0 where
-  pub settled : IsSettled next.answer (writer_state next.point)
-  pub store : tail_store next.point ≤ tail_store point + moved_in found
-  pub unclosed : saw_open next.point ≡ true → saw_open point ≡ true
-  pub plain : closes_round next.point ≡ false
 
 pub writer-settled : (point : WritePoint) (lent : List ℕ) (p : Pipe) → writer_state point ≡ Busy → closes_round point ≡ false → let s = fill_step point lent p in IsSettled s.answer (writer_state s.pipe.writer)
 writer-settled point lent p busy plain = grind arith

@@ -1,5 +1,5 @@
 -- Both sides can't be blocked, since the capacity is not 0.
-use Rattle.std.proofs.Common.{◌⊎◌, List, ◌∙◌, arith}
+use Rattle.std.proofs.Common.{List, arith}
 use Rattle.piper_machine.specs.Types.{Event}
 use Rattle.piper_machine.specs.Awake.{IsAwake}
 use Rattle.piper_machine.specs.Pipe.{Pipe}

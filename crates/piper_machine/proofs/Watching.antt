@@ -61,8 +61,6 @@ pub data Touch (p q : Pipe) (slot slot_after : Option ℕ) (e e_after : Errand) 
   misses : slot ≡ None → e ≡ takes → w_after ≡ w → Touch p q slot slot_after e e_after w w_after
   calls : (name : Option ℕ) → Same p q → slot_after ≡ slot → e ≡ wakes name → w_after ≡ hears name w → Touch p q slot slot_after e e_after w w_after
 
--- the call of any waker
-
 -- inside a look
 
 -- the call of a look with a context began a wait of its own

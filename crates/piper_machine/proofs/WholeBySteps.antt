@@ -1,5 +1,5 @@
 -- Every call made by steps, none of which is the other side's, is the call run whole.
-use Rattle.std.proofs.Common.{◌≡◌, ℕ, ◌+◌, ◌*◌, ◌≤◌, List, ◌∷◌, ◌++◌, length, replicate, Bool, true, false, Option, None, if◌then◌else◌, ◌==◌, refl, sym, ap, ◌∙◌, subst, arith, append_assoc, []}
+use Rattle.std.proofs.Common.{◌≡◌, ℕ, ◌+◌, ◌≤◌, List, ◌∷◌, ◌++◌, length, replicate, Bool, true, false, Option, None, refl, sym, ap, ◌∙◌, subst, arith, append_assoc, []}
 use Rattle.std.proofs.lemmas.List.{length-replicate}
 use Rattle.piper_machine.specs.Types.{SourceAct, Side, Call, Answer, Event, StepRefusal, ReadPoint, WritePoint, Reader, Writer, Busy, Begin, Go, Lent, Began, Answered, Slice}
 use Rattle.piper_machine.specs.declared.refusals.StepRefusal.TheVariants.{BadDraw}

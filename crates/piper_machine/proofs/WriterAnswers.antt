@@ -4,9 +4,9 @@ use Rattle.std.proofs.lemmas.Grind.{common_steps}
 use Rattle.std.proofs.Common.{◌≡◌, ℕ, ◌+◌, ◌-◌, ◌≤◌, min, List, ◌∷◌, ◌++◌, take, drop, length, Bool, true, false, Option, None, Some, ◌==◌, is_some, refl, sym, ap, subst, ◌∙◌, arith, append_assoc, length-take-le, take-append-drop, take_all, IsSomeAnd, []}
 use Rattle.std.proofs.lemmas.List.{take-append-le}
 use Rattle.std.proofs.lemmas.Bool.Decides.{nat_tests}
-use Rattle.piper_machine.specs.Types.{Action, Call, Answer, Event, Seen, Polled, SourceAct, Form, Purpose, AfterWrite, WritePoint, Writer, Looked, Try, Polling, Nothing as nothing, Granted as granted}
+use Rattle.piper_machine.specs.Types.{Action, Call, Answer, Event, Seen, SourceAct, Form, Purpose, AfterWrite, WritePoint, Writer, Looked, Try, Polling, Nothing as nothing, Granted as granted}
 use Rattle.piper_machine.specs.Open.{is_granted, is_yield_granted}
-use Rattle.piper_protocol.specs.Table.{Next, copy_answer, count_answer, end_or_pending, failed_answer, look_answer, own_taken, query_answer, reader_taken, tail_store, write_after, write_done, writer_found, writer_is_open, writer_is_true, writer_looked, writer_looked_again, writer_moved, writer_registered, writer_rounds, yield_answer}
+use Rattle.piper_protocol.specs.Table.{Next, count_answer, end_or_pending, failed_answer, look_answer, own_taken, query_answer, reader_taken, tail_store, write_after, write_done, writer_is_open, writer_is_true, writer_looked, writer_looked_again, writer_moved, writer_registered, writer_rounds, yield_answer}
 use Rattle.piper_machine.specs.Log.{answer_event}
 use Rattle.piper_machine.specs.Pipe.{Pipe}
 use Rattle.piper_machine.specs.Round.{given, found_of, moved_by, unspent, left_of_source}
@@ -15,7 +15,7 @@ use Rattle.piper_machine.specs.Scripted.{bytes_given, ends_in_failure}
 use Rattle.piper_machine.specs.Action.{registration_of, wake_of, yield_of}
 use Rattle.piper_machine.specs.Step.{went, source_after, filled_out, lent_after, offering}
 use Rattle.piper_machine.specs.Noted.{Noted, noted_from}
-use Rattle.piper_machine.specs.Outcome.{first_look, number_found, IsAnswer, IsFilled, MayHaveMoved, found_closed}
+use Rattle.piper_machine.specs.Outcome.{first_look, number_found, IsAnswer, MayHaveMoved, found_closed}
 use Rattle.piper_machine.specs.Answered.{AreRightFrom}
 use Rattle.piper_machine.proofs.Acts.{bytes_given-cons, ends_in_failure-cons, given-unspent, failure-unspent}
 use Rattle.piper_machine.proofs.Showing.{noted-append, right-append, registers-leaves, wake-leaves, yield-leaves, answers, Polls}
@@ -99,11 +99,6 @@ steps capacity held lent_then next t u es right noted leads =
       subst (λ (v : Noted). WriterAt capacity next.point (source_after next.answer held) (lent_then next.answer) v) (sym after) leads.1,
     )
 
--- the count of a fill is all that its source gave, whether the last bytes are published or found
--- the pipe closed
-filled : (handed moved last left : List ℕ) (sum : ℕ) (looks : List Seen) → moved ++ (last ++ left) ≡ handed → length moved + length last ≡ sum → (found_closed looks ≡ false → length last ≡ 0) → (first_look looks ≡ Some (Seen.Closed true) → sum ≡ 0) → IsFilled handed looks moved sum
-filled handed moved last left sum looks bytes count open_none closed_none = grind (arith, common_steps)
-
 -- the first of some looks stays the first
 first-stays : (looks : List Seen) (look first : Seen) → first_look looks ≡ Some first → first_look (look ∷ looks) ≡ Some first
 first-stays looks look first is = grind arith
@@ -116,33 +111,18 @@ first-made : (looks : List Seen) (look : Seen) → first_look looks ≡ None →
 first-made [] look none = refl
 first-made (before ∷ looks) look none = absurd (some_first before looks none)
 
-closed-none : (looks : List Seen) (sum : ℕ) → first_look looks ≡ found_open → first_look looks ≡ Some (Seen.Closed true) → sum ≡ 0
-closed-none looks sum found closed = absurd (let clash = sym found ∙ closed in cc)
-
 module _ (capacity : ℕ) where
   -- the answers of a fill
 
   fill-counts : (form : Form) (c : Call) (moved last left : List ℕ) (fails : Bool) (sum : ℕ) (looks : List Seen) → IsFill form c (moved ++ (last ++ left)) fails → length moved + length last ≡ sum → (found_closed looks ≡ false → length last ≡ 0) → first_look looks ≡ found_open → IsAnswer capacity c looks moved (count_answer form sum)
   fill-counts form c moved last left fails sum looks fills count none found = grind (arith, common_steps)
 
-  fill-waits : (form : Form) (c : Call) (moved left : List ℕ) (fails : Bool) (answer : Polled Bool) (looks : List Seen) → IsFill form c (moved ++ left) fails → length moved + 0 ≡ 0 → IsAnswer capacity c looks moved (copy_answer form answer)
-  fill-waits form c moved left fails answer looks fills count = grind (arith, common_steps)
-
   fill-fails : (form : Form) (c : Call) (moved : List ℕ) (looks : List Seen) → IsFill form c (moved ++ []) true → IsAnswer capacity c looks moved failed_answer
   fill-fails form c moved looks fills = grind (arith, common_steps)
-
-  fill-moves : (form : Form) (c : Call) (moved left : List ℕ) (fails : Bool) → IsFill form c (moved ++ left) fails → MayHaveMoved c moved
-  fill-moves form c moved left fails fills = grind arith
 
   -- where each step leads
 
   module _ (t : Noted) (held : List SourceAct) (lent_then : Option Answer → List ℕ) where
-    waits : (first : Option Seen) (form : Form) (answer : Polled Bool) → Fills first form held [] 0 t → AreRightFrom capacity Writer t (answer_event Writer (Some (copy_answer form answer)))
-    waits first form answer looks = answers capacity t Writer looks.fill _ looks.is (fill-waits form looks.fill t.moved (bytes_given held) (ends_in_failure held) answer t.looks looks.fills looks.count)
-
-    found-leads : (l : Purpose) → WriterLooks found_open l held t → WriterAt capacity (writer_found l) held (lent_then None) t
-    found-leads l looks = grind arith
-
     open-leads : (is_closed none : Bool) (l : Purpose) → WriterLooks (Some (Seen.Closed is_closed)) l held t → Leads capacity held lent_then (writer_is_open is_closed none l) t
     open-leads is_closed none l looks = grind arith
 

@@ -1,6 +1,6 @@
 -- Where a step of the writer leads: fewer steps remain, no more calls of the source, and a poll is
 -- true only where room is known.
-use Rattle.std.proofs.Common.{◌≡◌, ℕ, ◌+◌, ◌-◌, ◌<◌, ◌≤◌, List, ◌∷◌, true, false, None, ◌==◌, arith}
+use Rattle.std.proofs.Common.{◌≡◌, ℕ, ◌+◌, ◌-◌, ◌<◌, ◌≤◌, List, true, false, None, arith}
 use Rattle.std.specs.Prelude.{⊤}
 use Rattle.piper_machine.specs.Types.{Purpose, AfterWrite, WritePoint, Writer}
 use Rattle.piper_protocol.specs.Table.{Next, write_action, write_after}

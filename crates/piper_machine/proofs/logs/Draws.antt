@@ -1,5 +1,5 @@
 -- The table goes on in the same way, whatever a copy that has still to draw will draw.
-use Rattle.std.proofs.Common.{◌≡◌, ℕ, ◌≤◌, Bool, Option, None, Some, arith, []}
+use Rattle.std.proofs.Common.{◌≡◌, ℕ, Bool, Option, None, Some, arith, []}
 use Rattle.piper_machine.specs.Types.{Action, Answer, Found, ReadPoint, Reader}
 use Rattle.piper_protocol.specs.Table.{Next, read_action, read_after}
 use Rattle.piper_machine.specs.Log.{answer_event}

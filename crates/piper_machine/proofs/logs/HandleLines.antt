@@ -8,7 +8,7 @@ use Rattle.piper_protocol.specs.OneList as shared
 use Rattle.piper_protocol.specs.Told.{have_met, moved_in}
 use Rattle.piper_machine.specs.logs.Line.{Line}
 use Rattle.piper_machine.specs.logs.Listed.{line_of, lines_of}
-use Rattle.piper_machine.specs.logs.Moved.{consumed, consumed_by, published, published_by}
+use Rattle.piper_machine.specs.logs.Moved.{consumed, published}
 use Rattle.piper_machine.specs.logs.OfHandles.{given_by, line_noted, lines_with, with_line}
 use Rattle.piper_machine.specs.logs.OneList.{accesses, is_access, kept_if}
 use Rattle.piper_machine.specs.logs.Reading.{AreReaderRuns}
@@ -16,12 +16,6 @@ use Rattle.piper_machine.specs.logs.Writing.{AreWriterRuns}
 
 is-one : (a : shared.Access) (rest : List Line) → kept_if (is_access (line_of a)) (line_of a) rest ≡ line_of a ∷ rest
 is-one a rest = grind arith
-
--- a step that is no access
-record IsBeside (line : Line) : Type 0 where
-  accesses_none : is_access line ≡ false
-  consumes_none : consumed_by line ≡ []
-  publishes_none : published_by line ≡ []
 
 -- a note adds nothing that is shared
 record AddsNone (added : Option Line) : Type 0 where

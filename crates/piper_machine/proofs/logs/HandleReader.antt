@@ -1,5 +1,5 @@
 -- Where a reader is inside its call, by the log of its handle, and where a step leads.
-use Rattle.std.proofs.Common.{◌≡◌, ℕ, ◌-◌, ◌≤◌, min, List, Bool, true, false, Option, None, Some, is_some, sym, subst, ◌∙◌, arith}
+use Rattle.std.proofs.Common.{◌≡◌, ℕ, ◌-◌, ◌≤◌, min, List, Bool, true, false, Option, None, Some, is_some, sym, subst, arith}
 use Rattle.std.specs.Bool.{⊤}
 use Rattle.piper_machine.specs.Types.{Action, AfterRead, Answer, Found, Purpose, ReadPoint, Reader}
 use Rattle.piper_protocol.specs.declared.table.Form.{Form}

@@ -1,5 +1,5 @@
 -- Where an access of the reader leads, which says what it found.
-use Rattle.std.proofs.Common.{◌≡◌, ℕ, ◌+◌, ◌-◌, ◌%◌, ◌≤◌, ◌==◌, min, List, ◌∷◌, length, Bool, true, false, None, refl, sym, ap, ◌∙◌, arith, length-append}
+use Rattle.std.proofs.Common.{◌≡◌, ℕ, ◌+◌, ◌-◌, ◌%◌, ◌≤◌, min, List, ◌∷◌, length, Bool, true, false, None, refl, sym, ap, ◌∙◌, arith, length-append}
 use Rattle.piper_machine.specs.Types.{Action, AfterRead, Found, Purpose, ReadPoint, Reader}
 use Rattle.piper_protocol.specs.declared.log.Note.{Note}
 use Rattle.piper_protocol.specs.declared.table.Point.{Point}
@@ -8,7 +8,7 @@ use Rattle.piper_protocol.specs.Lines as handle
 use Rattle.piper_protocol.specs.OneList as shared
 use Rattle.piper_protocol.specs.Table.{read_action}
 use Rattle.piper_protocol.specs.Told.{fits, moved_in, piece_in, seen_in, tickets_in, waits_in}
-use Rattle.piper_machine.specs.logs.Line.{stored_head, loaded_slot, swapped}
+use Rattle.piper_machine.specs.logs.Line.{stored_head}
 use Rattle.piper_machine.specs.logs.Listed.{line_of}
 use Rattle.piper_machine.specs.logs.OfHandles.{given_by}
 use Rattle.piper_machine.specs.logs.Reading.{ReaderAt}

@@ -1,7 +1,7 @@
 -- The log of a reader's handle is a list of runs of the call table.
 use Rattle.std.proofs.Common.{◌≡◌, ℕ, suc, ◌-◌, ◌≤◌, ◌==◌, min, List, ◌∷◌, length, Bool, true, false, not, Option, None, refl, sym, ap, subst, ◌∙◌, arith, []}
 use Rattle.std.proofs.Math.Nat.{zero-mod}
-use Rattle.piper_machine.specs.Types.{AfterRead, Found, Polling, ReadPoint, Try, Reader, Writer, MOST_A_ROUND}
+use Rattle.piper_machine.specs.Types.{AfterRead, Found, Polling, ReadPoint, Try, Reader, MOST_A_ROUND}
 use Rattle.piper_protocol.specs.declared.log.Note.{Note}
 use Rattle.piper_protocol.specs.declared.table.Point.{Point}
 use Rattle.piper_protocol.specs.declared.table.Purpose.TheVariants.{Poll, Copy}

@@ -1,5 +1,5 @@
 -- Where a writer is inside its call, by the log of its handle, and where a step leads.
-use Rattle.std.proofs.Common.{◌≡◌, ℕ, ◌-◌, ◌≤◌, min, List, Bool, true, false, Option, Some, is_some, sym, subst, ◌∙◌, arith, nat_le, if◌then◌else◌}
+use Rattle.std.proofs.Common.{◌≡◌, ℕ, ◌-◌, ◌≤◌, min, List, Bool, true, false, Option, Some, is_some, sym, subst, arith, nat_le, if◌then◌else◌}
 use Rattle.std.specs.Bool.{⊤}
 use Rattle.piper_machine.specs.Types.{Action, AfterWrite, Answer, Found, Purpose, WritePoint, Writer}
 use Rattle.piper_protocol.specs.declared.table.Form.{Form}

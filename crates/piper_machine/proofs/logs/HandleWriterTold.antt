@@ -1,5 +1,5 @@
 -- Where an access of the writer leads, which says what it found.
-use Rattle.std.proofs.Common.{◌≡◌, ℕ, ◌+◌, ◌-◌, ◌%◌, ◌≤◌, ◌==◌, List, ◌∷◌, length, true, false, None, Some, refl, sym, ap, subst, ◌∙◌, arith, length-append}
+use Rattle.std.proofs.Common.{◌≡◌, ℕ, ◌+◌, ◌-◌, ◌%◌, ◌≤◌, List, ◌∷◌, length, true, false, None, Some, refl, sym, ap, subst, ◌∙◌, arith, length-append}
 use Rattle.piper_machine.specs.Types.{Action, AfterWrite, Found, Purpose, WritePoint, Reader, Writer}
 use Rattle.piper_protocol.specs.declared.log.Note.{Note}
 use Rattle.piper_protocol.specs.declared.table.Form.{Form}
@@ -9,7 +9,7 @@ use Rattle.piper_protocol.specs.Lines as handle
 use Rattle.piper_protocol.specs.OneList as shared
 use Rattle.piper_protocol.specs.Table.{write_action}
 use Rattle.piper_protocol.specs.Told.{fits, moved_in, piece_in, seen_in, shut_in, tickets_in, waits_in}
-use Rattle.piper_machine.specs.logs.Line.{stored_tail, loaded_slot, swapped}
+use Rattle.piper_machine.specs.logs.Line.{stored_tail}
 use Rattle.piper_machine.specs.logs.Listed.{line_of}
 use Rattle.piper_machine.specs.logs.OfHandles.{given_by}
 use Rattle.piper_machine.specs.logs.Writing.{WriterAt, contiguous}

@@ -2,7 +2,7 @@
 use Rattle.std.proofs.lemmas.Grind.{common_steps}
 use Rattle.std.proofs.Common.{◌≡◌, ◌⊎◌, inl, inr, ℕ, suc, ◌≤◌, ◌==◌, min, List, ◌∷◌, length, Bool, true, false, not, refl, sym, ap, subst, ◌∙◌, arith, []}
 use Rattle.std.proofs.Math.Nat.{zero-mod}
-use Rattle.piper_machine.specs.Types.{Action, AfterWrite, Found, Polling, ReadPoint, WritePoint, Reader, Writer, MOST_A_ROUND}
+use Rattle.piper_machine.specs.Types.{Action, AfterWrite, Found, Polling, ReadPoint, WritePoint, Writer, MOST_A_ROUND}
 use Rattle.piper_protocol.specs.declared.log.Note.{Note}
 use Rattle.piper_protocol.specs.declared.table.Point.{Point}
 use Rattle.piper_protocol.specs.declared.table.Purpose.TheVariants.{Copy}
@@ -10,7 +10,7 @@ use Rattle.piper_protocol.specs.Lines as handle
 use Rattle.piper_protocol.specs.OneList as shared
 use Rattle.piper_protocol.specs.Table.{Next, write_action, writer_moved}
 use Rattle.piper_protocol.specs.Told.{IsTrueLog, alike, begins as call_begins, fits, is_made, known_in, may_draw, moved_in, passes, piece_in, rests, seen_in, shut_in, tickets_in, waits_in, writer_begins}
-use Rattle.piper_machine.specs.logs.Line.{Line, began, loaded_closed, met_head, knew_empty, gave, drew}
+use Rattle.piper_machine.specs.logs.Line.{Line, began, met_head, knew_empty, gave, drew}
 use Rattle.piper_machine.specs.logs.Listed.{line_of}
 use Rattle.piper_machine.specs.logs.OfHandles.{given_by, line_made, lines_in, of_length, opening_at, writer_opening}
 use Rattle.piper_machine.specs.logs.Writing.{AreWriterRuns, IsWriterNext, MayGive, Source, WriterAt, contiguous, fresh_writer, most_lent, own, source_after, unless, writer_after, writer_begun}

@@ -1,5 +1,5 @@
 -- Each call of the reader begins in the machine.
-use Rattle.std.proofs.Common.{◌≡◌, ℕ, ◌-◌, List, ◌∷◌, ◌++◌, length, Bool, true, None, Some, ◌==◌, refl, ap, ◌∙◌, arith, []}
+use Rattle.std.proofs.Common.{◌≡◌, ℕ, ◌-◌, List, ◌∷◌, ◌++◌, length, Bool, true, None, Some, ◌==◌, refl, ap, arith, []}
 use Rattle.piper_machine.specs.Types.{Kind, ReadPoint, Call, Event, Luck, DestAct, SourceAct, Reader, Begin, Slice, Acts, Began}
 use Rattle.piper_machine.specs.Pipe.{Pipe}
 use Rattle.piper_machine.specs.Refusal.{reader_state, refusal_of, cannot_begin, or_else, past, unless}

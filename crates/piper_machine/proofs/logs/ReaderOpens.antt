@@ -1,5 +1,5 @@
 -- What a destination takes, and how a call of the reader begins.
-use Rattle.std.proofs.Common.{◌≡◌, ℕ, ◌-◌, ◌≤◌, ◌<◌, List, ◌∷◌, Bool, true, false, Option, None, ◌==◌, nat_le, nat_lt, arith}
+use Rattle.std.proofs.Common.{◌≡◌, ℕ, ◌≤◌, ◌<◌, List, ◌∷◌, Bool, true, false, Option, None, ◌==◌, nat_le, nat_lt, arith}
 use Rattle.std.proofs.lemmas.Bool.Decides.{nat_tests}
 use Rattle.piper_machine.specs.Types.{AfterRead, Found, ReadPoint, WritePoint, StepRefusal, DestAct, Try, Polling}
 use Rattle.piper_protocol.specs.declared.table.Purpose.TheVariants.{Poll, Copy}

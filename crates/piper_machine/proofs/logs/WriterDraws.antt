@@ -1,5 +1,5 @@
 -- The writer's table goes on in the same way, whatever a copy that has still to draw will draw.
-use Rattle.std.proofs.Common.{◌≡◌, ℕ, ◌+◌, ◌≤◌, List, Bool, Option, None, Some, arith, []}
+use Rattle.std.proofs.Common.{◌≡◌, ℕ, List, Bool, Option, None, Some, arith, []}
 use Rattle.piper_machine.specs.Types.{Action, Answer, Found, WritePoint, Writer}
 use Rattle.piper_protocol.specs.Table.{Next, ends_fill, write_action, write_after, tail_store}
 use Rattle.piper_machine.specs.Log.{answer_event}

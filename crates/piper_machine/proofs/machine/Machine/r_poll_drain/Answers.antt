@@ -1,4 +1,4 @@
-use Rattle.std.proofs.Common.{◌∙◌, arith}
+use Rattle.std.proofs.Common.{arith}
 use Rattle.piper_machine.specs.Types.{Call}
 use Rattle.piper_machine.proofs.machine.Machine.r_poll_drain.Goals as goal
 
