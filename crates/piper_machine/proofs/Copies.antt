@@ -19,9 +19,6 @@ use Rattle.piper_machine.proofs.Acts.{give-part, give-ends, give-fails, give-non
 
 -- the look of a drain
 
-count-answer : (form : Form) (sum : ℕ) → moved_answer form (Ready (Ok sum)) ≡ count_answer form sum
-count-answer form sum = grind arith
-
 -- one call of the destination
 module _ (form : Form) (sum : ℕ) (p : Pipe) (start : p.start < p.capacity) (known : p.known ≤ p.capacity) where
   abbrev left : Pipe
@@ -34,7 +31,7 @@ module _ (form : Form) (sum : ℕ) (p : Pipe) (start : p.start < p.capacity) (kn
   counted count q = record { answer = moved_answer form (Ready (Ok count)); pipe = q }
 
   ended : counted sum left ≡ reader_ended ReadPoint.Idle (count_answer form sum) p
-  ended = ap (λ answer. record { answer = answer; pipe = left }) (count-answer form sum)
+  ended = grind arith
 
   slice : (size : ℕ) (none : Bool) → (min size (round_count p) == 0) ≡ none → let n = min size (round_count p) in
       counted (sum + min size p.known) (drained (min size p.known) left) ≡ reader_rest_at (reader_moved none n form sum) (record p { destination = Slice (size - n) })
@@ -66,7 +63,7 @@ module _ (form : Form) (sum : ℕ) (p : Pipe) (unclosed : p.is_closed ≡ false)
   spent = record p { writer = WritePoint.Idle; lent = [] }
 
   writer_counted : writer_moving (answered (Ready (Ok sum)) spent) ≡ writer_filled (count_answer form sum) p
-  writer_counted = ap (λ answer. writer_filled answer p) (count-answer form sum)
+  writer_counted = grind arith
 
   gives : (byte : ℕ) (bytes : List ℕ) (acts : List SourceAct) (lent : List ℕ) (none : Bool) → let xs = byte ∷ bytes in let n = min (length lent) (length xs) in
       (n == 0) ≡ none → length lent ≤ p.room → (length lent ≡ 0 → p.room ≡ 0) →

@@ -9,7 +9,6 @@ pub mod Runs
 pub mod Sources
 pub mod Offering
 pub mod Opened
-pub mod Queries
 pub mod Knowing
 pub mod ReaderCounts
 pub mod WriterCounts
@@ -27,7 +26,6 @@ pub mod Falling
 pub mod BySteps
 pub mod Going
 pub mod Whole
-pub mod Resting
 pub mod WholeBySteps
 pub mod logs
 mod worked

@@ -22,9 +22,5 @@ pub record WriterMakes (point : WritePoint) (p : Pipe) : Type 0 where
   pub publishes_none : publishes point ≡ false
   pub within : moved_in (found_by Writer (write_action point) p) ≤ length (performed Writer (write_action point) p).lent
 
-writer_makes : (point : WritePoint) (p : Pipe) → (write_action point ≡ Action.LoadIndex → ⊥) → ((n : ℕ) → write_action point ≡ Action.StoreTail n → ⊥) → (write_action point ≡ Action.StoreClosed true → ⊥) → (write_action point ≡ Action.CallSource → ⊥)
-    → WriterMakes point (record p { writer = point })
-writer_makes point p no_load_of_the_index no_store no_shut no_source = grind arith
-
 pub writer-makes : (p : Pipe) → (write_action p.writer ≡ Action.LoadIndex → ⊥) → ((n : ℕ) → write_action p.writer ≡ Action.StoreTail n → ⊥) → (write_action p.writer ≡ Action.StoreClosed true → ⊥) → (write_action p.writer ≡ Action.CallSource → ⊥) → WriterMakes p.writer p
-writer-makes p = writer_makes p.writer p
+writer-makes p = grind arith

@@ -80,16 +80,13 @@ step-keeps lent (Put offset byte) p reads writes sound accepted kept = grind ari
 
 -- what that says of a side outside any call
 
-all_remembered : (p : Pipe) (events : List Event) → Keeps p (wait_of Reader events) (wait_of Writer events) → AreRemembered p events
-all_remembered p events kept h3 idle pending = grind arith
-
 -- what every list of steps keeps
 pub record Remembers (p : Pipe) (events : List Event) : Type 0 where
   pub keeps : Keeps p (wait_of Reader events) (wait_of Writer events)
   pub remembered : AreRemembered p events
 
 remembers : (p : Pipe) (events : List Event) → Keeps p (wait_of Reader events) (wait_of Writer events) → Remembers p events
-remembers p events keeps = record { keeps = keeps; remembered = all_remembered p events keeps }
+remembers p events keeps = grind arith
 
 pub remembers_none : (capacity : ℕ) → Remembers (fresh capacity) []
 remembers_none capacity = remembers (fresh capacity) [] (record { reader = record { waiting = λ pending. absurd (cc); look = tt }; writer = record { waiting = λ pending. absurd (cc); look = tt } })

@@ -1,12 +1,11 @@
 -- What is left of a source that has given some bytes more.
 use Rattle.std.proofs.lemmas.Grind.{common_steps}
-use Rattle.std.proofs.Common.{subst, ◌≡◌, ℕ, ◌+◌, ◌-◌, ◌<◌, ◌≤◌, List, ◌∷◌, length, take, drop, min, refl, sym, ap, ◌∙◌, arith, length-drop, []}
+use Rattle.std.proofs.Common.{◌≡◌, ℕ, ◌+◌, ◌-◌, ◌<◌, ◌≤◌, List, ◌∷◌, length, take, drop, min, sym, ap, ◌∙◌, arith, length-drop, []}
 use Rattle.std.proofs.lemmas.List.{drop-drop}
-use Rattle.piper_machine.specs.Types.{SourceAct, MOST_A_ROUND}
+use Rattle.piper_machine.specs.Types.{SourceAct}
 use Rattle.piper_machine.specs.Source.{bytes_of, without}
 use Rattle.piper_machine.specs.Pipe.{Pipe}
-use Rattle.piper_machine.specs.Lend.{Lendable, lending}
-use Rattle.piper_machine.specs.Places.{places_left}
+use Rattle.piper_machine.specs.Lend.{lending}
 use Rattle.piper_machine.specs.Action.{source_called}
 use Rattle.piper_machine.specs.Round.{given, moved_by, unspent, left_of_source}
 
@@ -29,13 +28,3 @@ moved-given most acts = grind arith
 pub source-called : (p q : Pipe) (n : ℕ) (held rest : List SourceAct) → q ≡ lending q.lent (record p { source = held }) → n ≡ min (length q.lent) (length (bytes_of p.source))
     → take n q.lent ≡ take n (bytes_of p.source) → rest ≡ left_of_source n p.source → record q { source = rest } ≡ source_called (lending q.lent p)
 source-called p q n held rest is count front left = grind (arith, common_steps)
-
--- a source that was called was lent places within the bounds
-lendable-after : (most : ℕ) (p q : Pipe) (n : ℕ) → q.room ≡ p.room → q.is_shut ≡ p.is_shut → places_left q ≡ places_left p → Lendable most p n → Lendable most q n
-lendable-after most p q n room shut left lendable = grind arith
-
-pub lent-anew : (p w : Pipe) → Lendable MOST_A_ROUND p (length w.lent) → w ≡ lending w.lent p → Lendable MOST_A_ROUND w (length w.lent)
-lent-anew p w lendable is = subst (λ (x : Pipe). Lendable MOST_A_ROUND x (length w.lent)) (sym is) (lendable-after MOST_A_ROUND p (lending w.lent p) (length w.lent) refl refl refl lendable)
-
-pub lent-called : (p w : Pipe) → Lendable MOST_A_ROUND p (length w.lent) → w ≡ source_called (lending w.lent p) → Lendable MOST_A_ROUND w (length w.lent)
-lent-called p w lendable is = subst (λ (x : Pipe). Lendable MOST_A_ROUND x (length w.lent)) (sym is) (lendable-after MOST_A_ROUND p (source_called (lending w.lent p)) (length w.lent) refl refl refl lendable)

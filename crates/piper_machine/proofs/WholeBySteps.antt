@@ -1,20 +1,19 @@
 -- Every call made by steps, none of which is the other side's, is the call run whole.
 use Rattle.std.proofs.Common.{◌≡◌, ℕ, ◌+◌, ◌≤◌, List, ◌∷◌, ◌++◌, length, replicate, Bool, true, false, Option, None, refl, sym, ap, ◌∙◌, subst, arith, append_assoc, []}
 use Rattle.std.proofs.lemmas.List.{length-replicate}
-use Rattle.piper_machine.specs.Types.{SourceAct, Side, Call, Answer, Event, StepRefusal, ReadPoint, WritePoint, Reader, Writer, Busy, Begin, Go, Lent, Began, Answered, Slice}
-use Rattle.piper_machine.specs.declared.refusals.StepRefusal.TheVariants.{BadDraw}
+use Rattle.piper_machine.specs.Types.{SourceAct, Side, Call, Answer, Event, ReadPoint, WritePoint, Reader, Writer, Busy, Begin, Go, Lent, Began, Answered, Slice}
 use Rattle.piper_machine.specs.Counts.{most_steps}
 use Rattle.piper_machine.specs.Open.{no_call}
 use Rattle.piper_machine.specs.declared.machine.Machine.TheInside.{Inside}
 use Rattle.piper_machine.specs.Machine.{pipe_of, IsMachine}
 use Rattle.piper_machine.proofs.Soundness.{sound}
-use Rattle.piper_machine.specs.Call.{side_of, kind_of, waker_of, has_good_draw}
+use Rattle.piper_machine.specs.Call.{side_of, kind_of, waker_of}
 use Rattle.piper_machine.specs.Log.{answer_event}
 use Rattle.piper_machine.specs.Pipe.{Pipe, begun}
 use Rattle.piper_machine.specs.Sound.{IsSound}
 use Rattle.piper_machine.specs.Look.{context}
 use Rattle.piper_machine.specs.Lend.{Lendable, lending}
-use Rattle.piper_machine.specs.Refusal.{IsIdle, writer_state, state_of, cannot_begin, cannot_go, unless, or_else, past, refusal_of}
+use Rattle.piper_machine.specs.Refusal.{IsIdle, writer_state, state_of, cannot_begin, cannot_go, past, refusal_of}
 use Rattle.piper_machine.specs.Step.{began, opened, answer_at_once}
 use Rattle.piper_machine.specs.Run.{Made, Runs}
 use Rattle.piper_machine.specs.Alone.{Ended, resting, alone_of, is_copying, wakes_of}
@@ -69,18 +68,12 @@ opens (Call.PollFillBytes waker luck bytes) lent others r stepped sound fits = r
 opens (Call.PollFill waker luck acts) lent others r stepped sound fits = grind arith
 opens c lent others r stepped sound fits = record { commutes = refl; at_once = refl; busy = refl; valid = (record { unread = sound.unread; start = sound.start; room = sound.room; store = omega arith; shut = sound.closed; unclosed = λ saw. absurd (cc) }, refl); rest = refl; unwoken = refl; few = omega arith }
 
-or_else-second : (first second : Option StepRefusal) → or_else first second ≡ None → second ≡ None
-or_else-second first second none = grind arith
-
-or_else-first : (first second : Option StepRefusal) → or_else first second ≡ None → first ≡ None
-or_else-first first second none = grind arith
-
 -- of a call that is opened: its side is idle, and it asks for no more than there is
 begins-idle : (c : Call) (p : Pipe) → refusal_of (Begin c) p ≡ None → cannot_begin (state_of (side_of c) p) ≡ None
-begins-idle c p none = or_else-first (cannot_begin (state_of (side_of c) p)) (or_else (unless (has_good_draw c) BadDraw) (past c p)) none
+begins-idle c p none = grind arith
 
 begins-within : (c : Call) (p : Pipe) → refusal_of (Begin c) p ≡ None → past c p ≡ None
-begins-within c p none = or_else-second (unless (has_good_draw c) BadDraw) (past c p) (or_else-second (cannot_begin (state_of (side_of c) p)) (or_else (unless (has_good_draw c) BadDraw) (past c p)) none)
+begins-within c p none = grind arith
 
 is-opened : (c : Call) (lent others : List ℕ) (p : Pipe) → is_lending c ≡ false → IsSound p → HoldsNothing (side_of c) p → refusal_of (Begin c) p ≡ None → IsOpened c lent others p
 is-opened c lent others p stepped sound holds accepted =

@@ -1,15 +1,13 @@
 -- What follows for two logs from the laws of the machine.
-use Rattle.std.proofs.Common.{◌≡◌, inl, inr, ℕ, List, ◌∷◌, ◌++◌, true, false, refl, sym, ap, subst, Option, ◌∙◌, arith, append_assoc, append-nil, []}
+use Rattle.std.proofs.Common.{◌≡◌, inl, inr, ℕ, List, ◌∷◌, ◌++◌, false, refl, sym, ap, subst, Option, ◌∙◌, arith, append_assoc, append-nil, []}
 use Rattle.std.proofs.lemmas.Grind.{flat_map-append}
-use Rattle.piper_machine.specs.Types.{Side, Event, Answer, Reader, Writer, Answered, Ready}
+use Rattle.piper_machine.specs.Types.{Event, Answer, Reader, Writer, Answered, Ready}
 use Rattle.piper_machine.specs.Conservation.{consumed_in, consumed_of, published_in, published_of}
 use Rattle.piper_machine.specs.Final.{IsOver}
 use Rattle.piper_machine.specs.Log.{answer_event}
 use Rattle.piper_protocol.specs.declared.answer.Answer.TheVariants.{Poll}
-use Rattle.piper_machine.specs.Refusal.{IsIdle}
-use Rattle.piper_machine.specs.Waiting.{is_between}
 use Rattle.piper_machine.specs.logs.Reports.{events_of, reader_event, reader_reports, writer_reports}
-use Rattle.piper_machine.specs.logs.Follows.{AreInTurn, IsHonestEnd, IsNobodyForgotten, IsOneAwake, HasAnswered}
+use Rattle.piper_machine.specs.logs.Follows.{AreInTurn, IsHonestEnd, HasAnswered}
 use Rattle.piper_machine.specs.logs.Moved.{consumed, consumed_by, published, published_by}
 use Rattle.piper_machine.specs.logs.Line.{Line}
 use Rattle.piper_machine.specs.logs.OneList.{By, by, did}
@@ -97,20 +95,3 @@ module _ (capacity : ℕ) (reader writer : List Line) (run : IsOneWideRun capaci
       let there = has-answer capacity (Poll (Ready false)) run.turns (subst (HasAnswered capacity (Poll (Ready false))) (sym run.reader_did) answered) in
       let over : IsOver run.pipe there.1 = run.safe.finality.noted there.0 there.1 there.2 in
       sym (append-nil (consumed reader)) ∙ ap (λ (x : List ℕ). consumed reader ++ x) (sym over.1) ∙ all-bytes
-
-  pub nobody-forgotten : IsNobodyForgotten run
-  nobody-forgotten side outside pending = elim (run.safe.remembered side (idle side) pending) [
-    | inl called ↦ inl called
-    | inr (inl waits) ↦ inr waits
-    | inr (inr about) ↦ absurd (never side about.0)
-  ]
-    where
-      idle : (side : Side) → IsIdle side run.pipe
-      idle Reader = outside.0
-      idle Writer = outside.1
-
-      never : (side : Side) → is_between side run.pipe ≡ true → ⊥
-      never side e = grind arith
-
-  pub one-awake : IsOneAwake run
-  one-awake outside reads writes = run.safe.awake outside.0 outside.1 reads writes

@@ -4,7 +4,7 @@ use Rattle.std.proofs.Common.{◌≡◌, ℕ, suc, ◌+◌, ◌-◌, ◌%◌, �
 use Rattle.std.specs.Bool.{⊤}
 use Rattle.std.proofs.lemmas.Bool.Decides.{nat_tests}
 use Rattle.std.proofs.Math.Nat.{mod-add-mod, mod-eq_of_lt, mod-lt, mod_self}
-use Rattle.piper_machine.specs.Types.{Action, Found, Polling, Purpose, Side, Try}
+use Rattle.piper_machine.specs.Types.{Action, Found, Purpose, Side, Try}
 use Rattle.piper_protocol.specs.declared.table.Purpose.TheVariants.{Poll, Copy}
 use Rattle.piper_protocol.specs.Index.{offset_of}
 use Rattle.piper_protocol.specs.Lines as handle
@@ -83,9 +83,6 @@ goes next acts = grind arith
 pub rests-alive : (next : Next Point) → rests next ≡ true → is_dead next ≡ false
 rests-alive next e = grind arith
 
-pub rests-idle : (next : Next Point) → rests next ≡ true → is_idle next.point ≡ true
-rests-idle next e = second-of (is_some next.answer) (is_idle next.point) e
-
 pub goes-settled : (lines : List handle.Line) → (handle.action (handle.comes_to lines).point ≡ Action.Rest → ⊥) → is_settled lines ≡ true
 goes-settled lines acts = grind arith
 
@@ -94,12 +91,9 @@ rests-settled lines e = grind arith
 
 -- what is noted of a step is noted where a call is open
 
-rest-fits-none : (capacity : ℕ) (own : Side) (before : List handle.Line) (a : shared.Access) (f : Found) → fits capacity own before Action.Rest a f ≡ true → ⊥
-rest-fits-none capacity own before a f fit = grind arith
-
 module _ (capacity : ℕ) (own : Side) (before : List handle.Line) (action : Action) where
   pub fits-acts : (a : shared.Access) (f : Found) → fits capacity own before action a f ≡ true → action ≡ Action.Rest → ⊥
-  fits-acts a f fit resting = rest-fits-none capacity own before a f (subst (λ (x : Action). fits capacity own before x a f ≡ true) resting fit)
+  fits-acts a f fit resting = grind arith
 
   pub pass-acts : (a : shared.Access) → passes own before action a ≡ true → action ≡ Action.Rest → ⊥
   pass-acts a fit resting = let no : false ≡ true = subst (λ (x : Action). passes own before x a ≡ true) resting fit in cc
@@ -164,11 +158,3 @@ Calls (wakes b) k c Own = (c.taken ≡ Some k.taken) × When b Own
 Calls stays k c Own = ⊤
 
 -- where a look leads that finds something, or nothing, and what follows a true one
-
-abbrev pub is_true : Purpose → Stage
-is_true Poll = stays
-is_true (Copy (Polling true)) = yields
-is_true (Copy form) = moves true
-
-pub goes-true : (l : Purpose) (k : Known) (c : Calling) (Own : Type 0) → (c.handed ≡ Some k.waker) × OfCopy l Own → Calls (is_true l) k c Own
-goes-true l k c Own h = grind arith

@@ -6,13 +6,13 @@ use Rattle.piper_protocol.specs.declared.table.Form.{Form}
 use Rattle.piper_protocol.specs.declared.table.Point.{Point}
 use Rattle.piper_protocol.specs.Lines as handle
 use Rattle.piper_protocol.specs.Table.{Next, goes_on, read_action, read_after, read_row, reader_is_true, reader_moved}
-use Rattle.piper_protocol.specs.Told.{has_drawn, is_idle, may_empty, rests}
+use Rattle.piper_protocol.specs.Told.{has_drawn, may_empty, rests}
 use Rattle.piper_machine.specs.logs.Calling.{Calling, calling_after, may_wait_after}
 use Rattle.piper_machine.specs.logs.Line.{Line}
 use Rattle.piper_machine.specs.logs.OfHandles.{of_length}
 use Rattle.piper_machine.specs.logs.Reading.{HasDrawn, IsReaderNext, ReaderAt, reader_after, reader_answered, reader_changed, reader_stepped, reader_told}
 use Rattle.piper_machine.proofs.logs.Draws.{ends-at}
-use Rattle.piper_machine.proofs.logs.HandleCalls.{Calls, Counted, Known, OfCopy, Stage, goes-true, is_dead, is_true, known_of, looks, moves, opens, registers, stays, takes, wakes, yields}
+use Rattle.piper_machine.proofs.logs.HandleCalls.{Calls, Counted, Known, OfCopy, Stage, is_dead, known_of, looks, moves, opens, registers, stays, takes, wakes, yields}
 
 abbrev pub is_round : AfterRead → Bool
 is_round (AfterRead.Round form sum) = true
@@ -33,12 +33,9 @@ stage point = stays
 
 -- the table leads to these stages
 
-pub stage-true : (l : Purpose) → stage (reader_is_true l).point ≡ is_true l
-stage-true l = grind arith
-
 module _ (k : Known) (c : Calling) (Own : Type 0) where
   pub emptied : (l : Purpose) → (c.handed ≡ Some k.waker) × OfCopy l Own → Calls (stage (reader_is_true l).point) k c Own
-  emptied l h = subst (λ (s : Stage). Calls s k c Own) (sym (stage-true l)) (goes-true l k c Own h)
+  emptied l h = grind arith
 
   pub moved : (none : Bool) (n sum : ℕ) (form : Form) → Own → Calls (stage (reader_moved none n form sum).point) k c Own
   moved none n sum form h = grind arith
@@ -71,9 +68,6 @@ moved-stores capacity given none n sum start form within = grind arith
 
 pub takes-within : (n m shown most : ℕ) → m ≡ n → n ≤ shown → n ≤ most → m ≤ min shown most
 takes-within n m shown most e shows within = omega arith
-
-pub idle-point : (point : ReadPoint) → is_idle (Point.Reader point) ≡ true → point ≡ ReadPoint.Idle
-idle-point point e = grind arith
 
 -- the reader is where these lines say, if the next store moves these bytes
 pub record IsAt (capacity : ℕ) (lines : List handle.Line) (given : List ℕ) (r : ReaderAt) : Type 0 where

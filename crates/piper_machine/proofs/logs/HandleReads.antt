@@ -8,14 +8,14 @@ use Rattle.piper_protocol.specs.declared.table.Purpose.TheVariants.{Poll, Copy}
 use Rattle.piper_protocol.specs.Lines as handle
 use Rattle.piper_protocol.specs.OneList as shared
 use Rattle.piper_protocol.specs.Table.{Next, read_action, reader_looks_for, reader_moved}
-use Rattle.piper_protocol.specs.Told.{IsTrueLog, alike, begins as call_begins, fits, is_idle, is_made, known_in, may_draw, may_empty, moved_in, passes, piece_in, reader_begins, rests, seen_in, shut_in, tickets_in, waits_in}
+use Rattle.piper_protocol.specs.Told.{IsTrueLog, alike, begins as call_begins, fits, is_made, known_in, may_draw, may_empty, moved_in, passes, piece_in, reader_begins, rests, seen_in, shut_in, tickets_in, waits_in}
 use Rattle.piper_machine.specs.logs.Line.{Line, began, met_tail, knew_empty, took, drew}
 use Rattle.piper_machine.specs.logs.Listed.{line_of}
 use Rattle.piper_machine.specs.logs.OfHandles.{given_by, line_made, lines_in, of_length, opening_at, reader_opening}
 use Rattle.piper_machine.specs.logs.Reading.{AreReaderRuns, fresh_reader, IsReaderNext, MayTake, ReaderAt, reader_after, reader_begun, size_after}
 use Rattle.piper_machine.proofs.logs.HandleLogs.{AreRuns, runs-of}
-use Rattle.piper_machine.proofs.logs.HandleCalls.{Calls, Counted, first-of, kept, known_of, lent-within, moved-within, not-true, of-length, rests-idle, second-of, zero-is}
-use Rattle.piper_machine.proofs.logs.HandleReader.{Arrives, Follows, IsAt, at, emptied, has-drawn, idle-point, leads, moved, moved-stores, row, stage, steps, takes-within}
+use Rattle.piper_machine.proofs.logs.HandleCalls.{Calls, Counted, first-of, kept, known_of, lent-within, moved-within, not-true, of-length, second-of, zero-is}
+use Rattle.piper_machine.proofs.logs.HandleReader.{Arrives, Follows, IsAt, at, emptied, has-drawn, leads, moved, moved-stores, row, stage, steps, takes-within}
 use Rattle.piper_machine.proofs.logs.HandleReaderTold.{pieces, told}
 
 module _ (capacity : ℕ) (some : 1 ≤ capacity) where
@@ -132,7 +132,7 @@ module _ (capacity : ℕ) (some : 1 ≤ capacity) where
   -- outside any call
 
   idle-at : (r : ReaderAt) (next : Next Point) → next.point ≡ Point.Reader r.point → rests next ≡ true → ReadPoint.Idle ≡ r.point
-  idle-at r next e resting = sym (idle-point r.point (subst (λ (p : Point). is_idle p ≡ true) e (rests-idle next resting)))
+  idle-at r next e resting = grind arith
 
   begins-at : (r : ReaderAt) (before : List handle.Line) (given : List ℕ) (first : Point) → (handle.comes_to before).point ≡ Point.Reader r.point → rests (handle.comes_to before) ≡ true → call_begins capacity Reader first before ≡ true → IsAt capacity before given r
       → let opening = opening_at (suc (tickets_in before)) given first in IsReaderNext capacity (began opening) r × ((first ≡ Point.Reader (reader_begun opening r).point) × IsAt capacity (handle.note (Note.Began first) ∷ before) given (reader_begun opening r))

@@ -12,7 +12,7 @@ use Rattle.piper_machine.specs.logs.Line.{Line}
 use Rattle.piper_machine.specs.logs.OfHandles.{of_length}
 use Rattle.piper_machine.specs.logs.Writing.{HasDrawn, IsWriterNext, WriterAt, own, room_to, unless, writer_after, writer_answered, writer_changed, writer_stepped, writer_told}
 use Rattle.piper_machine.proofs.logs.WriterDraws.{ends-at}
-use Rattle.piper_machine.proofs.logs.HandleCalls.{Calls, Counted, Known, OfCopy, Stage, goes-true, is_dead, is_true, known_of, looks, moves, opens, registers, stays, takes, wakes, yields}
+use Rattle.piper_machine.proofs.logs.HandleCalls.{Calls, Counted, Known, OfCopy, Stage, is_dead, known_of, looks, moves, opens, registers, stays, takes, wakes, yields}
 
 abbrev pub is_round : AfterWrite → Bool
 is_round (AfterWrite.Round form sum) = true
@@ -37,12 +37,9 @@ stage point = stays
 
 -- the table leads to these stages
 
-pub stage-true : (l : Purpose) → stage (writer_is_true l).point ≡ is_true l
-stage-true l = grind arith
-
 module _ (k : Known) (c : Calling) (Own : Type 0) where
   pub emptied : (l : Purpose) → (c.handed ≡ Some k.waker) × OfCopy l Own → Calls (stage (writer_is_true l).point) k c Own
-  emptied l h = subst (λ (s : Stage). Calls s k c Own) (sym (stage-true l)) (goes-true l k c Own h)
+  emptied l h = grind arith
 
   pub moved : (none : Bool) (n sum : ℕ) (form : Form) → Own → Calls (stage (writer_moved none n form sum).point) k c Own
   moved none n sum form h = grind arith

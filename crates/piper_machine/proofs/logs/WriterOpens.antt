@@ -41,11 +41,8 @@ may-offer point acts lent p lendable = grind arith
 pub may-go : (point : WritePoint) (acts : List SourceAct) (lent : List ℕ) (p : Pipe) → (write_action point ≡ Action.CallSource → ⊥) → MayOffer point acts lent p
 may-go point acts lent p other = grind arith
 
-source_at-point : (point : WritePoint) → write_action point ≡ Action.CallSource → (form : Form) × (sum : ℕ) × (point ≡ WritePoint.CallSource form sum)
-source_at-point point e = grind arith
-
 pub is-source : (point : WritePoint) → write_action point ≡ Action.CallSource → (form : Form) × (sum : ℕ) × (point ≡ WritePoint.CallSource form sum)
-is-source = source_at-point
+is-source = grind arith
 
 -- what may be lent by the log, may be lent by the machine
 module _ (capacity : ℕ) (r : ReaderAt) (w : WriterAt) (s : Words) (k : Chance) (acts : List DestAct) (l : Chance) (sources : List SourceAct) (fits : Fits capacity r w s) where

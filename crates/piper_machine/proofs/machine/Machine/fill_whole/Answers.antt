@@ -3,7 +3,6 @@ use Rattle.std.proofs.Common.{◌≡◌, ◌∙◌, ℕ, List, length, take, min
 use Rattle.std.proofs.lemmas.List.{take_rest}
 use Rattle.piper_machine.specs.Round.{given, unspent}
 use Rattle.piper_machine.specs.Step.{fill_opened}
-use Rattle.piper_machine.proofs.Sources.{lent-anew}
 use Rattle.piper_machine.proofs.Filling.{IsGone, goes-on, goes, ends, gave, gives, fails}
 use Rattle.piper_machine.proofs.machine.Machine.fill_whole.Goals as goal
 use Rattle.piper_machine.proofs.machine.Machine.fill_whole.Goals.{Joined-action, in-CallSource, then-is_failing, else-is_failing, in_default}
@@ -41,7 +40,7 @@ pub steps-init : goal.steps-init
 steps-init c = grind arith
 
 pub source_called-answer-requires-clause-lent : goal.source_called-answer-requires-clause-lent
-source_called-answer-requires-clause-lent c = lent-anew c.steps.self c.write_round-count.new.self c.write_round-count.ensures.lent c.write_round-count.ensures.after
+source_called-answer-requires-clause-lent c = grind arith
 
 pub hear-requires : goal.hear-requires
 hear-requires c = grind (arith, common_steps)

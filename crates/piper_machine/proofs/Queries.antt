@@ -1,1 +1,0 @@
--- What the last load of a query returns, of all queries at once.
