@@ -20,6 +20,10 @@ LeadsBy acts_so capacity p q events = (acts : List Act) (before : List Event) �
 abbrev pub Leads : ℕ → Pipe → Pipe → List Event → Type 0
 Leads capacity p q events = LeadsBy false capacity p q events
 
+-- with these chances, and these acts of a script, a line leads there
+abbrev pub ahead : {A B : Type 0} {Leads : A → B → Type 0} (chance : A) (script : B) → Leads chance script → (c : A) × (acts : B) × Leads c acts
+ahead chance script leads = (chance, script, leads)
+
 pub leads-none : (capacity : ℕ) (p : Pipe) → Leads capacity p p []
 leads-none capacity p acts before kept = (acts, rw append-nil kept, refl)
 

@@ -16,7 +16,7 @@ use Rattle.piper_machine.specs.Look.{context}
 use Rattle.piper_machine.specs.Open.{called_with}
 use Rattle.piper_machine.specs.Call.{has_good_draw}
 use Rattle.piper_machine.specs.Run.{Made}
-use Rattle.piper_machine.proofs.logs.Leading.{leads-drains, Leads, leads-step}
+use Rattle.piper_machine.proofs.logs.Leading.{ahead, leads-drains, Leads, leads-step}
 use Rattle.piper_machine.proofs.logs.ReaderSteps.{ReaderLeads}
 
 module _ (capacity : ℕ) (w : WriterAt) (l : Chance) (sources : List SourceAct) (r : ReaderAt) (s : Words) where
@@ -52,67 +52,46 @@ module _ (capacity : ℕ) (w : WriterAt) (l : Chance) (sources : List SourceAct)
 
     pub begins : (opening : Opening) → IsReaderNext capacity (began opening) r → Fits capacity (reader_begun opening r) w s → ReaderLeads capacity w l sources r s (began opening)
     begins (polls waker) next after k acts =
-        let p : Pipe = at_first k acts in (
-          k,
-          acts,
-          opens k acts acts (polls waker) (Call.Poll Reader waker (new_luck k)) (Began Reader Kind.Poll (Some waker)) next refl
-              (ap (λ (x : Bool). unless x BadDraw) (good-draw k.draws)) refl
-              (λ lent. ap (λ (x : ReadPoint). record p { reader = x; reader_call = called_with (Some (context waker (new_luck k))) }) (polls-at (r.tail - r.head == 0) k.draws))
-              (λ lent. refl) after (λ lent q. tt),
-        )
+        let p : Pipe = at_first k acts in
+        ahead k acts (opens k acts acts (polls waker) (Call.Poll Reader waker (new_luck k)) (Began Reader Kind.Poll (Some waker)) next refl
+        (ap (λ (x : Bool). unless x BadDraw) (good-draw k.draws)) refl
+        (λ lent. ap (λ (x : ReadPoint). record p { reader = x; reader_call = called_with (Some (context waker (new_luck k))) }) (polls-at (r.tail - r.head == 0) k.draws))
+        (λ lent. refl) after (λ lent q. tt))
     begins (try_drains size) next after k acts =
-        let p : Pipe = at_first k acts in (
-          k,
-          acts,
-          opens k acts acts (try_drains size) (Call.TryDrain size) (Began Reader Kind.TryDrain None) next refl
-              refl refl
-              (λ lent. ap (λ (x : ReadPoint). record p { reader = x; reader_call = called_with None; destination = Slice size }) (tries-at (r.tail - r.head == 0) k.draws))
-              (λ lent. refl) after (λ lent q. tt),
-        )
+        let p : Pipe = at_first k acts in
+        ahead k acts (opens k acts acts (try_drains size) (Call.TryDrain size) (Began Reader Kind.TryDrain None) next refl
+        refl refl
+        (λ lent. ap (λ (x : ReadPoint). record p { reader = x; reader_call = called_with None; destination = Slice size }) (tries-at (r.tail - r.head == 0) k.draws))
+        (λ lent. refl) after (λ lent q. tt))
     begins try_drains_with next after k acts =
         let p : Pipe = at_first k acts in
-        let mid : Pipe = pipe_at capacity (reader_begun (try_drains 0) r) w s k acts l sources in (
-          k,
-          acts,
-          leads-drains capacity acts p mid (Began Reader Kind.TryDrain None ∷ []) (sound capacity _ w s k acts l sources after)
-              (opened k acts acts (try_drains 0) (Call.TryDrain 0) (Began Reader Kind.TryDrain None) next refl refl refl
-              (λ lent. ap (λ (x : ReadPoint). record p { reader = x; reader_call = called_with None; destination = Slice 0 }) (tries-at (r.tail - r.head == 0) k.draws))
-              (λ lent. refl) (λ lent q. tt)),
-        )
+        let mid : Pipe = pipe_at capacity (reader_begun (try_drains 0) r) w s k acts l sources in
+        ahead k acts (leads-drains capacity acts p mid (Began Reader Kind.TryDrain None ∷ []) (sound capacity _ w s k acts l sources after)
+        (opened k acts acts (try_drains 0) (Call.TryDrain 0) (Began Reader Kind.TryDrain None) next refl refl refl
+        (λ lent. ap (λ (x : ReadPoint). record p { reader = x; reader_call = called_with None; destination = Slice 0 }) (tries-at (r.tail - r.head == 0) k.draws))
+        (λ lent. refl) (λ lent q. tt)))
     begins (poll_drains_bytes waker size) next after k acts =
-        let p : Pipe = at_first k acts in (
-          k,
-          acts,
-          opens k acts acts (poll_drains_bytes waker size) (Call.PollDrainBytes waker (new_luck k) size) (Began Reader Kind.PollDrainBytes (Some waker)) next refl
-              (ap (λ (x : Bool). unless x BadDraw) (good-draw k.draws)) refl
-              (λ lent. ap (λ (x : ReadPoint). record p { reader = x; reader_call = called_with (Some (context waker (new_luck k))); destination = Slice size }) (copies-at (r.tail - r.head == 0) k.draws))
-              (λ lent. refl) after (λ lent q. tt),
-        )
+        let p : Pipe = at_first k acts in
+        ahead k acts (opens k acts acts (poll_drains_bytes waker size) (Call.PollDrainBytes waker (new_luck k) size) (Began Reader Kind.PollDrainBytes (Some waker)) next refl
+        (ap (λ (x : Bool). unless x BadDraw) (good-draw k.draws)) refl
+        (λ lent. ap (λ (x : ReadPoint). record p { reader = x; reader_call = called_with (Some (context waker (new_luck k))); destination = Slice size }) (copies-at (r.tail - r.head == 0) k.draws))
+        (λ lent. refl) after (λ lent q. tt))
     begins (poll_drains waker) next after k acts =
-        let p : Pipe = at_first k acts in (
-          k,
-          acts,
-          opens k acts acts (poll_drains waker) (Call.PollDrain waker (new_luck k) acts) (Began Reader Kind.PollDrain (Some waker)) next refl
-              (ap (λ (x : Bool). unless x BadDraw) (good-draw k.draws)) refl
-              (λ lent. ap (λ (x : ReadPoint). record p { reader = x; reader_call = called_with (Some (context waker (new_luck k))); destination = Acts acts }) (copies-at (r.tail - r.head == 0) k.draws))
-              (λ lent. refl) after (λ lent q. tt),
-        )
+        let p : Pipe = at_first k acts in
+        ahead k acts (opens k acts acts (poll_drains waker) (Call.PollDrain waker (new_luck k) acts) (Began Reader Kind.PollDrain (Some waker)) next refl
+        (ap (λ (x : Bool). unless x BadDraw) (good-draw k.draws)) refl
+        (λ lent. ap (λ (x : ReadPoint). record p { reader = x; reader_call = called_with (Some (context waker (new_luck k))); destination = Acts acts }) (copies-at (r.tail - r.head == 0) k.draws))
+        (λ lent. refl) after (λ lent q. tt))
     begins (consumes bytes) next after k acts =
-        let p : Pipe = at_first k acts in (
-          k,
-          acts,
-          opens k acts acts (consumes bytes) (Call.Consume (length bytes)) (Began Reader Kind.Consume None) next refl
-              refl (within (length bytes) (shown capacity r) PastPeek next.1)
-              (λ lent. ap (λ (x : ReadPoint). record p { reader = x }) (stores-at r.calling.draw k.draws (length bytes)))
-              (λ lent. refl) after (λ lent q. tt),
-        )
+        let p : Pipe = at_first k acts in
+        ahead k acts (opens k acts acts (consumes bytes) (Call.Consume (length bytes)) (Began Reader Kind.Consume None) next refl
+        refl (within (length bytes) (shown capacity r) PastPeek next.1)
+        (λ lent. ap (λ (x : ReadPoint). record p { reader = x }) (stores-at r.calling.draw k.draws (length bytes)))
+        (λ lent. refl) after (λ lent q. tt))
     begins drops next after k acts =
-        let p : Pipe = at_first k acts in (
-          k,
-          acts,
-          opens k acts acts drops (Call.Drop Reader) (Began Reader Kind.Drop None) next refl
-              refl refl
-              (λ lent. ap (λ (x : ReadPoint). record p { reader = x }) (closes-at r.calling.draw k.draws))
-              (λ lent. refl) after (λ lent q. tt),
-        )
+        let p : Pipe = at_first k acts in
+        ahead k acts (opens k acts acts drops (Call.Drop Reader) (Began Reader Kind.Drop None) next refl
+        refl refl
+        (λ lent. ap (λ (x : ReadPoint). record p { reader = x }) (closes-at r.calling.draw k.draws))
+        (λ lent. refl) after (λ lent q. tt))
     begins opening next after k acts = absurd next.1

@@ -20,7 +20,7 @@ use Rattle.piper_machine.proofs.logs.Draws.{action-same, ends-at, may-go, next-s
 use Rattle.piper_machine.proofs.logs.Contexts.{none-of, registers, grants, reports, yields, reports-yield, reports-wake, registers-none, refuses, reports-none}
 use Rattle.piper_machine.proofs.logs.Fitting.{sound}
 use Rattle.piper_machine.proofs.logs.ReaderOpens.{idle-same, left-taken, found-taken, left-failed, found-failed}
-use Rattle.piper_machine.proofs.logs.Leading.{Leads, LeadsBy, leads-learned, leads-none, leads-step, leads-withdrawn}
+use Rattle.piper_machine.proofs.logs.Leading.{ahead, Leads, LeadsBy, leads-learned, leads-none, leads-step, leads-withdrawn}
 
 -- the pipe after a step that changed it so and leads there
 abbrev drained : Pipe → Next ReadPoint → Pipe
@@ -96,90 +96,69 @@ module _ (capacity : ℕ) (w : WriterAt) (l : Chance) (sources : List SourceAct)
       pub loads-tail : (count : ℕ) → IsReaderNext capacity (loaded_tail count) r → Finds (loaded_tail count) s → Fits capacity (reader_after capacity (loaded_tail count) r) w s → ReaderLeads (loaded_tail count)
       loads-tail count e finds after k acts =
           let p : Pipe = at_first k acts in
-          let count_is : length (drop s.head s.sent) ≡ count - r.head = omega (arith, unread, fits.counts.reads) in (
-            k,
-            acts,
-            goes (loaded_tail count) Action.LoadIndex k k acts acts e (λ x. absurd cc)
-                (ap (λ (n : ℕ). record p { known = n }) count_is)
-                (ap (λ (n : ℕ). read_after capacity p.reader (Found.IndexLoaded (n == 0))) count_is ∙ told k (Found.IndexLoaded (count - r.head == 0)) Action.LoadIndex e (λ x. absurd cc))
-                (ap (λ (n : ℕ). Looked Reader (Seen.Tail n) ∷ []) count_is)
-                (sound capacity _ w s k acts l sources after),
-          )
+          let count_is : length (drop s.head s.sent) ≡ count - r.head = omega (arith, unread, fits.counts.reads) in
+          ahead k acts (goes (loaded_tail count) Action.LoadIndex k k acts acts e (λ x. absurd cc)
+          (ap (λ (n : ℕ). record p { known = n }) count_is)
+          (ap (λ (n : ℕ). read_after capacity p.reader (Found.IndexLoaded (n == 0))) count_is ∙ told k (Found.IndexLoaded (count - r.head == 0)) Action.LoadIndex e (λ x. absurd cc))
+          (ap (λ (n : ℕ). Looked Reader (Seen.Tail n) ∷ []) count_is)
+          (sound capacity _ w s k acts l sources after))
 
       pub learns-tail : (count : ℕ) → IsReaderNext capacity (met_tail count) r → Finds (met_tail count) s → Fits capacity (reader_after capacity (met_tail count) r) w s → ReaderLeads (met_tail count)
       learns-tail count e finds after k acts =
           let p : Pipe = at_first k acts in
           let q : Pipe = pipe_at capacity (reader_after capacity (met_tail count) r) w s k acts l sources in
-          let same : record p { known = length p.unread } ≡ q = ap (λ (n : ℕ). record p { known = n }) (let count_is : length (drop s.head s.sent) ≡ count - r.head = omega (arith, unread, fits.counts.reads) in count_is) in (
-            k,
-            acts,
-            subst (λ (x : Pipe). LeadsBy true capacity p x []) same
-                (leads-learned capacity Reader p (subst IsSound (sym same) (sound capacity _ w s k acts l sources after)) (idle-same r.calling.draw k.draws r.point e)),
-          )
+          let same : record p { known = length p.unread } ≡ q = ap (λ (n : ℕ). record p { known = n }) (let count_is : length (drop s.head s.sent) ≡ count - r.head = omega (arith, unread, fits.counts.reads) in count_is) in
+          ahead k acts (subst (λ (x : Pipe). LeadsBy true capacity p x []) same
+          (leads-learned capacity Reader p (subst IsSound (sym same) (sound capacity _ w s k acts l sources after)) (idle-same r.calling.draw k.draws r.point e)))
 
       pub loads-closed : (b : Bool) → IsReaderNext capacity (loaded_closed b) r → Finds (loaded_closed b) s → Fits capacity (reader_after capacity (loaded_closed b) r) w s → ReaderLeads (loaded_closed b)
       loads-closed b e finds after k acts =
-          let p : Pipe = at_first k acts in (
-            k,
-            acts,
-            goes (loaded_closed b) Action.LoadClosed k k acts acts e (λ x. absurd cc)
-                refl
-                (ap (λ (x : Bool). read_after capacity p.reader (Found.Flag x)) (sym finds) ∙ told k (Found.Flag b) Action.LoadClosed e (λ x. absurd cc))
-                (ap (λ (x : Bool). Looked Reader (Seen.Closed x) ∷ []) (sym finds))
-                (sound capacity _ w s k acts l sources after),
-          )
+          let p : Pipe = at_first k acts in
+          ahead k acts (goes (loaded_closed b) Action.LoadClosed k k acts acts e (λ x. absurd cc)
+          refl
+          (ap (λ (x : Bool). read_after capacity p.reader (Found.Flag x)) (sym finds) ∙ told k (Found.Flag b) Action.LoadClosed e (λ x. absurd cc))
+          (ap (λ (x : Bool). Looked Reader (Seen.Closed x) ∷ []) (sym finds))
+          (sound capacity _ w s k acts l sources after))
 
       pub stores-head : (bytes : List ℕ) → IsReaderNext capacity (stored_head bytes) r → Finds (stored_head bytes) s → Fits capacity (reader_after capacity (stored_head bytes) r) w (words_after (stored_head bytes) s) → ReaderLeads (stored_head bytes)
       stores-head bytes next finds after k acts =
           let p : Pipe = at_first k acts in
           let n : ℕ = length bytes in
-          let known : r.tail - r.head - n ≡ r.tail - (r.head + n) = omega arith in (
-            k,
-            acts,
-            goes (stored_head bytes) (Action.StoreHead (length bytes)) k k acts acts next.0 (λ x. absurd cc)
-                (ap (λ (x : List ℕ). record p { unread = x; known = r.tail - r.head - n; start = Rattle.piper_protocol.specs.Index.offset_of capacity (r.start + n) }) (drop-drop n s.head s.sent)
-                ∙ ap (λ (x : ℕ). record p { unread = drop (s.head + n) s.sent; known = x; start = Rattle.piper_protocol.specs.Index.offset_of capacity (r.start + n) }) known)
-                (told k Found.Nothing (Action.StoreHead n) next.0 (λ x. absurd cc))
-                (ap (λ (x : List ℕ). Consumed x ∷ []) (sym finds))
-                (sound capacity _ w _ k acts l sources after),
-          )
+          let known : r.tail - r.head - n ≡ r.tail - (r.head + n) = omega arith in
+          ahead k acts (goes (stored_head bytes) (Action.StoreHead (length bytes)) k k acts acts next.0 (λ x. absurd cc)
+          (ap (λ (x : List ℕ). record p { unread = x; known = r.tail - r.head - n; start = Rattle.piper_protocol.specs.Index.offset_of capacity (r.start + n) }) (drop-drop n s.head s.sent)
+          ∙ ap (λ (x : ℕ). record p { unread = drop (s.head + n) s.sent; known = x; start = Rattle.piper_protocol.specs.Index.offset_of capacity (r.start + n) }) known)
+          (told k Found.Nothing (Action.StoreHead n) next.0 (λ x. absurd cc))
+          (ap (λ (x : List ℕ). Consumed x ∷ []) (sym finds))
+          (sound capacity _ w _ k acts l sources after))
 
       pub stores-closed : IsReaderNext capacity stored_closed r → Fits capacity (reader_after capacity stored_closed r) w (words_after stored_closed s) → ReaderLeads stored_closed
-      stores-closed e after k acts = (
-        k,
-        acts,
-        goes stored_closed (Action.StoreClosed false) k k acts acts e (λ x. absurd cc)
-            refl
-            (told k Found.Nothing (Action.StoreClosed false) e (λ x. absurd cc))
-            refl
-            (sound capacity _ w _ k acts l sources after),
-      )
+      stores-closed e after k acts =
+          ahead k acts (goes stored_closed (Action.StoreClosed false) k k acts acts e (λ x. absurd cc)
+          refl
+          (told k Found.Nothing (Action.StoreClosed false) e (λ x. absurd cc))
+          refl
+          (sound capacity _ w _ k acts l sources after))
 
       finds-none : (side : Side) → IsToEmpty side r → Finds (loaded_slot side false) s → Empties (Action.Take side) (loaded_slot side false)
       finds-none Reader next finds after k acts =
           let p : Pipe = at_first k acts in
-          let none : s.reader_slot ≡ None = none-of s.reader_slot finds in (
-            k,
-            acts,
-            goes (loaded_slot Reader false) (Action.Take Reader) k k acts acts next.0 (λ x. absurd cc)
-                (ap (λ (x : Option ℕ). record p { reader_call = record p.reader_call { taken = x }; reader_waker = None }) none
-                ∙ ap (λ (x : Option ℕ). record p { reader_call = record p.reader_call { taken = None }; reader_waker = x }) (sym none))
-                (told k Found.Nothing (Action.Take Reader) next.0 (λ x. next.1) ∙ ap (reader_next r.calling.draw k.draws) (own-same capacity r.point Found.Nothing (Found.Waker false) next.0))
-                refl
-                (sound capacity _ w _ k acts l sources after),
-          )
+          let none : s.reader_slot ≡ None = none-of s.reader_slot finds in
+          ahead k acts (goes (loaded_slot Reader false) (Action.Take Reader) k k acts acts next.0 (λ x. absurd cc)
+          (ap (λ (x : Option ℕ). record p { reader_call = record p.reader_call { taken = x }; reader_waker = None }) none
+          ∙ ap (λ (x : Option ℕ). record p { reader_call = record p.reader_call { taken = None }; reader_waker = x }) (sym none))
+          (told k Found.Nothing (Action.Take Reader) next.0 (λ x. next.1) ∙ ap (reader_next r.calling.draw k.draws) (own-same capacity r.point Found.Nothing (Found.Waker false) next.0))
+          refl
+          (sound capacity _ w _ k acts l sources after))
       finds-none Writer next finds after k acts =
           let p : Pipe = at_first k acts in
-          let none : s.writer_slot ≡ None = none-of s.writer_slot finds in (
-            k,
-            acts,
-            goes (loaded_slot Writer false) (Action.Take Writer) k k acts acts next.0 (λ x. absurd cc)
-                (ap (λ (x : Option ℕ). record p { reader_call = record p.reader_call { taken = x }; writer_waker = None }) none
-                ∙ ap (λ (x : Option ℕ). record p { reader_call = record p.reader_call { taken = None }; writer_waker = x }) (sym none))
-                (ap (λ (x : Bool). read_after capacity p.reader (Found.Waker x)) (sym finds) ∙ told k (Found.Waker false) (Action.Take Writer) next.0 (λ x. next.1))
-                refl
-                (sound capacity _ w _ k acts l sources after),
-          )
+          let none : s.writer_slot ≡ None = none-of s.writer_slot finds in
+          ahead k acts (goes (loaded_slot Writer false) (Action.Take Writer) k k acts acts next.0 (λ x. absurd cc)
+          (ap (λ (x : Option ℕ). record p { reader_call = record p.reader_call { taken = x }; writer_waker = None }) none
+          ∙ ap (λ (x : Option ℕ). record p { reader_call = record p.reader_call { taken = None }; writer_waker = x }) (sym none))
+          (ap (λ (x : Bool). read_after capacity p.reader (Found.Waker x)) (sym finds) ∙ told k (Found.Waker false) (Action.Take Writer) next.0 (λ x. next.1))
+          refl
+          (sound capacity _ w _ k acts l sources after))
 
       -- before it registers, the reader finds its slot empty
       finds-own-empty : (side : Side) → MayWithdraw side r → Empties Action.Register (loaded_slot side false)
@@ -196,61 +175,46 @@ module _ (capacity : ℕ) (w : WriterAt) (l : Chance) (sources : List SourceAct)
       pub knows-empty : IsReaderNext capacity knew_empty r → Fits capacity (reader_after capacity knew_empty r) w s → ReaderLeads knew_empty
       knows-empty next after k acts =
           let p : Pipe = at_first k acts in
-          let none : s.reader_slot ≡ None = fits.shares.reader_rests next.2 in (
-            k,
-            acts,
-            goes knew_empty (Action.Take Reader) k k acts acts next.0 (λ x. absurd cc)
-                (ap (λ (x : Option ℕ). record p { reader_call = record p.reader_call { taken = x }; reader_waker = None }) none
-                ∙ ap (λ (x : Option ℕ). record p { reader_call = record p.reader_call { taken = None }; reader_waker = x }) (sym none))
-                (told k Found.Nothing (Action.Take Reader) next.0 (λ x. next.1) ∙ ap (reader_next r.calling.draw k.draws) (own-same capacity r.point Found.Nothing (Found.Waker false) next.0))
-                refl
-                (sound capacity _ w _ k acts l sources after),
-          )
+          let none : s.reader_slot ≡ None = fits.shares.reader_rests next.2 in
+          ahead k acts (goes knew_empty (Action.Take Reader) k k acts acts next.0 (λ x. absurd cc)
+          (ap (λ (x : Option ℕ). record p { reader_call = record p.reader_call { taken = x }; reader_waker = None }) none
+          ∙ ap (λ (x : Option ℕ). record p { reader_call = record p.reader_call { taken = None }; reader_waker = x }) (sym none))
+          (told k Found.Nothing (Action.Take Reader) next.0 (λ x. next.1) ∙ ap (reader_next r.calling.draw k.draws) (own-same capacity r.point Found.Nothing (Found.Waker false) next.0))
+          refl
+          (sound capacity _ w _ k acts l sources after))
 
       pub finds-filled : (side : Side) → ReaderLeads (loaded_slot side true)
       finds-filled side k acts = (k, acts, leads-none capacity (at_first k acts))
 
       takes-out : (side : Side) (old : Option ℕ) → IsToEmpty side r → Finds (swapped side old None) s → Empties (Action.Take side) (swapped side old None)
       takes-out Reader old next finds after k acts =
-          let p : Pipe = at_first k acts in (
-            k,
-            acts,
-            goes (swapped Reader old None) (Action.Take Reader) k k acts acts next.0 (λ x. absurd cc)
-                (ap (λ (x : Option ℕ). record p { reader_call = record p.reader_call { taken = x }; reader_waker = None }) (sym finds))
-                (told k Found.Nothing (Action.Take Reader) next.0 (λ x. next.1) ∙ ap (reader_next r.calling.draw k.draws) (own-same capacity r.point Found.Nothing (Found.Waker (is_some old)) next.0))
-                refl
-                (sound capacity _ w _ k acts l sources after),
-          )
+          let p : Pipe = at_first k acts in
+          ahead k acts (goes (swapped Reader old None) (Action.Take Reader) k k acts acts next.0 (λ x. absurd cc)
+          (ap (λ (x : Option ℕ). record p { reader_call = record p.reader_call { taken = x }; reader_waker = None }) (sym finds))
+          (told k Found.Nothing (Action.Take Reader) next.0 (λ x. next.1) ∙ ap (reader_next r.calling.draw k.draws) (own-same capacity r.point Found.Nothing (Found.Waker (is_some old)) next.0))
+          refl
+          (sound capacity _ w _ k acts l sources after))
       takes-out Writer old next finds after k acts =
-          let p : Pipe = at_first k acts in (
-            k,
-            acts,
-            goes (swapped Writer old None) (Action.Take Writer) k k acts acts next.0 (λ x. absurd cc)
-                (ap (λ (x : Option ℕ). record p { reader_call = record p.reader_call { taken = x }; writer_waker = None }) (sym finds))
-                (ap (λ (x : Option ℕ). read_after capacity p.reader (Found.Waker (is_some x))) (sym finds) ∙ told k (Found.Waker (is_some old)) (Action.Take Writer) next.0 (λ x. next.1))
-                refl
-                (sound capacity _ w _ k acts l sources after),
-          )
+          let p : Pipe = at_first k acts in
+          ahead k acts (goes (swapped Writer old None) (Action.Take Writer) k k acts acts next.0 (λ x. absurd cc)
+          (ap (λ (x : Option ℕ). record p { reader_call = record p.reader_call { taken = x }; writer_waker = None }) (sym finds))
+          (ap (λ (x : Option ℕ). read_after capacity p.reader (Found.Waker (is_some x))) (sym finds) ∙ told k (Found.Waker (is_some old)) (Action.Take Writer) next.0 (λ x. next.1))
+          refl
+          (sound capacity _ w _ k acts l sources after))
 
       -- before it registers, the reader takes its waker out, or finds none
       withdraws-own : (side : Side) (old : Option ℕ) → MayWithdraw side r → Finds (swapped side old None) s → Empties Action.Register (swapped side old None)
       withdraws-own Writer old may finds after k acts = absurd (let no : Writer ≡ Reader = may.0 in cc)
       withdraws-own Reader None may finds after k acts =
           let p : Pipe = at_first k acts in
-          let q : Pipe = record p { reader_waker = None } in (
-            k,
-            acts,
-            subst (λ (es : List Event). Leads capacity p q es) (sym (stays capacity r.point false may.1))
-                (subst (λ (x : Option ℕ). Leads capacity p (record p { reader_waker = x }) []) (sym finds) (leads-none capacity p)),
-          )
+          let q : Pipe = record p { reader_waker = None } in
+          ahead k acts (subst (λ (es : List Event). Leads capacity p q es) (sym (stays capacity r.point false may.1))
+          (subst (λ (x : Option ℕ). Leads capacity p (record p { reader_waker = x }) []) (sym finds) (leads-none capacity p)))
       withdraws-own Reader (Some waker) may finds after k acts =
           let p : Pipe = at_first k acts in
-          let q : Pipe = record p { reader_waker = None } in (
-            k,
-            acts,
-            subst (λ (es : List Event). LeadsBy true capacity p q es) (sym (stays capacity r.point true may.1))
-                (leads-withdrawn capacity Reader p (sound capacity _ w _ k acts l sources after) (action-same r.calling.draw k.draws r.point ∙ may.1)),
-          )
+          let q : Pipe = record p { reader_waker = None } in
+          ahead k acts (subst (λ (es : List Event). LeadsBy true capacity p q es) (sym (stays capacity r.point true may.1))
+          (leads-withdrawn capacity Reader p (sound capacity _ w _ k acts l sources after) (action-same r.calling.draw k.draws r.point ∙ may.1)))
 
       pub takes : (side : Side) (old : Option ℕ) → IsReaderNext capacity (swapped side old None) r → Finds (swapped side old None) s → Fits capacity (reader_after capacity (swapped side old None) r) w (words_after (swapped side old None) s) → ReaderLeads (swapped side old None)
       takes side old next finds = elim next [
@@ -264,84 +228,66 @@ module _ (capacity : ℕ) (w : WriterAt) (l : Chance) (sources : List SourceAct)
           let k' : Chance = record k { registers = true } in
           let p : Pipe = at_first k' acts in
           let granted : settled r.calling.granted true ≡ true = ap (λ (g : Option Bool). settled g true) next.3 in
-          let luck : Luck = luck_of r.calling k' in (
-            k',
-            acts,
-            goes (swapped Reader old (Some waker)) Action.Register k k' acts acts next.1 (λ x. absurd cc)
-                (ap (λ (x : Option ℕ). record p { reader_waker = x }) (registers r.calling.handed luck waker next.2 s.reader_slot granted)
-                ∙ ap (λ (x : Bool). record p { reader_waker = Some waker; reader_call = record { context = context_with r.calling.handed (record luck { register_granted = x }); taken = r.calling.taken } }) granted)
-                (ap (λ (x : Bool). read_after capacity p.reader (Found.Granted x)) (grants r.calling.handed luck waker next.2 granted) ∙ told k (Found.Granted true) Action.Register next.1 (λ x. absurd cc))
-                (reports r.calling.handed luck waker next.2 Reader granted)
-                (sound capacity _ w _ k acts l sources after),
-          )
+          let luck : Luck = luck_of r.calling k' in
+          ahead k' acts (goes (swapped Reader old (Some waker)) Action.Register k k' acts acts next.1 (λ x. absurd cc)
+          (ap (λ (x : Option ℕ). record p { reader_waker = x }) (registers r.calling.handed luck waker next.2 s.reader_slot granted)
+          ∙ ap (λ (x : Bool). record p { reader_waker = Some waker; reader_call = record { context = context_with r.calling.handed (record luck { register_granted = x }); taken = r.calling.taken } }) granted)
+          (ap (λ (x : Bool). read_after capacity p.reader (Found.Granted x)) (grants r.calling.handed luck waker next.2 granted) ∙ told k (Found.Granted true) Action.Register next.1 (λ x. absurd cc))
+          (reports r.calling.handed luck waker next.2 Reader granted)
+          (sound capacity _ w _ k acts l sources after))
 
       pub refuses-own : IsReaderNext capacity refused r → Fits capacity (reader_after capacity refused r) w s → ReaderLeads refused
       refuses-own next after k acts =
           let k' : Chance = record k { registers = false } in
           let p : Pipe = at_first k' acts in
           let granted : settled r.calling.granted false ≡ false = ap (λ (g : Option Bool). settled g false) next.1 in
-          let luck : Luck = luck_of r.calling k' in (
-            k',
-            acts,
-            goes refused Action.Register k k' acts acts next.0 (λ x. absurd cc)
-                (ap (λ (x : Option ℕ). record p { reader_waker = x }) (registers-none r.calling.handed luck granted s.reader_slot)
-                ∙ ap (λ (x : Bool). record p { reader_call = record { context = context_with r.calling.handed (record luck { register_granted = x }); taken = r.calling.taken } }) granted)
-                (ap (λ (x : Bool). read_after capacity p.reader (Found.Granted x)) (refuses r.calling.handed luck granted) ∙ told k (Found.Granted false) Action.Register next.0 (λ x. absurd cc))
-                (reports-none r.calling.handed luck granted Reader)
-                (sound capacity _ w _ k acts l sources after),
-          )
+          let luck : Luck = luck_of r.calling k' in
+          ahead k' acts (goes refused Action.Register k k' acts acts next.0 (λ x. absurd cc)
+          (ap (λ (x : Option ℕ). record p { reader_waker = x }) (registers-none r.calling.handed luck granted s.reader_slot)
+          ∙ ap (λ (x : Bool). record p { reader_call = record { context = context_with r.calling.handed (record luck { register_granted = x }); taken = r.calling.taken } }) granted)
+          (ap (λ (x : Bool). read_after capacity p.reader (Found.Granted x)) (refuses r.calling.handed luck granted) ∙ told k (Found.Granted false) Action.Register next.0 (λ x. absurd cc))
+          (reports-none r.calling.handed luck granted Reader)
+          (sound capacity _ w _ k acts l sources after))
 
       pub yields-own : (waker : ℕ) → IsReaderNext capacity (yielded waker) r → Fits capacity (reader_after capacity (yielded waker) r) w s → ReaderLeads (yielded waker)
       yields-own waker next after k acts =
-          let p : Pipe = at_first k acts in (
-            k,
-            acts,
-            goes (yielded waker) Action.Yield k k acts acts next.0 (λ x. absurd cc)
-                refl
-                (ap (λ (x : Bool). read_after capacity p.reader (Found.Granted x)) (yields r.calling.handed (luck_of r.calling k) waker next.1 refl) ∙ told k (Found.Granted true) Action.Yield next.0 (λ x. absurd cc))
-                (reports-yield r.calling.handed (luck_of r.calling k) waker next.1 refl)
-                (sound capacity _ w _ k acts l sources after),
-          )
+          let p : Pipe = at_first k acts in
+          ahead k acts (goes (yielded waker) Action.Yield k k acts acts next.0 (λ x. absurd cc)
+          refl
+          (ap (λ (x : Bool). read_after capacity p.reader (Found.Granted x)) (yields r.calling.handed (luck_of r.calling k) waker next.1 refl) ∙ told k (Found.Granted true) Action.Yield next.0 (λ x. absurd cc))
+          (reports-yield r.calling.handed (luck_of r.calling k) waker next.1 refl)
+          (sound capacity _ w _ k acts l sources after))
 
       pub wakes : (waker : ℕ) → IsReaderNext capacity (woke waker) r → Fits capacity (reader_after capacity (woke waker) r) w s → ReaderLeads (woke waker)
-      wakes waker next after k acts = (
-        k,
-        acts,
-        goes (woke waker) Action.Wake k k acts acts next.0 (λ x. absurd cc)
-            refl
-            (told k Found.Nothing Action.Wake next.0 (λ x. absurd cc))
-            (reports-wake r.calling.taken (luck_of r.calling k) waker next.1)
-            (sound capacity _ w _ k acts l sources after),
-      )
+      wakes waker next after k acts =
+          ahead k acts (goes (woke waker) Action.Wake k k acts acts next.0 (λ x. absurd cc)
+          refl
+          (told k Found.Nothing Action.Wake next.0 (λ x. absurd cc))
+          (reports-wake r.calling.taken (luck_of r.calling k) waker next.1)
+          (sound capacity _ w _ k acts l sources after))
 
       pub takes-bytes : (bytes : List ℕ) → IsReaderNext capacity (took bytes) r → Fits capacity (reader_after capacity (took bytes) r) w s → ReaderLeads (took bytes)
       takes-bytes bytes next after k acts =
           let n : ℕ = length bytes in
           let round : ℕ = min (shown capacity r) MOST_A_ROUND in
           let acts' : List DestAct = DestAct.Take n ∷ acts in
-          let p : Pipe = at_first k acts' in (
-            k,
-            acts',
-            goes (took bytes) Action.CallDestination k k acts acts' next.0 (λ x. absurd cc)
-                (ap (λ (x : Destination). record p { destination = x }) (left-taken round n acts r.size next.1))
-                (ap (λ (x : Found). read_after capacity p.reader x) (found-taken round n acts r.size next.1) ∙ told k (Found.Moved n) Action.CallDestination next.0 (λ x. absurd cc))
-                refl
-                (sound capacity _ w _ k acts l sources after),
-          )
+          let p : Pipe = at_first k acts' in
+          ahead k acts' (goes (took bytes) Action.CallDestination k k acts acts' next.0 (λ x. absurd cc)
+          (ap (λ (x : Destination). record p { destination = x }) (left-taken round n acts r.size next.1))
+          (ap (λ (x : Found). read_after capacity p.reader x) (found-taken round n acts r.size next.1) ∙ told k (Found.Moved n) Action.CallDestination next.0 (λ x. absurd cc))
+          refl
+          (sound capacity _ w _ k acts l sources after))
 
       pub fails : IsReaderNext capacity failed r → Fits capacity (reader_after capacity failed r) w s → ReaderLeads failed
       fails next after k acts =
           let round : ℕ = min (shown capacity r) MOST_A_ROUND in
           let acts' : List DestAct = DestAct.Fail ∷ acts in
-          let p : Pipe = at_first k acts' in (
-            k,
-            acts',
-            goes failed Action.CallDestination k k acts acts' next.0 (λ x. absurd cc)
-                (ap (λ (x : Destination). record p { destination = x }) (left-failed round acts r.size next.1))
-                (ap (λ (x : Found). read_after capacity p.reader x) (found-failed round acts r.size next.1) ∙ told k Found.Failed Action.CallDestination next.0 (λ x. absurd cc))
-                refl
-                (sound capacity _ w _ k acts l sources after),
-          )
+          let p : Pipe = at_first k acts' in
+          ahead k acts' (goes failed Action.CallDestination k k acts acts' next.0 (λ x. absurd cc)
+          (ap (λ (x : Destination). record p { destination = x }) (left-failed round acts r.size next.1))
+          (ap (λ (x : Found). read_after capacity p.reader x) (found-failed round acts r.size next.1) ∙ told k Found.Failed Action.CallDestination next.0 (λ x. absurd cc))
+          refl
+          (sound capacity _ w _ k acts l sources after))
 
       pub draws : (b : Bool) → IsReaderNext capacity (drew b) r → ReaderLeads (drew b)
       draws b next k acts =

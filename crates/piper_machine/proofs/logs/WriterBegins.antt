@@ -18,7 +18,7 @@ use Rattle.piper_machine.specs.logs.Writing.{IsWriterNext, WriterAt, writer_begu
 use Rattle.piper_machine.proofs.logs.Fitting.{length-lent, sound}
 use Rattle.piper_machine.proofs.logs.Joint.{MayLend, Chance, Fits, number_of, pipe_at}
 use Rattle.piper_machine.specs.Run.{Made}
-use Rattle.piper_machine.proofs.logs.Leading.{leads-fills, Leads, leads-both, leads-none, leads-step}
+use Rattle.piper_machine.proofs.logs.Leading.{ahead, leads-fills, Leads, leads-both, leads-none, leads-step}
 use Rattle.piper_machine.proofs.logs.ReaderOpens.{good-draw, within, writer-idle-same, below}
 use Rattle.piper_machine.proofs.logs.WriterOpens.{lends-these, closes-at, may-lend, number-is, shuts-at, stores-at}
 use Rattle.std.proofs.Math.Seq.{set-append_seam}
@@ -110,82 +110,58 @@ module _ (capacity : ℕ) (r : ReaderAt) (k : Chance) (acts : List DestAct) (w :
         leads-both capacity p q (lent_pipe l sources bytes 0) events [] first (puts l sources [] bytes rests within shut)
 
     pub begins : (opening : Opening) → IsWriterNext capacity (began opening) w → Fits capacity r (writer_begun opening w) s → WriterLeads capacity r k acts w s (began opening)
-    begins (polls waker) next after l sources = (
-      l,
-      sources,
-      opens l sources (polls waker) (Call.Poll Writer waker (new_luck l)) (Began Writer Kind.Poll (Some waker)) next refl
-          (ap (λ (x : Bool). unless x BadDraw) (good-draw l.draws)) refl
-          (λ lent. refl)
-          (λ lent. refl) after (λ lent q. tt),
-    )
-    begins (try_fills bytes) next after l sources = (
-      l,
-      sources,
-      opens l sources (try_fills bytes) (Call.TryFill bytes) (Began Writer Kind.TryFill None) next refl
-          refl refl
-          (λ lent. refl)
-          (λ lent. refl) after (λ lent q. tt),
-    )
+    begins (polls waker) next after l sources =
+        ahead l sources (opens l sources (polls waker) (Call.Poll Writer waker (new_luck l)) (Began Writer Kind.Poll (Some waker)) next refl
+        (ap (λ (x : Bool). unless x BadDraw) (good-draw l.draws)) refl
+        (λ lent. refl)
+        (λ lent. refl) after (λ lent q. tt))
+    begins (try_fills bytes) next after l sources =
+        ahead l sources (opens l sources (try_fills bytes) (Call.TryFill bytes) (Began Writer Kind.TryFill None) next refl
+        refl refl
+        (λ lent. refl)
+        (λ lent. refl) after (λ lent q. tt))
     begins try_fills_with next after l sources =
-        let mid : Pipe = pipe_at capacity r (writer_begun (try_fills []) w) s k acts l sources in (
-          l,
-          sources,
-          leads-fills capacity sources (at_first l sources) mid (Began Writer Kind.TryFill None ∷ []) (sound capacity r _ s k acts l sources after)
-              (opened l sources (try_fills []) (Call.TryFill []) (Began Writer Kind.TryFill None) next refl refl refl (λ lent. refl) (λ lent. refl) (λ lent q. tt)),
-        )
+        let mid : Pipe = pipe_at capacity r (writer_begun (try_fills []) w) s k acts l sources in
+        ahead l sources (leads-fills capacity sources (at_first l sources) mid (Began Writer Kind.TryFill None ∷ []) (sound capacity r _ s k acts l sources after)
+        (opened l sources (try_fills []) (Call.TryFill []) (Began Writer Kind.TryFill None) next refl refl refl (λ lent. refl) (λ lent. refl) (λ lent q. tt)))
     begins (poll_fills_bytes waker bytes) next after l sources =
-        let q : Pipe = pipe_at capacity r (writer_begun (poll_fills_bytes waker bytes) w) s k acts l sources in (
-          l,
-          sources,
-          opens l sources (poll_fills_bytes waker bytes) (Call.PollFillBytes waker (new_luck l) bytes) (Began Writer Kind.PollFillBytes (Some waker)) next refl
-              (ap (λ (x : Bool). unless x BadDraw) (good-draw l.draws)) refl
-              (λ lent. ap (λ (x : Bool). record q { writer = WritePoint.LookClosed (Copy (Polling x)) }) (number-is l.draws))
-              (λ lent. refl) after (λ lent q. tt),
-        )
+        let q : Pipe = pipe_at capacity r (writer_begun (poll_fills_bytes waker bytes) w) s k acts l sources in
+        ahead l sources (opens l sources (poll_fills_bytes waker bytes) (Call.PollFillBytes waker (new_luck l) bytes) (Began Writer Kind.PollFillBytes (Some waker)) next refl
+        (ap (λ (x : Bool). unless x BadDraw) (good-draw l.draws)) refl
+        (λ lent. ap (λ (x : Bool). record q { writer = WritePoint.LookClosed (Copy (Polling x)) }) (number-is l.draws))
+        (λ lent. refl) after (λ lent q. tt))
     begins (poll_fills waker) next after l sources =
-        let q : Pipe = pipe_at capacity r (writer_begun (poll_fills waker) w) s k acts l sources in (
-          l,
-          sources,
-          opens l sources (poll_fills waker) (Call.PollFill waker (new_luck l) sources) (Began Writer Kind.PollFill (Some waker)) next refl
-              (ap (λ (x : Bool). unless x BadDraw) (good-draw l.draws)) refl
-              (λ lent. ap (λ (x : Bool). record q { writer = WritePoint.LookClosed (Copy (Polling x)) }) (number-is l.draws))
-              (λ lent. refl) after (λ lent q. tt),
-        )
+        let q : Pipe = pipe_at capacity r (writer_begun (poll_fills waker) w) s k acts l sources in
+        ahead l sources (opens l sources (poll_fills waker) (Call.PollFill waker (new_luck l) sources) (Began Writer Kind.PollFill (Some waker)) next refl
+        (ap (λ (x : Bool). unless x BadDraw) (good-draw l.draws)) refl
+        (λ lent. ap (λ (x : Bool). record q { writer = WritePoint.LookClosed (Copy (Polling x)) }) (number-is l.draws))
+        (λ lent. refl) after (λ lent q. tt))
     begins closes next after l sources =
-        let p : Pipe = at_first l sources in (
-          l,
-          sources,
-          opens l sources closes Call.Close (Began Writer Kind.Close None) next refl
-              refl refl
-              (λ lent. ap (λ (x : WritePoint). record p { writer = x }) (shuts-at w.calling.draw l.draws))
-              (λ lent. refl) after (λ lent q. tt),
-        )
+        let p : Pipe = at_first l sources in
+        ahead l sources (opens l sources closes Call.Close (Began Writer Kind.Close None) next refl
+        refl refl
+        (λ lent. ap (λ (x : WritePoint). record p { writer = x }) (shuts-at w.calling.draw l.draws))
+        (λ lent. refl) after (λ lent q. tt))
     begins drops next after l sources =
-        let p : Pipe = at_first l sources in (
-          l,
-          sources,
-          opens l sources drops (Call.Drop Writer) (Began Writer Kind.Drop None) next refl
-              refl refl
-              (λ lent. ap (λ (x : WritePoint). record p { writer = x }) (closes-at w.calling.draw l.draws))
-              (λ lent. refl) after (λ lent q. tt),
-        )
+        let p : Pipe = at_first l sources in
+        ahead l sources (opens l sources drops (Call.Drop Writer) (Began Writer Kind.Drop None) next refl
+        refl refl
+        (λ lent. ap (λ (x : WritePoint). record p { writer = x }) (closes-at w.calling.draw l.draws))
+        (λ lent. refl) after (λ lent q. tt))
     begins (produces bytes) next after l sources =
         let given : WriterAt = record w { given = bytes; spare = 0 } in
         let mid : Pipe = pipe_at capacity r given s k acts l sources in
         let q : Pipe = pipe_at capacity r (writer_begun (produces bytes) w) s k acts l sources in
         let idle : mid.writer ≡ WritePoint.Idle = writer-idle-same w.calling.draw l.draws w.point next.0 in
-        let long : length bytes ≤ length mid.lent = omega (arith, length-lent given) in (
-          l,
-          sources,
-          leads-both capacity (at_first l sources) mid q (Began Writer Kind.WriteBuf None ∷ Answered Writer (Lent (length bytes)) ∷ []) (Began Writer Kind.Produced None ∷ [])
-              (lends bytes l sources next.0 (lends-these capacity (length bytes) w next.1))
-              (leads-step capacity (Begin (Call.Produced (length bytes))) mid q _ (sound capacity r _ s k acts l sources after) (λ before. record {
-                accepted = ap (λ (x : WritePoint). or_else (cannot_begin (writer_state x)) (past (Call.Produced (length bytes)) mid)) idle ∙ within (length bytes) (length mid.lent) PastLent long;
-                made = record {
-                  lent = tt;
-                  pipe = ap (λ (x : WritePoint). record mid { writer = x }) (stores-at w.calling.draw l.draws (length bytes));
-                  events = refl;
-                };
-              })),
-        )
+        let long : length bytes ≤ length mid.lent = omega (arith, length-lent given) in
+        ahead l sources (leads-both capacity (at_first l sources) mid q (Began Writer Kind.WriteBuf None ∷ Answered Writer (Lent (length bytes)) ∷ []) (Began Writer Kind.Produced None ∷ [])
+        (lends bytes l sources next.0 (lends-these capacity (length bytes) w next.1))
+        (leads-step capacity (Begin (Call.Produced (length bytes))) mid q _ (sound capacity r _ s k acts l sources after) (λ before. record {
+          accepted = ap (λ (x : WritePoint). or_else (cannot_begin (writer_state x)) (past (Call.Produced (length bytes)) mid)) idle ∙ within (length bytes) (length mid.lent) PastLent long;
+          made = record {
+            lent = tt;
+            pipe = ap (λ (x : WritePoint). record mid { writer = x }) (stores-at w.calling.draw l.draws (length bytes));
+            events = refl;
+          };
+        })))
     begins opening next after l sources = absurd next.1

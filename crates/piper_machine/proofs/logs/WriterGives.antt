@@ -14,7 +14,7 @@ use Rattle.piper_machine.specs.logs.Reading.{ReaderAt}
 use Rattle.piper_machine.specs.logs.Writing.{Source, own, IsWriterNext, MayGive, WriterAt, room_to, source_after, writer_after, writer_answered, lent_for, most_lent}
 use Rattle.piper_machine.proofs.logs.Fitting.{length-lent, sound}
 use Rattle.piper_machine.proofs.logs.Joint.{Gives, MayLend, Chance, Fits, lent_at, pipe_at, source_at}
-use Rattle.piper_machine.proofs.logs.Leading.{Leads}
+use Rattle.piper_machine.proofs.logs.Leading.{ahead, Leads}
 use Rattle.piper_machine.proofs.logs.WriterDraws.{action-same}
 use Rattle.piper_machine.proofs.logs.WriterOpens.{gives-so, lends-so, bytes-are, given-is, gives-none, gives-within, is-source, left-is, lends-none, may-lend, may-offer, offers}
 use Rattle.piper_machine.proofs.logs.WriterSteps.{WriterLeads, comes_to, goes, leads_to, told}
@@ -50,24 +50,18 @@ module _ (capacity : ℕ) (r : ReaderAt) (k : Chance) (acts : List DestAct) (w0 
 
     gives-nothing : (lent : ℕ) → MayLend capacity MOST_A_ROUND calls lent → Gives lent calls.source [] → Fits capacity r (writer_after capacity (gave []) calls) s → WriterLeads capacity r k acts calls s (gave [])
     gives-nothing lent lendable may after l sources =
-        let none = gives-none lent calls.source may in (
-          l,
-          [],
-          ends-round (Found.Moved 0) l [] refl (ap found_of none) (ap moved_by none)
-              (λ b bs rest e. subst (Lendable MOST_A_ROUND (before_call l [])) (lends-none lent calls.source b bs rest may e) (may-lend capacity r calls s k acts l [] fits MOST_A_ROUND lent lendable))
-              after,
-        )
+        let none = gives-none lent calls.source may in
+        ahead l [] (ends-round (Found.Moved 0) l [] refl (ap found_of none) (ap moved_by none)
+        (λ b bs rest e. subst (Lendable MOST_A_ROUND (before_call l [])) (lends-none lent calls.source b bs rest may e) (may-lend capacity r calls s k acts l [] fits MOST_A_ROUND lent lendable))
+        after)
 
     fails-now : calls.source ≡ own → Fits capacity r (writer_after capacity failed calls) s → WriterLeads capacity r k acts calls s failed
     fails-now e after l sources =
         let fail : List SourceAct = SourceAct.Fail ∷ [] in
-        let is : (before_call l fail).source ≡ fail = ap (λ (x : Source). source_at x fail) e in (
-          l,
-          fail,
-          ends-round Found.Failed l fail refl (ap (λ (x : List SourceAct). found_of (given 0 x)) is) (ap (λ (x : List SourceAct). moved_by (given 0 x)) is)
-              (λ b bs rest other. absurd (let no : fail ≡ SourceAct.Bytes (b ∷ bs) ∷ rest = sym is ∙ other in cc))
-              after,
-        )
+        let is : (before_call l fail).source ≡ fail = ap (λ (x : Source). source_at x fail) e in
+        ahead l fail (ends-round Found.Failed l fail refl (ap (λ (x : List SourceAct). found_of (given 0 x)) is) (ap (λ (x : List SourceAct). moved_by (given 0 x)) is)
+        (λ b bs rest other. absurd (let no : fail ≡ SourceAct.Bytes (b ∷ bs) ∷ rest = sym is ∙ other in cc))
+        after)
 
     gives-some : (bytes : List ℕ) → (length bytes == 0) ≡ false → MayLend capacity MOST_A_ROUND calls (lent_for (most_lent capacity calls) calls.source (length bytes)) → Gives (lent_for (most_lent capacity calls) calls.source (length bytes)) calls.source bytes → Fits capacity r (writer_after capacity (gave bytes) calls) s → WriterLeads capacity r k acts calls s (gave bytes)
     gives-some bytes some lendable may after l sources =
@@ -82,21 +76,18 @@ module _ (capacity : ℕ) (r : ReaderAt) (k : Chance) (acts : List DestAct) (w0 
         let within : n ≤ lent = gives-within lent calls.source bytes may in
         let long : length (bytes ++ spare) ≡ lent = length-lent v ∙ (let e : n + (lent - n) ≡ lent = omega arith in e) in
         let here : write_action p.writer ≡ Action.CallSource = action-same calls.calling.draw l.draws calls.point in
-        let gives : given (length (bytes ++ spare)) p.source ≡ Ok n = ap (λ (x : ℕ). given x p.source) long ∙ given-is lent sources bytes calls.source may in (
-          l,
-          sources',
-          goes capacity r k acts calls s v s (Found.Moved n) [] (bytes ++ spare) Action.CallSource l l sources sources' refl (λ x. absurd cc)
-              (offers p.writer _ p.lent here ∙ qlent)
-              (may-offer p.writer p.source _ p (λ b bs rest e. subst (Lendable MOST_A_ROUND p) (sym (ap length qlent ∙ long)) (may-lend capacity r calls s k acts l sources' fits MOST_A_ROUND lent lendable)))
-              (ap (λ (m : ℕ). record p { lent = take m (bytes_of p.source) ++ drop m (bytes ++ spare); source = left_of_source m p.source }) (ap moved_by gives)
-              ∙ ap (λ (x : List ℕ). record p { lent = x ++ drop n (bytes ++ spare); source = left_of_source n p.source }) (bytes-are lent sources bytes calls.source may)
-              ∙ ap (λ (x : List ℕ). record p { lent = bytes ++ x; source = left_of_source n p.source }) (drop-append_seam bytes spare)
-              ∙ ap (λ (x : List SourceAct). record p { lent = bytes ++ spare; source = x }) (left-is lent sources bytes calls.source))
-              (ap (λ (x : Result ℕ Failed). write_after capacity (room_to capacity calls) p.writer (found_of x)) gives
-              ∙ told capacity r k acts calls s l (Found.Moved n) Action.CallSource refl (λ x. absurd cc))
-              refl
-              (sound capacity r _ s k acts l sources after),
-        )
+        let gives : given (length (bytes ++ spare)) p.source ≡ Ok n = ap (λ (x : ℕ). given x p.source) long ∙ given-is lent sources bytes calls.source may in
+        ahead l sources' (goes capacity r k acts calls s v s (Found.Moved n) [] (bytes ++ spare) Action.CallSource l l sources sources' refl (λ x. absurd cc)
+        (offers p.writer _ p.lent here ∙ qlent)
+        (may-offer p.writer p.source _ p (λ b bs rest e. subst (Lendable MOST_A_ROUND p) (sym (ap length qlent ∙ long)) (may-lend capacity r calls s k acts l sources' fits MOST_A_ROUND lent lendable)))
+        (ap (λ (m : ℕ). record p { lent = take m (bytes_of p.source) ++ drop m (bytes ++ spare); source = left_of_source m p.source }) (ap moved_by gives)
+        ∙ ap (λ (x : List ℕ). record p { lent = x ++ drop n (bytes ++ spare); source = left_of_source n p.source }) (bytes-are lent sources bytes calls.source may)
+        ∙ ap (λ (x : List ℕ). record p { lent = bytes ++ x; source = left_of_source n p.source }) (drop-append_seam bytes spare)
+        ∙ ap (λ (x : List SourceAct). record p { lent = bytes ++ spare; source = x }) (left-is lent sources bytes calls.source))
+        (ap (λ (x : Result ℕ Failed). write_after capacity (room_to capacity calls) p.writer (found_of x)) gives
+        ∙ told capacity r k acts calls s l (Found.Moved n) Action.CallSource refl (λ x. absurd cc))
+        refl
+        (sound capacity r _ s k acts l sources after))
 
     gives-any : (t : Bool) (bytes : List ℕ) → (length bytes == 0) ≡ t → MayGive (most_lent capacity calls) calls.source bytes → Fits capacity r (writer_after capacity (gave bytes) calls) s → WriterLeads capacity r k acts calls s (gave bytes)
     gives-any false bytes e may after = gives-some bytes e (lends-so capacity calls bytes calls.source may) (gives-so capacity calls bytes calls.source may) after

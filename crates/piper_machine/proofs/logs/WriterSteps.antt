@@ -20,7 +20,7 @@ use Rattle.piper_machine.proofs.logs.Contexts.{none-of, registers, grants, repor
 use Rattle.piper_machine.proofs.logs.ReaderOpens.{writer-idle-same}
 use Rattle.piper_machine.proofs.logs.Fitting.{sound}
 use Rattle.piper_machine.proofs.logs.Joint.{Chance, Fits, context_with, luck_of, number_of, pipe_at, settled, writer_drawn, writer_point}
-use Rattle.piper_machine.proofs.logs.Leading.{Leads, LeadsBy, leads-learned, leads-none, leads-step, leads-withdrawn}
+use Rattle.piper_machine.proofs.logs.Leading.{ahead, Leads, LeadsBy, leads-learned, leads-none, leads-step, leads-withdrawn}
 use Rattle.piper_machine.proofs.logs.WriterDraws.{action-same, ends-at, fill-same, leaves-lent, next-same, offers-none, stays, writer_next}
 use Rattle.piper_machine.proofs.logs.WriterDraws as W
 use Rattle.piper_machine.proofs.logs.WriterOpens.{may-go, shuts, shuts-not}
@@ -130,38 +130,29 @@ module _ (capacity : ℕ) (r : ReaderAt) (k : Chance) (acts : List DestAct) wher
       pub loads-head : (count : ℕ) → IsWriterNext capacity (loaded_head count) w → Finds (loaded_head count) s → Fits capacity r (writer_after capacity (loaded_head count) w) s → WriterLeads (loaded_head count)
       loads-head count e finds after l sources =
           let p : Pipe = at_first l sources in
-          let count_is : length (drop s.head s.sent) ≡ w.tail - count = omega (arith, unread, fits.counts.writes) in (
-            l,
-            sources,
-            keeps (loaded_head count) Action.LoadIndex l l sources sources e (λ x. absurd cc) (λ x. absurd cc)
-                (ap (λ (n : ℕ). record p { room = capacity - n }) count_is)
-                (ap (λ (n : ℕ). write_after capacity (room_to capacity w) p.writer (Found.IndexLoaded (capacity - n == 0))) count_is ∙ told l (Found.IndexLoaded (capacity - (w.tail - count) == 0)) Action.LoadIndex e (λ x. absurd cc))
-                (ap (λ (n : ℕ). Looked Writer (Seen.Head n) ∷ []) count_is)
-                (sound capacity r _ s k acts l sources after),
-          )
+          let count_is : length (drop s.head s.sent) ≡ w.tail - count = omega (arith, unread, fits.counts.writes) in
+          ahead l sources (keeps (loaded_head count) Action.LoadIndex l l sources sources e (λ x. absurd cc) (λ x. absurd cc)
+          (ap (λ (n : ℕ). record p { room = capacity - n }) count_is)
+          (ap (λ (n : ℕ). write_after capacity (room_to capacity w) p.writer (Found.IndexLoaded (capacity - n == 0))) count_is ∙ told l (Found.IndexLoaded (capacity - (w.tail - count) == 0)) Action.LoadIndex e (λ x. absurd cc))
+          (ap (λ (n : ℕ). Looked Writer (Seen.Head n) ∷ []) count_is)
+          (sound capacity r _ s k acts l sources after))
 
       pub learns-head : (count : ℕ) → IsWriterNext capacity (met_head count) w → Finds (met_head count) s → Fits capacity r (writer_after capacity (met_head count) w) s → WriterLeads (met_head count)
       learns-head count e finds after l sources =
           let p : Pipe = at_first l sources in
           let q : Pipe = pipe_at capacity r (writer_after capacity (met_head count) w) s k acts l sources in
-          let same : record p { room = capacity - length p.unread } ≡ q = ap (λ (n : ℕ). record p { room = capacity - n }) (let count_is : length (drop s.head s.sent) ≡ w.tail - count = omega (arith, unread, fits.counts.writes) in count_is) in (
-            l,
-            sources,
-            subst (λ (x : Pipe). LeadsBy true capacity p x []) same
-                (leads-learned capacity Writer p (subst IsSound (sym same) (sound capacity r _ s k acts l sources after)) (writer-idle-same w.calling.draw l.draws w.point e)),
-          )
+          let same : record p { room = capacity - length p.unread } ≡ q = ap (λ (n : ℕ). record p { room = capacity - n }) (let count_is : length (drop s.head s.sent) ≡ w.tail - count = omega (arith, unread, fits.counts.writes) in count_is) in
+          ahead l sources (subst (λ (x : Pipe). LeadsBy true capacity p x []) same
+          (leads-learned capacity Writer p (subst IsSound (sym same) (sound capacity r _ s k acts l sources after)) (writer-idle-same w.calling.draw l.draws w.point e)))
 
       pub loads-closed : (b : Bool) → IsWriterNext capacity (loaded_closed b) w → Finds (loaded_closed b) s → Fits capacity r (writer_after capacity (loaded_closed b) w) s → WriterLeads (loaded_closed b)
       loads-closed b e finds after l sources =
-          let p : Pipe = at_first l sources in (
-            l,
-            sources,
-            keeps (loaded_closed b) Action.LoadClosed l l sources sources e (λ x. absurd cc) (λ x. absurd cc)
-                refl
-                (ap (λ (x : Bool). write_after capacity (room_to capacity w) p.writer (Found.Flag x)) (sym finds) ∙ told l (Found.Flag b) Action.LoadClosed e (λ x. absurd cc))
-                (ap (λ (x : Bool). Looked Writer (Seen.Closed x) ∷ []) (sym finds))
-                (sound capacity r _ s k acts l sources after),
-          )
+          let p : Pipe = at_first l sources in
+          ahead l sources (keeps (loaded_closed b) Action.LoadClosed l l sources sources e (λ x. absurd cc) (λ x. absurd cc)
+          refl
+          (ap (λ (x : Bool). write_after capacity (room_to capacity w) p.writer (Found.Flag x)) (sym finds) ∙ told l (Found.Flag b) Action.LoadClosed e (λ x. absurd cc))
+          (ap (λ (x : Bool). Looked Writer (Seen.Closed x) ∷ []) (sym finds))
+          (sound capacity r _ s k acts l sources after))
 
       pub stores-tail : (bytes : List ℕ) → IsWriterNext capacity (stored_tail bytes) w → Fits capacity r (writer_after capacity (stored_tail bytes) w) (words_after (stored_tail bytes) s) → WriterLeads (stored_tail bytes)
       stores-tail bytes next after l sources =
@@ -171,62 +162,50 @@ module _ (capacity : ℕ) (r : ReaderAt) (k : Chance) (acts : List DestAct) wher
           let front : take n (w.given ++ spare) ≡ bytes = ap (λ (x : List ℕ). take n (x ++ spare)) (sym next.1) ∙ take-append_seam bytes spare in
           let rest : drop n (w.given ++ spare) ≡ spare = ap (λ (x : List ℕ). drop n (x ++ spare)) (sym next.1) ∙ drop-append_seam bytes spare in
           let more : drop s.head s.sent ++ bytes ≡ drop s.head (s.sent ++ bytes) = sym (drop-append-le s.head s.sent bytes (omega (arith, fits.counts.reads, fits.counts.reader_head, fits.counts.reader_tail))) in
-          let less : capacity - (w.tail - w.head) - n ≡ capacity - (w.tail + n - w.head) = omega (arith, fits.counts.writes, fits.counts.writer_head, fits.counts.reads, fits.counts.reader_head, fits.counts.reader_tail) in (
-            l,
-            sources,
-            keeps (stored_tail bytes) (Action.StoreTail (length bytes)) l l sources sources next.0 (λ x. absurd cc) (λ x. absurd cc)
-                (ap (λ (x : List ℕ). record p { unread = drop s.head s.sent ++ x; room = capacity - (w.tail - w.head) - n; lent = drop n (w.given ++ spare) }) front
-                ∙ ap (λ (x : List ℕ). record p { unread = drop s.head s.sent ++ bytes; room = capacity - (w.tail - w.head) - n; lent = x }) rest
-                ∙ ap (λ (x : List ℕ). record p { unread = x; room = capacity - (w.tail - w.head) - n; lent = spare }) more
-                ∙ ap (λ (x : ℕ). record p { unread = drop s.head (s.sent ++ bytes); room = x; lent = spare }) less)
-                (told l Found.Nothing (Action.StoreTail n) next.0 (λ x. absurd cc))
-                (ap (λ (x : List ℕ). Published x ∷ []) front)
-                (sound capacity r _ _ k acts l sources after),
-          )
+          let less : capacity - (w.tail - w.head) - n ≡ capacity - (w.tail + n - w.head) = omega (arith, fits.counts.writes, fits.counts.writer_head, fits.counts.reads, fits.counts.reader_head, fits.counts.reader_tail) in
+          ahead l sources (keeps (stored_tail bytes) (Action.StoreTail (length bytes)) l l sources sources next.0 (λ x. absurd cc) (λ x. absurd cc)
+          (ap (λ (x : List ℕ). record p { unread = drop s.head s.sent ++ x; room = capacity - (w.tail - w.head) - n; lent = drop n (w.given ++ spare) }) front
+          ∙ ap (λ (x : List ℕ). record p { unread = drop s.head s.sent ++ bytes; room = capacity - (w.tail - w.head) - n; lent = x }) rest
+          ∙ ap (λ (x : List ℕ). record p { unread = x; room = capacity - (w.tail - w.head) - n; lent = spare }) more
+          ∙ ap (λ (x : ℕ). record p { unread = drop s.head (s.sent ++ bytes); room = x; lent = spare }) less)
+          (told l Found.Nothing (Action.StoreTail n) next.0 (λ x. absurd cc))
+          (ap (λ (x : List ℕ). Published x ∷ []) front)
+          (sound capacity r _ _ k acts l sources after))
 
       pub stores-closed : IsWriterNext capacity stored_closed w → Fits capacity r (writer_after capacity stored_closed w) (words_after stored_closed s) → WriterLeads stored_closed
-      stores-closed next after l sources = (
-        l,
-        sources,
-        elim next [
-          | inl e ↦ keeps stored_closed (Action.StoreClosed false) l l sources sources e (λ x. absurd cc) (λ x. absurd cc)
-              (ap (λ (v : WriterAt). record (pipe_at capacity r (record v { point = w.point; calling = w.calling; may_wait = w.may_wait }) (words_after stored_closed s) k acts l sources) { writer = (at_first l sources).writer }) (sym (shuts-not w.point w e)))
-              (told l Found.Nothing (Action.StoreClosed false) e (λ x. absurd cc))
-              refl
-              (sound capacity r _ _ k acts l sources after)
-          | inr e ↦ keeps stored_closed (Action.StoreClosed true) l l sources sources e (λ x. absurd cc) (λ x. absurd cc)
-              (ap (λ (v : WriterAt). record (pipe_at capacity r (record v { point = w.point; calling = w.calling; may_wait = w.may_wait }) (words_after stored_closed s) k acts l sources) { writer = (at_first l sources).writer }) (sym (shuts w.point w e)))
-              (told l Found.Nothing (Action.StoreClosed true) e (λ x. absurd cc))
-              refl
-              (sound capacity r _ _ k acts l sources after)
-        ],
-      )
+      stores-closed next after l sources =
+          ahead l sources (elim next [
+            | inl e ↦ keeps stored_closed (Action.StoreClosed false) l l sources sources e (λ x. absurd cc) (λ x. absurd cc)
+                (ap (λ (v : WriterAt). record (pipe_at capacity r (record v { point = w.point; calling = w.calling; may_wait = w.may_wait }) (words_after stored_closed s) k acts l sources) { writer = (at_first l sources).writer }) (sym (shuts-not w.point w e)))
+                (told l Found.Nothing (Action.StoreClosed false) e (λ x. absurd cc))
+                refl
+                (sound capacity r _ _ k acts l sources after)
+            | inr e ↦ keeps stored_closed (Action.StoreClosed true) l l sources sources e (λ x. absurd cc) (λ x. absurd cc)
+                (ap (λ (v : WriterAt). record (pipe_at capacity r (record v { point = w.point; calling = w.calling; may_wait = w.may_wait }) (words_after stored_closed s) k acts l sources) { writer = (at_first l sources).writer }) (sym (shuts w.point w e)))
+                (told l Found.Nothing (Action.StoreClosed true) e (λ x. absurd cc))
+                refl
+                (sound capacity r _ _ k acts l sources after)
+          ])
 
       finds-none : (side : Side) → IsToEmpty side w → Finds (loaded_slot side false) s → Empties (Action.Take side) (loaded_slot side false)
       finds-none Reader next finds after l sources =
           let p : Pipe = at_first l sources in
-          let none : s.reader_slot ≡ None = none-of s.reader_slot finds in (
-            l,
-            sources,
-            keeps (loaded_slot Reader false) (Action.Take Reader) l l sources sources next.0 (λ x. absurd cc) (λ x. absurd cc)
-                (ap (λ (x : Option ℕ). record p { writer_call = record p.writer_call { taken = x }; reader_waker = None }) none
-                ∙ ap (λ (x : Option ℕ). record p { writer_call = record p.writer_call { taken = None }; reader_waker = x }) (sym none))
-                (ap (λ (x : Bool). write_after capacity (room_to capacity w) p.writer (Found.Waker x)) (sym finds) ∙ told l (Found.Waker false) (Action.Take Reader) next.0 (λ x. next.1))
-                refl
-                (sound capacity r _ _ k acts l sources after),
-          )
+          let none : s.reader_slot ≡ None = none-of s.reader_slot finds in
+          ahead l sources (keeps (loaded_slot Reader false) (Action.Take Reader) l l sources sources next.0 (λ x. absurd cc) (λ x. absurd cc)
+          (ap (λ (x : Option ℕ). record p { writer_call = record p.writer_call { taken = x }; reader_waker = None }) none
+          ∙ ap (λ (x : Option ℕ). record p { writer_call = record p.writer_call { taken = None }; reader_waker = x }) (sym none))
+          (ap (λ (x : Bool). write_after capacity (room_to capacity w) p.writer (Found.Waker x)) (sym finds) ∙ told l (Found.Waker false) (Action.Take Reader) next.0 (λ x. next.1))
+          refl
+          (sound capacity r _ _ k acts l sources after))
       finds-none Writer next finds after l sources =
           let p : Pipe = at_first l sources in
-          let none : s.writer_slot ≡ None = none-of s.writer_slot finds in (
-            l,
-            sources,
-            keeps (loaded_slot Writer false) (Action.Take Writer) l l sources sources next.0 (λ x. absurd cc) (λ x. absurd cc)
-                (ap (λ (x : Option ℕ). record p { writer_call = record p.writer_call { taken = x }; writer_waker = None }) none
-                ∙ ap (λ (x : Option ℕ). record p { writer_call = record p.writer_call { taken = None }; writer_waker = x }) (sym none))
-                (ap (λ (x : Bool). write_after capacity (room_to capacity w) p.writer (Found.Waker x)) (sym finds) ∙ told l (Found.Waker false) (Action.Take Writer) next.0 (λ x. next.1))
-                refl
-                (sound capacity r _ _ k acts l sources after),
-          )
+          let none : s.writer_slot ≡ None = none-of s.writer_slot finds in
+          ahead l sources (keeps (loaded_slot Writer false) (Action.Take Writer) l l sources sources next.0 (λ x. absurd cc) (λ x. absurd cc)
+          (ap (λ (x : Option ℕ). record p { writer_call = record p.writer_call { taken = x }; writer_waker = None }) none
+          ∙ ap (λ (x : Option ℕ). record p { writer_call = record p.writer_call { taken = None }; writer_waker = x }) (sym none))
+          (ap (λ (x : Bool). write_after capacity (room_to capacity w) p.writer (Found.Waker x)) (sym finds) ∙ told l (Found.Waker false) (Action.Take Writer) next.0 (λ x. next.1))
+          refl
+          (sound capacity r _ _ k acts l sources after))
 
       -- before it registers, the writer finds its slot empty
       finds-own-empty : (side : Side) → MayWithdraw side w → Empties Action.Register (loaded_slot side false)
@@ -243,61 +222,46 @@ module _ (capacity : ℕ) (r : ReaderAt) (k : Chance) (acts : List DestAct) wher
       pub knows-empty : IsWriterNext capacity knew_empty w → Fits capacity r (writer_after capacity knew_empty w) s → WriterLeads knew_empty
       knows-empty next after l sources =
           let p : Pipe = at_first l sources in
-          let none : s.writer_slot ≡ None = fits.shares.writer_rests next.2 in (
-            l,
-            sources,
-            keeps knew_empty (Action.Take Writer) l l sources sources next.0 (λ x. absurd cc) (λ x. absurd cc)
-                (ap (λ (x : Option ℕ). record p { writer_call = record p.writer_call { taken = x }; writer_waker = None }) none
-                ∙ ap (λ (x : Option ℕ). record p { writer_call = record p.writer_call { taken = None }; writer_waker = x }) (sym none))
-                (ap (λ (x : Option ℕ). write_after capacity (room_to capacity w) p.writer (Found.Waker (is_some x))) none ∙ told l (Found.Waker false) (Action.Take Writer) next.0 (λ x. next.1))
-                refl
-                (sound capacity r _ _ k acts l sources after),
-          )
+          let none : s.writer_slot ≡ None = fits.shares.writer_rests next.2 in
+          ahead l sources (keeps knew_empty (Action.Take Writer) l l sources sources next.0 (λ x. absurd cc) (λ x. absurd cc)
+          (ap (λ (x : Option ℕ). record p { writer_call = record p.writer_call { taken = x }; writer_waker = None }) none
+          ∙ ap (λ (x : Option ℕ). record p { writer_call = record p.writer_call { taken = None }; writer_waker = x }) (sym none))
+          (ap (λ (x : Option ℕ). write_after capacity (room_to capacity w) p.writer (Found.Waker (is_some x))) none ∙ told l (Found.Waker false) (Action.Take Writer) next.0 (λ x. next.1))
+          refl
+          (sound capacity r _ _ k acts l sources after))
 
       pub finds-filled : (side : Side) → WriterLeads (loaded_slot side true)
       finds-filled side l sources = (l, sources, leads-none capacity (at_first l sources))
 
       takes-out : (side : Side) (old : Option ℕ) → IsToEmpty side w → Finds (swapped side old None) s → Empties (Action.Take side) (swapped side old None)
       takes-out Reader old next finds after l sources =
-          let p : Pipe = at_first l sources in (
-            l,
-            sources,
-            keeps (swapped Reader old None) (Action.Take Reader) l l sources sources next.0 (λ x. absurd cc) (λ x. absurd cc)
-                (ap (λ (x : Option ℕ). record p { writer_call = record p.writer_call { taken = x }; reader_waker = None }) (sym finds))
-                (ap (λ (x : Option ℕ). write_after capacity (room_to capacity w) p.writer (Found.Waker (is_some x))) (sym finds) ∙ told l (Found.Waker (is_some old)) (Action.Take Reader) next.0 (λ x. next.1))
-                refl
-                (sound capacity r _ _ k acts l sources after),
-          )
+          let p : Pipe = at_first l sources in
+          ahead l sources (keeps (swapped Reader old None) (Action.Take Reader) l l sources sources next.0 (λ x. absurd cc) (λ x. absurd cc)
+          (ap (λ (x : Option ℕ). record p { writer_call = record p.writer_call { taken = x }; reader_waker = None }) (sym finds))
+          (ap (λ (x : Option ℕ). write_after capacity (room_to capacity w) p.writer (Found.Waker (is_some x))) (sym finds) ∙ told l (Found.Waker (is_some old)) (Action.Take Reader) next.0 (λ x. next.1))
+          refl
+          (sound capacity r _ _ k acts l sources after))
       takes-out Writer old next finds after l sources =
-          let p : Pipe = at_first l sources in (
-            l,
-            sources,
-            keeps (swapped Writer old None) (Action.Take Writer) l l sources sources next.0 (λ x. absurd cc) (λ x. absurd cc)
-                (ap (λ (x : Option ℕ). record p { writer_call = record p.writer_call { taken = x }; writer_waker = None }) (sym finds))
-                (ap (λ (x : Option ℕ). write_after capacity (room_to capacity w) p.writer (Found.Waker (is_some x))) (sym finds) ∙ told l (Found.Waker (is_some old)) (Action.Take Writer) next.0 (λ x. next.1))
-                refl
-                (sound capacity r _ _ k acts l sources after),
-          )
+          let p : Pipe = at_first l sources in
+          ahead l sources (keeps (swapped Writer old None) (Action.Take Writer) l l sources sources next.0 (λ x. absurd cc) (λ x. absurd cc)
+          (ap (λ (x : Option ℕ). record p { writer_call = record p.writer_call { taken = x }; writer_waker = None }) (sym finds))
+          (ap (λ (x : Option ℕ). write_after capacity (room_to capacity w) p.writer (Found.Waker (is_some x))) (sym finds) ∙ told l (Found.Waker (is_some old)) (Action.Take Writer) next.0 (λ x. next.1))
+          refl
+          (sound capacity r _ _ k acts l sources after))
 
       -- before it registers, the writer takes its waker out, or finds none
       withdraws-own : (side : Side) (old : Option ℕ) → MayWithdraw side w → Finds (swapped side old None) s → Empties Action.Register (swapped side old None)
       withdraws-own Reader old may finds after l sources = absurd (let no : Reader ≡ Writer = may.0 in cc)
       withdraws-own Writer None may finds after l sources =
           let p : Pipe = at_first l sources in
-          let q : Pipe = record p { writer_waker = None } in (
-            l,
-            sources,
-            subst (λ (es : List Event). Leads capacity p q es) (sym (stays capacity (room_to capacity w) w.point false may.1))
-                (subst (λ (x : Option ℕ). Leads capacity p (record p { writer_waker = x }) []) (sym finds) (leads-none capacity p)),
-          )
+          let q : Pipe = record p { writer_waker = None } in
+          ahead l sources (subst (λ (es : List Event). Leads capacity p q es) (sym (stays capacity (room_to capacity w) w.point false may.1))
+          (subst (λ (x : Option ℕ). Leads capacity p (record p { writer_waker = x }) []) (sym finds) (leads-none capacity p)))
       withdraws-own Writer (Some waker) may finds after l sources =
           let p : Pipe = at_first l sources in
-          let q : Pipe = record p { writer_waker = None } in (
-            l,
-            sources,
-            subst (λ (es : List Event). LeadsBy true capacity p q es) (sym (stays capacity (room_to capacity w) w.point true may.1))
-                (leads-withdrawn capacity Writer p (sound capacity r _ _ k acts l sources after) (action-same w.calling.draw l.draws w.point ∙ may.1)),
-          )
+          let q : Pipe = record p { writer_waker = None } in
+          ahead l sources (subst (λ (es : List Event). LeadsBy true capacity p q es) (sym (stays capacity (room_to capacity w) w.point true may.1))
+          (leads-withdrawn capacity Writer p (sound capacity r _ _ k acts l sources after) (action-same w.calling.draw l.draws w.point ∙ may.1)))
 
       pub takes : (side : Side) (old : Option ℕ) → IsWriterNext capacity (swapped side old None) w → Finds (swapped side old None) s → Fits capacity r (writer_after capacity (swapped side old None) w) (words_after (swapped side old None) s) → WriterLeads (swapped side old None)
       takes side old next finds = elim next [
@@ -311,55 +275,43 @@ module _ (capacity : ℕ) (r : ReaderAt) (k : Chance) (acts : List DestAct) wher
           let l' : Chance = record l { registers = true } in
           let p : Pipe = at_first l' sources in
           let granted : settled w.calling.granted true ≡ true = ap (λ (g : Option Bool). settled g true) next.3 in
-          let luck : Luck = luck_of w.calling l' in (
-            l',
-            sources,
-            keeps (swapped Writer old (Some waker)) Action.Register l l' sources sources next.1 (λ x. absurd cc) (λ x. absurd cc)
-                (ap (λ (x : Option ℕ). record p { writer_waker = x }) (registers w.calling.handed luck waker next.2 s.writer_slot granted)
-                ∙ ap (λ (x : Bool). record p { writer_waker = Some waker; writer_call = record { context = context_with w.calling.handed (record luck { register_granted = x }); taken = w.calling.taken } }) granted)
-                (ap (λ (x : Bool). write_after capacity (room_to capacity w) p.writer (Found.Granted x)) (grants w.calling.handed luck waker next.2 granted) ∙ told l (Found.Granted true) Action.Register next.1 (λ x. absurd cc))
-                (reports w.calling.handed luck waker next.2 Writer granted)
-                (sound capacity r _ _ k acts l sources after),
-          )
+          let luck : Luck = luck_of w.calling l' in
+          ahead l' sources (keeps (swapped Writer old (Some waker)) Action.Register l l' sources sources next.1 (λ x. absurd cc) (λ x. absurd cc)
+          (ap (λ (x : Option ℕ). record p { writer_waker = x }) (registers w.calling.handed luck waker next.2 s.writer_slot granted)
+          ∙ ap (λ (x : Bool). record p { writer_waker = Some waker; writer_call = record { context = context_with w.calling.handed (record luck { register_granted = x }); taken = w.calling.taken } }) granted)
+          (ap (λ (x : Bool). write_after capacity (room_to capacity w) p.writer (Found.Granted x)) (grants w.calling.handed luck waker next.2 granted) ∙ told l (Found.Granted true) Action.Register next.1 (λ x. absurd cc))
+          (reports w.calling.handed luck waker next.2 Writer granted)
+          (sound capacity r _ _ k acts l sources after))
 
       pub refuses-own : IsWriterNext capacity refused w → Fits capacity r (writer_after capacity refused w) s → WriterLeads refused
       refuses-own next after l sources =
           let l' : Chance = record l { registers = false } in
           let p : Pipe = at_first l' sources in
           let granted : settled w.calling.granted false ≡ false = ap (λ (g : Option Bool). settled g false) next.1 in
-          let luck : Luck = luck_of w.calling l' in (
-            l',
-            sources,
-            keeps refused Action.Register l l' sources sources next.0 (λ x. absurd cc) (λ x. absurd cc)
-                (ap (λ (x : Option ℕ). record p { writer_waker = x }) (registers-none w.calling.handed luck granted s.writer_slot)
-                ∙ ap (λ (x : Bool). record p { writer_call = record { context = context_with w.calling.handed (record luck { register_granted = x }); taken = w.calling.taken } }) granted)
-                (ap (λ (x : Bool). write_after capacity (room_to capacity w) p.writer (Found.Granted x)) (refuses w.calling.handed luck granted) ∙ told l (Found.Granted false) Action.Register next.0 (λ x. absurd cc))
-                (reports-none w.calling.handed luck granted Writer)
-                (sound capacity r _ _ k acts l sources after),
-          )
+          let luck : Luck = luck_of w.calling l' in
+          ahead l' sources (keeps refused Action.Register l l' sources sources next.0 (λ x. absurd cc) (λ x. absurd cc)
+          (ap (λ (x : Option ℕ). record p { writer_waker = x }) (registers-none w.calling.handed luck granted s.writer_slot)
+          ∙ ap (λ (x : Bool). record p { writer_call = record { context = context_with w.calling.handed (record luck { register_granted = x }); taken = w.calling.taken } }) granted)
+          (ap (λ (x : Bool). write_after capacity (room_to capacity w) p.writer (Found.Granted x)) (refuses w.calling.handed luck granted) ∙ told l (Found.Granted false) Action.Register next.0 (λ x. absurd cc))
+          (reports-none w.calling.handed luck granted Writer)
+          (sound capacity r _ _ k acts l sources after))
 
       pub yields-own : (waker : ℕ) → IsWriterNext capacity (yielded waker) w → Fits capacity r (writer_after capacity (yielded waker) w) s → WriterLeads (yielded waker)
       yields-own waker next after l sources =
-          let p : Pipe = at_first l sources in (
-            l,
-            sources,
-            keeps (yielded waker) Action.Yield l l sources sources next.0 (λ x. absurd cc) (λ x. absurd cc)
-                refl
-                (ap (λ (x : Bool). write_after capacity (room_to capacity w) p.writer (Found.Granted x)) (yields w.calling.handed (luck_of w.calling l) waker next.1 refl) ∙ told l (Found.Granted true) Action.Yield next.0 (λ x. absurd cc))
-                (reports-yield w.calling.handed (luck_of w.calling l) waker next.1 refl)
-                (sound capacity r _ _ k acts l sources after),
-          )
+          let p : Pipe = at_first l sources in
+          ahead l sources (keeps (yielded waker) Action.Yield l l sources sources next.0 (λ x. absurd cc) (λ x. absurd cc)
+          refl
+          (ap (λ (x : Bool). write_after capacity (room_to capacity w) p.writer (Found.Granted x)) (yields w.calling.handed (luck_of w.calling l) waker next.1 refl) ∙ told l (Found.Granted true) Action.Yield next.0 (λ x. absurd cc))
+          (reports-yield w.calling.handed (luck_of w.calling l) waker next.1 refl)
+          (sound capacity r _ _ k acts l sources after))
 
       pub wakes : (waker : ℕ) → IsWriterNext capacity (woke waker) w → Fits capacity r (writer_after capacity (woke waker) w) s → WriterLeads (woke waker)
-      wakes waker next after l sources = (
-        l,
-        sources,
-        keeps (woke waker) Action.Wake l l sources sources next.0 (λ x. absurd cc) (λ x. absurd cc)
-            refl
-            (told l Found.Nothing Action.Wake next.0 (λ x. absurd cc))
-            (reports-wake w.calling.taken (luck_of w.calling l) waker next.1)
-            (sound capacity r _ _ k acts l sources after),
-      )
+      wakes waker next after l sources =
+          ahead l sources (keeps (woke waker) Action.Wake l l sources sources next.0 (λ x. absurd cc) (λ x. absurd cc)
+          refl
+          (told l Found.Nothing Action.Wake next.0 (λ x. absurd cc))
+          (reports-wake w.calling.taken (luck_of w.calling l) waker next.1)
+          (sound capacity r _ _ k acts l sources after))
 
       pub draws : (b : Bool) → IsWriterNext capacity (drew b) w → WriterLeads (drew b)
       draws b next l sources =
