@@ -1,5 +1,5 @@
 -- Where an access of the reader leads, which says what it found.
-use Rattle.std.proofs.Common.{◌≡◌, ℕ, ◌+◌, ◌-◌, ◌%◌, ◌≤◌, min, List, ◌∷◌, length, Bool, true, false, None, refl, sym, ap, ◌∙◌, arith, length-append}
+use Rattle.std.proofs.Common.{◌≡◌, ℕ, ◌+◌, ◌-◌, ◌%◌, ◌≤◌, min, List, ◌∷◌, length, true, false, refl, sym, ap, ◌∙◌, arith, length-append}
 use Rattle.piper_machine.specs.Types.{Action, AfterRead, Found, Purpose, ReadPoint, Reader}
 use Rattle.piper_protocol.specs.declared.log.Note.{Note}
 use Rattle.piper_protocol.specs.declared.table.Point.{Point}
@@ -25,37 +25,11 @@ module _ (capacity : ℕ) (some : 1 ≤ capacity) where
         (handle.comes_to before).point ≡ Point.Reader point → fits capacity Reader before (read_action point) a f ≡ true → IsAt capacity before (given_by given a) (at point r)
         → Follows capacity (handle.note (Note.Told f) ∷ handle.access a ∷ before) given (line_of a) (row point f) (at point r)
 
-    told-tail : (l : Purpose) (a : shared.Access) (f : Found) → ToldAt (ReadPoint.LookTail l) a f
-    unfolding moved_in seen_in waits_in tickets_in
-    told-tail l a f = grind arith
-
-    told-tail-again : (l : Purpose) (was_closed : Bool) (a : shared.Access) (f : Found) → ToldAt (ReadPoint.LookTailAgain l was_closed) a f
-    unfolding moved_in seen_in waits_in tickets_in
-    told-tail-again l was_closed a f = grind arith
-
-    told-closed : (l : Purpose) (a : shared.Access) (f : Found) → ToldAt (ReadPoint.LookClosed l) a f
-    unfolding moved_in seen_in waits_in tickets_in
-    told-closed l a f = grind arith
-
-    told-query : (a : shared.Access) (f : Found) → ToldAt ReadPoint.QueryClosed a f
-    unfolding moved_in seen_in waits_in tickets_in
-    told-query a f = grind arith
-
-    told-register : (l : Purpose) (a : shared.Access) (f : Found) → ToldAt (ReadPoint.LookRegister l) a f
-    unfolding moved_in seen_in waits_in tickets_in
-    told-register l a f = grind arith
-
     told-take : (l : Purpose) (a : shared.Access) (f : Found) → ToldAt (ReadPoint.LookTake l) a f
     unfolding moved_in seen_in waits_in tickets_in
-    told-take l (shared.loaded_slot Reader false) (Found.Waker false) = grind arith
-    told-take l (shared.loaded_slot Reader false) Found.Nothing = grind arith
-    told-take l (shared.swapped Reader old None) (Found.Waker said) = grind arith
-    told-take l (shared.swapped Reader old None) Found.Nothing = grind arith
-    told-take l (shared.loaded_slot side is_filled) (Found.Waker false) = λ e fit is. absurd (let no : false ≡ true = fit in cc)
-    told-take l (shared.loaded_slot side is_filled) Found.Nothing = λ e fit is. absurd (let no : false ≡ true = fit in cc)
-    told-take l (shared.swapped side old None) (Found.Waker said) = λ e fit is. absurd (let no : false ≡ true = fit in cc)
-    told-take l (shared.swapped side old None) Found.Nothing = λ e fit is. absurd (let no : false ≡ true = fit in cc)
-    told-take l a f = λ e fit is. absurd (let no : false ≡ true = fit in cc)
+    told-take l (shared.loaded_slot side is_filled) f = grind arith
+    told-take l (shared.swapped side old left) f = grind arith
+    told-take l a f = grind arith
 
     told-store : (n : ℕ) (next : AfterRead) (a : shared.Access) (f : Found) → ToldAt (ReadPoint.StoreHead n next) a f
     unfolding moved_in seen_in waits_in tickets_in
@@ -74,23 +48,9 @@ module _ (capacity : ℕ) (some : 1 ≤ capacity) where
         )
     told-store n next a f = λ e fit is. absurd (let no : false ≡ true = fit in cc)
 
-    told-take-writer : (next : AfterRead) (a : shared.Access) (f : Found) → ToldAt (ReadPoint.TakeWriter next) a f
-    unfolding moved_in seen_in waits_in tickets_in
-    told-take-writer next a f = grind arith
-
-    told-close : (a : shared.Access) (f : Found) → ToldAt ReadPoint.StoreClosed a f
-    unfolding moved_in seen_in waits_in tickets_in
-    told-close a f = grind arith
-
     -- an access, with the note that says what it found
     pub told : (point : ReadPoint) (a : shared.Access) (f : Found) → ToldAt point a f
-    told (ReadPoint.LookTail l) a f = told-tail l a f
-    told (ReadPoint.LookTailAgain l was_closed) a f = told-tail-again l was_closed a f
-    told (ReadPoint.LookClosed l) a f = told-closed l a f
-    told ReadPoint.QueryClosed a f = told-query a f
-    told (ReadPoint.LookRegister l) a f = told-register l a f
+    unfolding moved_in seen_in waits_in tickets_in
     told (ReadPoint.LookTake l) a f = told-take l a f
     told (ReadPoint.StoreHead n next) a f = told-store n next a f
-    told (ReadPoint.TakeWriter next) a f = told-take-writer next a f
-    told ReadPoint.StoreClosed a f = told-close a f
-    told point a f = λ e fit is. absurd (let no : false ≡ true = fit in cc)
+    told point a f = grind arith

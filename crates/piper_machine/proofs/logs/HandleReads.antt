@@ -48,9 +48,6 @@ module _ (capacity : ℕ) (some : 1 ≤ capacity) where
           ),
           λ alive. steps capacity _ given knew_empty (ReadPoint.LookTake l) (Found.Waker false) r (λ x. absurd cc) refl (kept _ _ before _ _ _ _ _ refl refl refl is.counted) (emptied _ _ _ l (is.calls.0, is.calls.2)),
         )
-    made (ReadPoint.LookRegister l) (Found.Granted false) e fit is = grind arith
-    made (ReadPoint.WakeWriter next) Found.Nothing e fit is = grind arith
-    made ReadPoint.Yield (Found.Granted true) e fit is = grind arith
     made (ReadPoint.CallDestination form sum) (Found.Moved n) e fit is =
         let within = moved-within (shut_in before) MOST_A_ROUND n (piece_in capacity Reader before) fit in
         let shows : n ≤ min (r.tail - r.head) (capacity - r.start) = subst (λ (m : ℕ). n ≤ m) (sym (pieces capacity some r before given is.counted)) within.1 in
@@ -63,10 +60,7 @@ module _ (capacity : ℕ) (some : 1 ≤ capacity) where
               (moved-stores capacity given (n == 0) n sum r.start form (omega (arith, shows)))
               (moved _ _ _ (n == 0) n sum form (ap (size_after (length (of_length n given))) is.calls)),
         )
-    made (ReadPoint.CallDestination form sum) Found.Failed e fit is = grind arith
-    made (ReadPoint.TakeWriter next) Found.Nothing e fit is = absurd (let no : false ≡ true = fit in cc)
-    made (ReadPoint.TakeWriter next) (Found.Waker false) e fit is = absurd (let no : false ≡ true = fit in cc)
-    made point f e fit is = absurd (let no : false ≡ true = fit in cc)
+    made point f e fit is = grind arith
 
     -- a copy draws
     draws : (point : ReadPoint) (is_drawn : Bool) → may_draw (Point.Reader point) before ≡ true → IsAt capacity before given (at point r)

@@ -1,8 +1,7 @@
 -- Where an access of the writer leads, which says what it found.
-use Rattle.std.proofs.Common.{◌≡◌, ℕ, ◌+◌, ◌-◌, ◌%◌, ◌≤◌, List, ◌∷◌, length, true, false, None, Some, refl, sym, ap, subst, ◌∙◌, arith, length-append}
-use Rattle.piper_machine.specs.Types.{Action, AfterWrite, Found, Purpose, WritePoint, Reader, Writer}
+use Rattle.std.proofs.Common.{◌≡◌, ℕ, ◌+◌, ◌-◌, ◌%◌, ◌≤◌, List, ◌∷◌, length, true, false, refl, sym, ap, subst, ◌∙◌, arith, length-append}
+use Rattle.piper_machine.specs.Types.{Action, AfterWrite, Found, Purpose, WritePoint, Writer}
 use Rattle.piper_protocol.specs.declared.log.Note.{Note}
-use Rattle.piper_protocol.specs.declared.table.Form.{Form}
 use Rattle.piper_protocol.specs.declared.table.Point.{Point}
 use Rattle.piper_protocol.specs.Index.{offset_of}
 use Rattle.piper_protocol.specs.Lines as handle
@@ -29,45 +28,11 @@ module _ (capacity : ℕ) (some : 1 ≤ capacity) where
         (handle.comes_to before).point ≡ Point.Writer point → fits capacity Writer before (write_action point) a f ≡ true → IsAt capacity before (given_by given a) (at point w)
         → Follows capacity (handle.note (Note.Told f) ∷ handle.access a ∷ before) given (line_of a) (row point f) (at point w)
 
-    told-head : (l : Purpose) (a : shared.Access) (f : Found) → ToldAt (WritePoint.LookHead l) a f
-    unfolding moved_in seen_in waits_in tickets_in shut_in
-    told-head l a f = grind arith
-
-    told-head-again : (l : Purpose) (a : shared.Access) (f : Found) → ToldAt (WritePoint.LookHeadAgain l) a f
-    unfolding moved_in seen_in waits_in tickets_in shut_in
-    told-head-again l a f = grind arith
-
-    told-closed : (l : Purpose) (a : shared.Access) (f : Found) → ToldAt (WritePoint.LookClosed l) a f
-    unfolding moved_in seen_in waits_in tickets_in shut_in
-    told-closed l a f = grind arith
-
-    told-closed-again : (l : Purpose) (a : shared.Access) (f : Found) → ToldAt (WritePoint.LookClosedAgain l) a f
-    unfolding moved_in seen_in waits_in tickets_in shut_in
-    told-closed-again l a f = grind arith
-
-    told-query : (a : shared.Access) (f : Found) → ToldAt WritePoint.QueryClosed a f
-    unfolding moved_in seen_in waits_in tickets_in shut_in
-    told-query a f = grind arith
-
-    told-round : (n : ℕ) (form : Form) (sum : ℕ) (a : shared.Access) (f : Found) → ToldAt (WritePoint.RoundClosed n form sum) a f
-    unfolding moved_in seen_in waits_in tickets_in shut_in
-    told-round n form sum a f = grind arith
-
-    told-register : (l : Purpose) (a : shared.Access) (f : Found) → ToldAt (WritePoint.LookRegister l) a f
-    unfolding moved_in seen_in waits_in tickets_in shut_in
-    told-register l a f = grind arith
-
     told-take : (l : Purpose) (a : shared.Access) (f : Found) → ToldAt (WritePoint.LookTake l) a f
     unfolding moved_in seen_in waits_in tickets_in shut_in
-    told-take l (shared.loaded_slot Writer false) (Found.Waker false) = grind arith
-    told-take l (shared.loaded_slot Writer false) Found.Nothing = grind arith
-    told-take l (shared.swapped Writer old None) (Found.Waker said) = grind arith
-    told-take l (shared.swapped Writer old None) Found.Nothing = grind arith
-    told-take l (shared.loaded_slot side is_filled) (Found.Waker false) = λ e fit is. absurd (let no : false ≡ true = fit in cc)
-    told-take l (shared.loaded_slot side is_filled) Found.Nothing = λ e fit is. absurd (let no : false ≡ true = fit in cc)
-    told-take l (shared.swapped side old None) (Found.Waker said) = λ e fit is. absurd (let no : false ≡ true = fit in cc)
-    told-take l (shared.swapped side old None) Found.Nothing = λ e fit is. absurd (let no : false ≡ true = fit in cc)
-    told-take l a f = λ e fit is. absurd (let no : false ≡ true = fit in cc)
+    told-take l (shared.loaded_slot side is_filled) f = grind arith
+    told-take l (shared.swapped side old left) f = grind arith
+    told-take l a f = grind arith
 
     told-store : (n : ℕ) (next : AfterWrite) (a : shared.Access) (f : Found) → ToldAt (WritePoint.StoreTail n next) a f
     unfolding moved_in seen_in waits_in tickets_in shut_in
@@ -85,37 +50,14 @@ module _ (capacity : ℕ) (some : 1 ≤ capacity) where
 
     told-take-reader : (next : AfterWrite) (a : shared.Access) (f : Found) → ToldAt (WritePoint.TakeReader next) a f
     unfolding moved_in seen_in waits_in tickets_in shut_in
-    told-take-reader next (shared.loaded_slot Reader false) (Found.Waker false) = grind arith
-    told-take-reader next (shared.loaded_slot Reader false) Found.Nothing = grind arith
-    told-take-reader next (shared.swapped Reader None None) (Found.Waker false) = grind arith
-    told-take-reader next (shared.swapped Reader (Some waker) None) (Found.Waker true) = grind arith
-    told-take-reader next (shared.swapped Reader old None) Found.Nothing = grind arith
-    told-take-reader next (shared.loaded_slot side is_filled) (Found.Waker false) = λ e fit is. absurd (let no : false ≡ true = fit in cc)
-    told-take-reader next (shared.loaded_slot side is_filled) Found.Nothing = λ e fit is. absurd (let no : false ≡ true = fit in cc)
-    told-take-reader next (shared.swapped side old None) (Found.Waker said) = λ e fit is. absurd (let no : false ≡ true = fit in cc)
-    told-take-reader next (shared.swapped side old None) Found.Nothing = λ e fit is. absurd (let no : false ≡ true = fit in cc)
-    told-take-reader next a f = λ e fit is. absurd (let no : false ≡ true = fit in cc)
-
-    told-take-own : (a : shared.Access) (f : Found) → ToldAt WritePoint.TakeWriter a f
-    unfolding moved_in seen_in waits_in tickets_in shut_in
-    told-take-own a f = grind arith
-
-    told-close : (next : AfterWrite) (a : shared.Access) (f : Found) → ToldAt (WritePoint.StoreClosed next) a f
-    unfolding moved_in seen_in waits_in tickets_in shut_in
-    told-close next a f = grind arith
+    told-take-reader next (shared.loaded_slot side is_filled) f = grind arith
+    told-take-reader next (shared.swapped side old left) f = grind arith
+    told-take-reader next a f = grind arith
 
     -- an access, with the note that says what it found
     pub told : (point : WritePoint) (a : shared.Access) (f : Found) → ToldAt point a f
-    told (WritePoint.LookHead l) a f = told-head l a f
-    told (WritePoint.LookHeadAgain l) a f = told-head-again l a f
-    told (WritePoint.LookClosed l) a f = told-closed l a f
-    told (WritePoint.LookClosedAgain l) a f = told-closed-again l a f
-    told WritePoint.QueryClosed a f = told-query a f
-    told (WritePoint.RoundClosed n form sum) a f = told-round n form sum a f
-    told (WritePoint.LookRegister l) a f = told-register l a f
+    unfolding moved_in seen_in waits_in tickets_in shut_in
     told (WritePoint.LookTake l) a f = told-take l a f
     told (WritePoint.StoreTail n next) a f = told-store n next a f
     told (WritePoint.TakeReader next) a f = told-take-reader next a f
-    told WritePoint.TakeWriter a f = told-take-own a f
-    told (WritePoint.StoreClosed next) a f = told-close next a f
-    told point a f = λ e fit is. absurd (let no : false ≡ true = fit in cc)
+    told point a f = grind arith

@@ -2,7 +2,7 @@
 use Rattle.std.proofs.lemmas.Grind.{common_steps}
 use Rattle.std.proofs.Common.{◌≡◌, ◌⊎◌, inl, inr, ℕ, suc, ◌≤◌, ◌==◌, min, List, ◌∷◌, length, Bool, true, false, not, refl, sym, ap, subst, ◌∙◌, arith, []}
 use Rattle.std.proofs.Math.Nat.{zero-mod}
-use Rattle.piper_machine.specs.Types.{Action, AfterWrite, Found, Polling, ReadPoint, WritePoint, Writer, MOST_A_ROUND}
+use Rattle.piper_machine.specs.Types.{Action, Found, Polling, ReadPoint, WritePoint, Writer, MOST_A_ROUND}
 use Rattle.piper_protocol.specs.declared.log.Note.{Note}
 use Rattle.piper_protocol.specs.declared.table.Point.{Point}
 use Rattle.piper_protocol.specs.declared.table.Purpose.TheVariants.{Copy}
@@ -47,12 +47,6 @@ module _ (capacity : ℕ) (some : 1 ≤ capacity) where
       (refl, has-drawn l w.calling.draw before e (second-of (not (waits_in Writer before)) _ fit) is.calls.1, is.counted.may_wait ∙ not-true (waits_in Writer before) (first-of (not (waits_in Writer before)) _ fit)),
       λ alive. steps capacity _ given knew_empty (WritePoint.LookTake l) (Found.Waker false) w refl refl (kept _ _ before _ _ _ _ _ refl refl refl is.counted) is.shut (emptied _ _ _ l (is.calls.0, is.calls.2)),
     )
-    made WritePoint.TakeWriter Found.Nothing e fit is = grind arith
-    made WritePoint.TakeWriter (Found.Waker false) e fit is = grind arith
-    made (WritePoint.LookRegister l) (Found.Granted false) e fit is = grind arith
-    made (WritePoint.WakeReader next) Found.Nothing e fit is = grind arith
-    made WritePoint.WakeWriter Found.Nothing e fit is = grind arith
-    made WritePoint.Yield (Found.Granted true) e fit is = grind arith
     made (WritePoint.CallSource form sum) (Found.Moved n) e fit is =
         let as_long : length (of_length n given) ≡ n = of-length n given in
         let within = moved-within (shut_in before) MOST_A_ROUND n (piece_in capacity Writer before) fit in
@@ -68,11 +62,7 @@ module _ (capacity : ℕ) (some : 1 ≤ capacity) where
               (moved-stores capacity given (n == 0) n sum w.end form (omega (arith, fits_in)))
               (moved _ _ _ (n == 0) n sum form (ap (source_after (length (of_length n given))) is.calls)),
         )
-    made (WritePoint.CallSource form sum) Found.Failed e fit is = grind arith
-    made (WritePoint.TakeReader next) Found.Nothing e fit is = absurd (let no : false ≡ true = fit in cc)
-    made (WritePoint.TakeReader next) (Found.Waker false) e fit is = absurd (let no : false ≡ true = fit in cc)
-    made (WritePoint.StoreClosed AfterWrite.WakeWriter) f e fit is = absurd (let no : false ≡ true = fit in cc)
-    made point f e fit is = absurd (let no : false ≡ true = fit in cc)
+    made point f e fit is = grind arith
 
     -- a copy draws
     draws : (point : WritePoint) (is_drawn : Bool) → may_draw (Point.Writer point) before ≡ true → IsAt capacity before given (at point w)
