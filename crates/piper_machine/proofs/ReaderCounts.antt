@@ -1,6 +1,6 @@
 -- Where a step of the reader leads: fewer steps remain, no more calls of the destination, and a
 -- poll is true only where a byte is known.
-use Rattle.std.proofs.Common.{◌≡◌, ℕ, ◌+◌, ◌-◌, ◌<◌, ◌≤◌, true, false, arith}
+use Rattle.std.proofs.Common.{◌≡◌, ℕ, ◌+◌, ◌-◌, ◌≤◌, true, false, arith}
 use Rattle.std.specs.Prelude.{⊤}
 use Rattle.piper_machine.specs.Types.{Purpose, AfterRead, ReadPoint, Reader}
 use Rattle.piper_protocol.specs.Table.{read_action}
