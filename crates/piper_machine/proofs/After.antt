@@ -1,7 +1,7 @@
 -- After an end that was found: where the reader can be, what its steps log and answer, and what it
 -- has seen of the close.
-use Rattle.std.proofs.lemmas.Grind.{common_steps}
 use Rattle.std.proofs.Common.{◌≡◌, inl, inr, ℕ, List, length, take, Bool, true, false, Option, None, Some, ◌==◌, refl, sym, ◌∙◌, arith, []}
+use Rattle.std.proofs.lemmas.Grind.{common_steps}
 use Rattle.std.specs.Bool.{⊤}
 use Rattle.piper_machine.specs.Types.{Event, Purpose, AfterRead, ReadPoint, Reader}
 use Rattle.piper_protocol.specs.Table.{read_action, reader_looked_again}

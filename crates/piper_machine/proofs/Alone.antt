@@ -1,6 +1,6 @@
 -- A step of a side leaves what remains of its call, and it brings the answer nearer.
-use Rattle.std.proofs.lemmas.Grind.{common_steps}
 use Rattle.std.proofs.Common.{◌≡◌, ℕ, ◌+◌, ◌-◌, ◌<◌, ◌≤◌, length, false, Option, None, Some, if◌then◌else◌, ◌==◌, arith}
+use Rattle.std.proofs.lemmas.Grind.{common_steps}
 use Rattle.piper_machine.specs.Types.{Answer, ReadPoint, WritePoint, Reader, Writer, Busy, Go}
 use Rattle.piper_machine.specs.Pipe.{Pipe}
 use Rattle.piper_machine.specs.Refusal.{reader_state, writer_state}

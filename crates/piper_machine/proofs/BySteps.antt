@@ -1,6 +1,6 @@
 -- Steps of one side alone, from any point up to the answer, give what remains of the call.
-use Rattle.std.proofs.lemmas.Grind.{common_steps}
 use Rattle.std.proofs.Common.{◌≡◌, ℕ, zero, suc, ◌<◌, ◌≤◌, List, ◌∷◌, ◌++◌, length, Bool, true, false, Option, None, Some, replicate, refl, sym, ap, ◌∙◌, subst, append_assoc, append-nil, arith, []}
+use Rattle.std.proofs.lemmas.Grind.{common_steps}
 use Rattle.piper_machine.specs.Types.{Side, SideState, Answer, Event, SourceAct, ReadPoint, WritePoint, Reader, Writer, Busy, Go, Answered}
 use Rattle.piper_machine.specs.Log.{answer_event}
 use Rattle.piper_protocol.specs.Table.{read_action, write_action}

@@ -1,6 +1,6 @@
 -- What goes into a fresh pipe that has room for all of it comes out of it whole.
-use Rattle.std.proofs.lemmas.Grind.{common_steps}
 use Rattle.std.proofs.Common.{◌≡◌, ℕ, ◌≤◌, List, length, take, drop, ◌++◌, sym, ap, ◌∙◌, append-nil, arith}
+use Rattle.std.proofs.lemmas.Grind.{common_steps}
 use Rattle.std.proofs.Math.Seq.{take-length, drop-length}
 use Rattle.piper_machine.specs.Pipe.{Pipe, fresh, begun}
 use Rattle.piper_machine.specs.Copy.{count_of, try_fill, try_drain, filled, unlent}

@@ -1,6 +1,6 @@
 -- A step of a copying call leaves what remains of it, and it brings the answer nearer.
-use Rattle.std.proofs.lemmas.Grind.{common_steps}
 use Rattle.std.proofs.Common.{◌≡◌, ℕ, ◌+◌, ◌-◌, ◌<◌, ◌≤◌, min, List, ◌∷◌, ◌++◌, take, drop, length, Bool, true, false, ◌==◌, refl, sym, ap, ◌∙◌, arith, Result, Ok, Err, []}
+use Rattle.std.proofs.lemmas.Grind.{common_steps}
 use Rattle.std.proofs.lemmas.Bool.Decides.{nat_tests}
 use Rattle.piper_machine.specs.Types.{AfterWrite, Purpose, Failed, DestAct, SourceAct, Form, ReadPoint, WritePoint, Writer, Ready, MOST_A_ROUND, Slice, Acts, Go}
 use Rattle.piper_protocol.specs.Table.{Next, count_answer, failed_answer, write_action, reader_moved, writer_moved, tail_store}
@@ -16,8 +16,6 @@ use Rattle.piper_machine.specs.Alone.{Ended, heard, moved_answer, reader_left, r
 use Rattle.piper_machine.proofs.Alone.{reader_rest, read_step, reader_rest_at, writer_rest, writer_rest_at}
 use Rattle.piper_machine.proofs.Rounds.{filled_nothing}
 use Rattle.piper_machine.proofs.Acts.{give-part, give-ends, give-fails, give-none, give-nothing}
-
--- the look of a drain
 
 -- one call of the destination
 module _ (form : Form) (sum : ℕ) (p : Pipe) (start : p.start < p.capacity) (known : p.known ≤ p.capacity) where

@@ -1,7 +1,7 @@
 -- The places of the two sides are apart in every sound pipe, and no step of the writer changes a
 -- byte that the reader knows.
-use Rattle.std.proofs.lemmas.Grind.{common_steps}
 use Rattle.std.proofs.Common.{◌≡◌, List, Result, arith, OnOk, OnErr}
+use Rattle.std.proofs.lemmas.Grind.{common_steps}
 use Rattle.piper_machine.specs.Types.{Event, StepRefusal, Step}
 use Rattle.piper_machine.specs.Pipe.{Pipe}
 use Rattle.piper_machine.specs.Sound.{IsSound}

@@ -1,7 +1,7 @@
 -- A drain run whole: its destination stays with the caller, and each step is that of a call which
 -- holds this destination.
-use Rattle.std.proofs.lemmas.Grind.{common_steps}
 use Rattle.std.proofs.Common.{◌≡◌, ℕ, ◌+◌, ◌-◌, ◌<◌, ◌≤◌, min, List, ◌++◌, take, drop, length, true, Option, None, Some, is_some, sym, ap, subst, ◌∙◌, arith, length-append, length-drop, length-take, []}
+use Rattle.std.proofs.lemmas.Grind.{common_steps}
 use Rattle.std.proofs.lemmas.List.{drop-drop}
 use borrow.Rule.Slice.PartMut.{put_mid}
 use Rattle.piper_machine.specs.Types.{OpenCall, Answer, Context, Action, ReadPoint, Found, Destination, Reader, Busy, Slice}

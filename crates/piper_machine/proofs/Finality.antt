@@ -1,7 +1,7 @@
 -- Each step keeps a reported end final: the pipe is closed for good, with nothing unread and
 -- nothing lent that could still be published.
-use Rattle.std.proofs.lemmas.Grind.{common_steps}
 use Rattle.std.proofs.Common.{◌≡◌, inl, inr, ℕ, List, ◌∷◌, ◌++◌, Bool, true, false, Option, None, refl, sym, ap, subst, ◌∙◌, slice_set, arith, []}
+use Rattle.std.proofs.lemmas.Grind.{common_steps}
 use Rattle.piper_machine.specs.Types.{Call, Step, Answer, Event, Action, ReadPoint, WritePoint, Reader, Writer, Begin, Go, Put}
 use Rattle.piper_protocol.specs.Table.{read_action, write_action}
 use Rattle.piper_machine.specs.Log.{answer_event}

@@ -1,6 +1,6 @@
 -- What a step reports to a side about the other is what the step leaves it knowing.
-use Rattle.std.proofs.lemmas.Grind.{common_steps}
 use Rattle.std.proofs.Common.{◌≡◌, ℕ, ◌-◌, ◌≤◌, List, ◌∷◌, ◌++◌, length, take, true, false, Option, None, Some, refl, arith, []}
+use Rattle.std.proofs.lemmas.Grind.{common_steps}
 use Rattle.std.specs.Prelude.{⊤}
 use Rattle.piper_machine.specs.Types.{Side, Answer, Event, Action, Reader, Writer, Answered}
 use Rattle.piper_machine.specs.Ready.{IsReadyAnswer}

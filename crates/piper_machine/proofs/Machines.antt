@@ -1,6 +1,6 @@
 -- A machine after a step of one of its sides: it is a machine again, and which pipe it represents.
-use Rattle.std.proofs.lemmas.Grind.{common_steps}
 use Rattle.std.proofs.Common.{◌≡◌, ◌+◌, ◌-◌, ◌≤◌, ℕ, List, ap, ◌∙◌, arith, []}
+use Rattle.std.proofs.lemmas.Grind.{common_steps}
 use Rattle.piper_machine.specs.Types.{Action, OpenCall, SourceAct, Destination, ReadPoint, WritePoint, Found, Slice}
 use Rattle.piper_machine.specs.Open.{no_call}
 use Rattle.piper_protocol.specs.Index.{offset_of, advanced}

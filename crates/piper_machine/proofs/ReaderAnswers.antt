@@ -1,7 +1,7 @@
 -- What the log says of the reader's open call at each point, and that its steps keep this and give
 -- right answers.
-use Rattle.std.proofs.lemmas.Grind.{common_steps}
 use Rattle.std.proofs.Common.{◌≡◌, ℕ, ◌+◌, ◌≤◌, List, ◌∷◌, ◌++◌, take, length, Bool, true, Some, ◌==◌, is_some, refl, sym, ap, subst, ◌∙◌, arith, length-take-le, IsSomeAnd, []}
+use Rattle.std.proofs.lemmas.Grind.{common_steps}
 use Rattle.piper_machine.specs.Types.{Call, Event, Seen, Form, Purpose, AfterRead, ReadPoint, Destination, Reader, Looked, Try, Polling, Granted as granted, Slice, Acts}
 use Rattle.piper_machine.specs.Open.{is_granted, is_yield_granted}
 use Rattle.piper_protocol.specs.Table.{Next, head_store, read_after, reader_is_true, reader_looked_again, reader_looks_for, reader_registered, writer_taken, yield_answer}
@@ -79,8 +79,6 @@ steps capacity destination next t u es right noted leads =
     )
 
 module _ (capacity : ℕ) where
-  -- the answers of a drain
-
   -- where each step leads
 
   module _ (t : Noted) (destination : Destination) where

@@ -1,7 +1,7 @@
 -- The reader as a waiter, from point to point of its own calls, and what each of its steps is to a
 -- waiting writer.
-use Rattle.std.proofs.lemmas.Grind.{common_steps}
 use Rattle.std.proofs.Common.{◌≡◌, ℕ, List, length, drop, Bool, true, false, Option, None, Some, ◌==◌, refl, arith, []}
+use Rattle.std.proofs.lemmas.Grind.{common_steps}
 use Rattle.std.specs.Bool.{⊤}
 use Rattle.piper_machine.specs.Types.{Context, Purpose, AfterRead, ReadPoint, Reader, Writer}
 use Rattle.piper_protocol.specs.Table.{read_action, yield_answer, read_done}

@@ -78,8 +78,6 @@ step-keeps lent (Go Writer) p reads writes sound accepted kept =
     }
 step-keeps lent (Put offset byte) p reads writes sound accepted kept = grind arith
 
--- what that says of a side outside any call
-
 -- what every list of steps keeps
 pub record Remembers (p : Pipe) (events : List Event) : Type 0 where
   pub keeps : Keeps p (wait_of Reader events) (wait_of Writer events)

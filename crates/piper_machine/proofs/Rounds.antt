@@ -1,7 +1,7 @@
 -- The rounds of a copy are one move: what two of them move one after the other, one of them moves
 -- at once.
-use Rattle.std.proofs.lemmas.Grind.{common_steps}
 use Rattle.std.proofs.Common.{◌≡◌, ℕ, ◌+◌, ◌-◌, ◌≤◌, List, ◌++◌, take, drop, length, Option, sym, ap, ◌∙◌, arith, append_assoc, append-nil, length-drop, length-take-le, []}
+use Rattle.std.proofs.lemmas.Grind.{common_steps}
 use Rattle.std.proofs.lemmas.List.{drop-drop, drop_all, take_at, drop_at}
 use Rattle.std.proofs.Math.Seq.{take-add}
 use borrow.Rule.Slice.PartMut.{put_mid}

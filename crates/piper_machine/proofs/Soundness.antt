@@ -1,6 +1,6 @@
 -- A machine whose invariant holds represents a sound pipe.
-use Rattle.std.proofs.lemmas.Grind.{common_steps}
 use Rattle.std.proofs.Common.{◌≡◌, ◌+◌, ◌<◌, ◌≤◌, ◌*◌, ◌-◌, min, ℕ, take, drop, length, sym, ap, ◌∙◌, subst, arith}
+use Rattle.std.proofs.lemmas.Grind.{common_steps}
 use Rattle.piper_protocol.specs.Index.{distance, offset_of}
 use Rattle.piper_machine.specs.Pipe.{Pipe}
 use Rattle.std.proofs.lemmas.Bool.Decides.{nat_tests}

@@ -1,6 +1,6 @@
 -- What is left of a source that has given some bytes more.
-use Rattle.std.proofs.lemmas.Grind.{common_steps}
 use Rattle.std.proofs.Common.{◌≡◌, ℕ, ◌+◌, ◌-◌, ◌<◌, ◌≤◌, List, ◌∷◌, length, take, drop, min, sym, ap, ◌∙◌, arith, length-drop, []}
+use Rattle.std.proofs.lemmas.Grind.{common_steps}
 use Rattle.std.proofs.lemmas.List.{drop-drop}
 use Rattle.piper_machine.specs.Types.{SourceAct}
 use Rattle.piper_machine.specs.Source.{bytes_of, without}

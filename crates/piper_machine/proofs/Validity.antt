@@ -1,6 +1,6 @@
 -- What a side that runs alone depends on, and that its steps keep it.
-use Rattle.std.proofs.lemmas.Grind.{common_steps}
 use Rattle.std.proofs.Common.{◌≡◌, ℕ, ◌<◌, ◌≤◌, List, length, Bool, true, false, Option, None, Some, arith}
+use Rattle.std.proofs.lemmas.Grind.{common_steps}
 use Rattle.piper_machine.specs.Types.{AfterWrite, SideState, Answer, ReadPoint, WritePoint, Busy}
 use Rattle.piper_protocol.specs.Table.{head_store}
 use Rattle.piper_machine.specs.Pipe.{Pipe}

@@ -1,6 +1,6 @@
 -- What remains of a call right after its opening is the call run whole.
-use Rattle.std.proofs.lemmas.Grind.{common_steps}
 use Rattle.std.proofs.Common.{◌≡◌, ℕ, ◌-◌, List, ◌∷◌, length, Bool, false, None, Some, ◌==◌, Ok, refl, arith, []}
+use Rattle.std.proofs.lemmas.Grind.{common_steps}
 use Rattle.piper_machine.specs.Types.{Context, SourceAct, Destination, Reader, Writer}
 use Rattle.piper_machine.specs.Pipe.{Pipe, begun}
 use Rattle.piper_machine.specs.Look.{reader_look}

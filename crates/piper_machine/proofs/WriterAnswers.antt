@@ -1,7 +1,7 @@
 -- What the log says of the writer's open call at each point, and that its steps keep this and give
 -- right answers.
-use Rattle.std.proofs.lemmas.Grind.{common_steps}
 use Rattle.std.proofs.Common.{◌≡◌, ℕ, ◌+◌, ◌-◌, ◌≤◌, min, List, ◌∷◌, ◌++◌, take, drop, length, Bool, true, false, Option, None, Some, ◌==◌, is_some, refl, sym, ap, subst, ◌∙◌, arith, append_assoc, length-take-le, take-append-drop, take_all, IsSomeAnd, []}
+use Rattle.std.proofs.lemmas.Grind.{common_steps}
 use Rattle.std.proofs.lemmas.List.{take-append-le}
 use Rattle.std.proofs.lemmas.Bool.Decides.{nat_tests}
 use Rattle.piper_machine.specs.Types.{Action, Call, Answer, Event, Seen, SourceAct, Form, Purpose, AfterWrite, WritePoint, Writer, Looked, Try, Polling, Nothing as nothing, Granted as granted}

@@ -1,7 +1,7 @@
 -- The writer as a waiter, from point to point of its own calls, and what each of its steps is to a
 -- waiting reader.
-use Rattle.std.proofs.lemmas.Grind.{common_steps}
 use Rattle.std.proofs.Common.{◌≡◌, ℕ, List, length, Bool, true, Option, None, Some, ◌==◌, refl, arith, []}
+use Rattle.std.proofs.lemmas.Grind.{common_steps}
 use Rattle.std.specs.Bool.{⊤}
 use Rattle.piper_machine.specs.Types.{Context, SourceAct, Purpose, AfterWrite, WritePoint, Reader, Writer, Done}
 use Rattle.piper_protocol.specs.Table.{Next, write_action, writer_is_open, yield_answer, write_done}

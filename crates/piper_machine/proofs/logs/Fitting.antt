@@ -1,6 +1,6 @@
 -- A pipe of sides and words that fit is sound.
-use Rattle.std.proofs.lemmas.Grind.{common_steps}
 use Rattle.std.proofs.Common.{◌≡◌, ℕ, ◌+◌, List, length, replicate, ap, ◌∙◌, arith, length-append}
+use Rattle.std.proofs.lemmas.Grind.{common_steps}
 use Rattle.std.proofs.lemmas.List.{length-replicate}
 use Rattle.piper_machine.specs.Types.{DestAct, SourceAct}
 use Rattle.piper_machine.specs.Sound.{IsSound}

@@ -1,6 +1,6 @@
 -- What a handle's log says of the open call, by the point at which it is: the same of both sides.
-use Rattle.std.proofs.lemmas.Grind.{common_steps}
 use Rattle.std.proofs.Common.{◌≡◌, ℕ, suc, ◌+◌, ◌-◌, ◌%◌, ◌≤◌, ◌<◌, ◌==◌, List, length, min, Bool, true, false, not, Option, None, Some, is_some, refl, sym, ap, subst, ◌∙◌, arith, nat_le, nat_lt, if◌then◌else◌}
+use Rattle.std.proofs.lemmas.Grind.{common_steps}
 use Rattle.std.specs.Bool.{⊤}
 use Rattle.std.proofs.lemmas.Bool.Decides.{nat_tests}
 use Rattle.std.proofs.Math.Nat.{mod-add-mod, mod-eq_of_lt, mod-lt, mod_self}
@@ -156,5 +156,3 @@ Calls yields k c Own = (c.handed ≡ Some k.waker)
 Calls (moves b) k c Own = When b Own
 Calls (wakes b) k c Own = (c.taken ≡ Some k.taken) × When b Own
 Calls stays k c Own = ⊤
-
--- where a look leads that finds something, or nothing, and what follows a true one

@@ -1,6 +1,6 @@
 -- The log of a writer's handle is a list of runs of the call table.
-use Rattle.std.proofs.lemmas.Grind.{common_steps}
 use Rattle.std.proofs.Common.{◌≡◌, ◌⊎◌, inl, inr, ℕ, suc, ◌≤◌, ◌==◌, min, List, ◌∷◌, length, Bool, true, false, not, refl, sym, ap, subst, ◌∙◌, arith, []}
+use Rattle.std.proofs.lemmas.Grind.{common_steps}
 use Rattle.std.proofs.Math.Nat.{zero-mod}
 use Rattle.piper_machine.specs.Types.{Action, Found, Polling, ReadPoint, WritePoint, Writer, MOST_A_ROUND}
 use Rattle.piper_protocol.specs.declared.log.Note.{Note}

@@ -1,6 +1,6 @@
 -- How the run goes on from one pipe to another.
-use Rattle.std.proofs.lemmas.Grind.{common_steps}
 use Rattle.std.proofs.Common.{◌≡◌, ℕ, List, ◌∷◌, ◌++◌, Bool, true, false, None, refl, append-nil, arith, []}
+use Rattle.std.proofs.lemmas.Grind.{common_steps}
 use Rattle.piper_machine.specs.Types.{Action, Call, Side, Step, DestAct, SourceAct, Event, Begin, Acts}
 use Rattle.piper_machine.specs.Action.{index_loaded_by, with_waker_in}
 use Rattle.piper_machine.specs.Pipe.{Pipe}

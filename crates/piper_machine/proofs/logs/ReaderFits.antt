@@ -1,6 +1,6 @@
 -- Both sides and the words fit after each line of the reader.
-use Rattle.std.proofs.lemmas.Grind.{common_steps}
 use Rattle.std.proofs.Common.{◌≡◌, ℕ, true, false, None, Some, arith}
+use Rattle.std.proofs.lemmas.Grind.{common_steps}
 use Rattle.piper_machine.specs.Types.{Reader, Writer}
 use Rattle.piper_machine.specs.logs.Line.{met_head, met_tail, Opening, Line, began, loaded_head, loaded_tail, loaded_closed, stored_head, stored_tail, stored_closed, loaded_slot, swapped, knew_empty, took, gave, failed, drew, refused, yielded, woke}
 use Rattle.piper_machine.specs.logs.OneList.{FindsCount, Words, words_after}

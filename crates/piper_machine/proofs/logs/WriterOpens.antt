@@ -1,6 +1,6 @@
 -- What a source gives, what is lent to it, and how a call of the writer begins.
-use Rattle.std.proofs.lemmas.Grind.{common_steps}
 use Rattle.std.proofs.Common.{◌≡◌, ℕ, ◌≤◌, List, ◌∷◌, length, take, Bool, true, false, Option, ◌==◌, Ok, arith, []}
+use Rattle.std.proofs.lemmas.Grind.{common_steps}
 use Rattle.piper_machine.specs.Types.{Action, AfterWrite, Form, WritePoint, DestAct, SourceAct, MOST_A_ROUND}
 use Rattle.piper_protocol.specs.Table.{write_action}
 use Rattle.piper_machine.specs.Lend.{Lendable}

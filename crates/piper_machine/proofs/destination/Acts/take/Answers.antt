@@ -1,5 +1,5 @@
-use Rattle.std.proofs.lemmas.Grind.{common_steps}
 use Rattle.std.proofs.Common.{arith}
+use Rattle.std.proofs.lemmas.Grind.{common_steps}
 use Rattle.piper_machine.proofs.destination.Acts.take.Goals as goal
 
 pub returns-then-self-len-clause-after : goal.returns-then-self-len-clause-after

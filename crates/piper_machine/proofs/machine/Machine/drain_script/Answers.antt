@@ -1,5 +1,5 @@
-use Rattle.std.proofs.lemmas.Grind.{common_steps}
 use Rattle.std.proofs.Common.{◌≡◌, ◌∙◌, List, ℕ, sym, ap, subst, arith}
+use Rattle.std.proofs.lemmas.Grind.{common_steps}
 use Rattle.piper_machine.specs.Types.{DestAct, Acts}
 use Rattle.piper_machine.specs.Round.{found_of, taken_by_acts}
 use Rattle.piper_machine.specs.Action.{round_count}

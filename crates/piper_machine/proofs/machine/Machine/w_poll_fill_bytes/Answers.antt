@@ -1,5 +1,5 @@
-use Rattle.std.proofs.lemmas.Grind.{common_steps}
 use Rattle.std.proofs.Common.{arith}
+use Rattle.std.proofs.lemmas.Grind.{common_steps}
 use Rattle.piper_machine.specs.Types.{Call}
 use Rattle.piper_machine.proofs.machine.Machine.w_poll_fill_bytes.Goals as goal
 

@@ -1,5 +1,5 @@
-use Rattle.std.proofs.lemmas.Grind.{common_steps}
 use Rattle.std.proofs.Common.{arith}
+use Rattle.std.proofs.lemmas.Grind.{common_steps}
 use Rattle.piper_machine.proofs.source.Source.is_failing.Goals as goal
 
 pub returns-in-Some-Fail : goal.returns-in-Some-Fail
