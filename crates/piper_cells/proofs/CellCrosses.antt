@@ -1,9 +1,6 @@
 -- A part of a place's number holds nothing of one thread.
 use Rattle.std.specs.Prelude.{ℕ, Bool, true, false}
-use base.Fml.{Share}
-use base.Growing.{latest}
-use base.Shift.{Keyless}
-use Rattle.piper_cells.specs.TokenCell.{counted, right}
+use Rattle.piper_cells.proofs.SpaceKit.{Share, latest, Keyless, counted, right}
 
 pub counted-Keyless : (q : Share) (name : ℕ) (filled : Bool) (n : ℕ) → Keyless (counted q name filled n)
 unfolding latest

@@ -1,15 +1,7 @@
 -- The one field of a right, which has no size. Assumes `Logic`.
-use seplogic.Ra.Ura.{Ura}
+use Rattle.piper_cells.proofs.SpaceKit.{Ura, Val, vstruct, vcons, vnil, of_list, ent, emp, Logic, sem, RattleType, Is, makes_shadow, Struct, shape}
 use mathlib.Core.List.{List, [], ◌∷◌, ◌++◌}
 use mathlib.Core.Path.{◌≡◌, refl, ap, ◌∙◌}
-use mir.Val.{Val, vstruct, vcons, vnil, of_list}
-use base.Logic.{ent, emp}
-use types.Logic.{Logic, sem}
-use denote.RattleType.{RattleType}
-use denote.Laws.{Is}
-use denote.Shadow.{makes_shadow}
-use denote.Struct.Struct.{Struct}
-use denote.Struct.Owning.{shape}
 use Rattle.piper_cells.specs.contracts.token_cell.Token as Token
 
 abbrev pub right_val : Val

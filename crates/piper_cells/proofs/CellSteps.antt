@@ -2,21 +2,17 @@
 -- of the program. Assumes `Logic`.
 use Rattle.std.proofs.Common.{◌≡◌, ℕ, suc, ◌≤◌, Bool, true, false, [], ◌∷◌, sym, refl, ap, arith}
 use seplogic.Ra.Pcs.{OpDef}
-use seplogic.Ra.Ura.{Ura}
+use Rattle.piper_cells.proofs.SpaceKit.{Ura, full_share, quarter, three_quarters, Share, Fml, fsep, fbor, finv, Logic, RattleType}
 use mathlib.Core.Option.{some}
-use base.Logic.{SProp, ent, sep, upd, upd_i}
-use base.Fraction.{full_share}
+use base.Logic.{upd, upd_i}
 use base.Share
-use base.Share.{quarter, three_quarters}
 use base.Graph.{sum_out}
 use base.Growing.{numbers, latest, growing, grows}
-use base.Fml.{Share, Fml, fsep, fbor, finv}
-use types.Logic.{Logic, sem}
 use types.Growing.{latest_cut, latest_glue, latest_agrees, latest_grows}
 use types.Owned.{own_sum}
 use types.Na.{out, out_once}
 use types.Kit.{‵, raw, ◌⊛◌, given, ◌$◌, ◌∵◌, !, qed, by, move, keep, split, fsplit, fsplit3, fjoin, fjoin3, fpick, fpack, learn, frame, assume, settle, suffices, rewrite, use1, use2, done}
-use denote.RattleType.{RattleType}
+use Rattle.piper_cells.proofs.Signs.{signs}
 use Rattle.piper_cells.specs.TokenCell.{flips, odd, eighth, pledged, content, Loan, lies, Kept}
 
 -- a number no less than n that reports what it is to report
@@ -34,18 +30,7 @@ shows n y = shows_from n (odd n) y refl
 
 module _ {M : Type 1} {𝓤 : Ura M} (𝓛 : Logic 𝓤) where
   open 𝓛 use {H, A}
-
-  abbrev Pr : Type 2
-  Pr = SProp 𝓤
-
-  abbrev ◌⊢◌ : Pr → Pr → Type 1
-  P ⊢ Q = ent 𝓤 P Q
-
-  abbrev ◌∗◌ : Pr → Pr → Pr
-  P ∗ Q = sep 𝓤 P Q
-
-  abbrev ⟦◌⟧ : Fml → Pr
-  ⟦ P ⟧ = sem 𝓛 P
+  open signs 𝓛 use {Pr, ◌⊢◌, ◌∗◌, ⟦◌⟧}
 
   infix 26 ◌⊢◌
   infixr 35 ◌∗◌

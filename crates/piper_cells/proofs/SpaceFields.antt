@@ -1,8 +1,7 @@
 -- What the machine keeps of this crate's types: a pointer, or nothing of a lease. Assumes `Logic`.
-use Rattle.piper_cells.proofs.SpaceKit.{◌≡◌, [], ◌∷◌, ◌++◌, List, T, WT, sep, ‵, ◌$◌, ◌∵◌, !, qed, move, fjoin, fpack, feq_i, done, nothing, Valss, word-Good, refl, ap, ◌∙◌, Ura, Ty, Val, vstruct, vcons, vnil, of_list, ent, emp, Logic, sem, RattleType, Is, Ptr, ptr_val, Struct, shape}
+use Rattle.piper_cells.proofs.SpaceKit.{◌≡◌, [], ◌∷◌, ◌++◌, List, T, WT, sep, ‵, ◌$◌, ◌∵◌, !, qed, move, fjoin, fpack, feq_i, done, nothing, Valss, word-Good, refl, ap, ◌∙◌, Ura, Ty, Val, vstruct, vcons, vnil, of_list, ent, emp, Logic, sem, RattleType, Is, Ptr, ptr_val, Struct, shape, makes_shadow}
 use mir.Syntax.{tcons, tnil, ty_struct, ty_ptr}
 use mir.Val.{has_tys}
-use denote.Shadow.{makes_shadow}
 use denote.Struct.Declared as Declared
 use denote.Struct.Struct.{within, as_fields}
 use denote.Struct.Tuple.{Tuple, tuple_type}

@@ -1,11 +1,9 @@
 -- A space becomes room for a value, and once the value lies there, its borrow becomes what whoever
 -- has a lease can see. Assumes `Logic`.
-use Rattle.piper_cells.proofs.SpaceKit.{◌≡◌, ℕ, [], ◌∷◌, T, refl, sym, subst, Ura, Ty, Val, full_share, SProp, ent, sep, wand, upd_i, apply∗, id⊢, Lft, Incl-trans, Share, Fml, ftrue, fsep, fwand, fupd, fdead, froom, flft, fbor, fobor, align, ◌⊑◌, meet_⊑_left, meet_⊑_right, Logic, sem, ‵, raw, ◌⊛◌, later, await, ◌$◌, ◌∵◌, !, qed, by, move, keep, split, split3, join, fsplit3, fjoin, assume, suffices, updating, now, done, use1, use2, obor_alter, u64, part_at, param, layout, Laws, param_laws, RattleType, Ptr, block_ptr, nothing, Lends-lies, lent_at, array_of}
-use types.Kit.{pick, some}
-use base.Fml.{fseps}
+use Rattle.piper_cells.proofs.SpaceKit.{◌≡◌, ℕ, [], ◌∷◌, T, refl, sym, subst, Ura, Ty, Val, full_share, SProp, wand, upd_i, apply∗, id⊢, Lft, Incl-trans, Share, Fml, ftrue, fsep, fwand, fupd, fdead, froom, flft, fbor, fobor, align, ◌⊑◌, meet_⊑_left, meet_⊑_right, Logic, ‵, raw, ◌⊛◌, later, await, ◌$◌, ◌∵◌, !, qed, by, move, keep, split, split3, join, fsplit3, fjoin, assume, suffices, updating, now, done, use1, use2, obor_alter, u64, part_at, param, layout, Laws, param_laws, RattleType, Ptr, block_ptr, nothing, Lends-lies, lent_at, array_of, pick, some, fseps, Fits}
+use Rattle.piper_cells.proofs.Signs.{signs}
 use prog.Memory.{divides}
 use borrow.Table.OneValue.{part_out}
-use Rattle.piper_cells.specs.Space.{Fits}
 
 -- eight is a multiple of an alignment of eight
 eight : (n : ℕ) → n ≡ 8 → T (divides n 8)
@@ -13,15 +11,7 @@ eight n e = subst (λ (m : ℕ). T (divides m 8)) (sym e) tt
 
 module _ {M : Type 1} {𝓤 : Ura M} (𝓛 : Logic 𝓤) (X : RattleType) (L : Laws X) (words b o : ℕ) where
   open 𝓛 use {H, A}
-
-  abbrev ◌⊢◌ : SProp 𝓤 → SProp 𝓤 → Type 1
-  P ⊢ Q = ent 𝓤 P Q
-
-  abbrev ◌∗◌ : SProp 𝓤 → SProp 𝓤 → SProp 𝓤
-  P ∗ Q = sep 𝓤 P Q
-
-  abbrev ⟦◌⟧ : Fml → SProp 𝓤
-  ⟦ P ⟧ = sem 𝓛 P
+  open signs 𝓛 use {⟦◌⟧, ◌⊢◌, ◌∗◌}
 
   infix 26 ◌⊢◌
   infixr 35 ◌∗◌

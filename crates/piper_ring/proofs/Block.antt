@@ -1,12 +1,8 @@
 -- The ring's block is cut into the words and the bytes, and made one again. Assumes `Logic`.
-use Rattle.piper_ring.proofs.Kit.{◌≡◌, ℕ, zero, suc, ◌+◌, ◌-◌, ◌*◌, ◌<◌, ◌^◌, [], ◌∷◌, sym, refl, ◌∙◌, subst, arith, Ura, SProp, ent, sep, Fml, fsep, fwand, froom, Logic, sem, ‵, ◌⊛◌, ◌$◌, ◌∵◌, !, qed, by, move, split, fsplit, fjoin, frame, assume, rewrite, use1, use2, Ptr, Ty, ty_int, w8, w64, block_of, count_of, apply∗, array_of, u8, words_type, RingIsPlaced, Names}
+use Rattle.piper_ring.proofs.Kit.{◌≡◌, ℕ, zero, suc, ◌+◌, ◌-◌, ◌*◌, ◌<◌, ◌^◌, [], ◌∷◌, sym, refl, ◌∙◌, subst, arith, Ura, Fml, fsep, fwand, froom, Logic, ‵, ◌⊛◌, ◌$◌, ◌∵◌, !, qed, by, move, split, fsplit, fjoin, frame, assume, rewrite, use1, use2, Ptr, Ty, ty_int, w8, w64, block_of, count_of, apply∗, array_of, u8, words_type, RingIsPlaced, Names, ty_array, InBlock, past as beyond, room_cut, room_glue, purpose, size_of_block, signs}
 use Rattle.std.proofs.Common.{◌/◌}
-use mir.Syntax.{ty_array}
-use denote.RawPtr.{InBlock}
-use denote.RawPtr.Room.{past as beyond, room_cut, room_glue}
 use prog.Align.{dv_one}
 use prog.Memory.{align}
-use Rattle.piper_ring.specs.Block.{purpose, size_of_block}
 use Rattle.piper_ring.specs.Places as P
 
 -- the bytes of a ring that lies in its block lie there, too
@@ -20,15 +16,7 @@ beyond_words (suc m) at = beyond_words m (at + 8) ∙ omega arith
 
 module _ {M : Type 1} {𝓤 : Ura M} (𝓛 : Logic 𝓤) (w : Ptr) (cap : ℕ) where
   open 𝓛 use {H}
-
-  abbrev ◌⊢◌ : SProp 𝓤 → SProp 𝓤 → Type 1
-  P ⊢ Q = ent 𝓤 P Q
-
-  abbrev ◌∗◌ : SProp 𝓤 → SProp 𝓤 → SProp 𝓤
-  P ∗ Q = sep 𝓤 P Q
-
-  abbrev ⟦◌⟧ : Fml → SProp 𝓤
-  ⟦ P ⟧ = sem 𝓛 P
+  open signs 𝓛 use {◌⊢◌, ◌∗◌, ⟦◌⟧}
 
   infix 26 ◌⊢◌
   infixr 35 ◌∗◌

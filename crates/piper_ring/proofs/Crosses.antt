@@ -1,13 +1,7 @@
 -- The seats may cross threads and be shared by them. Assumes nothing.
-use Rattle.piper_ring.proofs.Kit.{ℕ, Bool, true, false, List, ◌+◌, ◌-◌, length, Share, Fml, latest, at_least, Ptr, u8, IsSend, Common, sendable, slots, deeds, Names, State, flag, gone, where_gone, until_both, writer_knows, reader_knows, arrived_first, ends, blanks, memory, Inner, common, reader_owns, reader_lends, writer_owns, writer_lends, drop_list}
-use base.Shift.{Keyless}
+use Rattle.piper_ring.proofs.Kit.{ℕ, Bool, true, false, List, ◌+◌, ◌-◌, length, Share, Fml, latest, at_least, Ptr, u8, IsSend, Common, sendable, slots, deeds, Names, State, flag, gone, where_gone, until_both, writer_knows, reader_knows, arrived_first, ends, blanks, memory, Inner, common, reader_owns, reader_lends, writer_owns, writer_lends, drop_list, Keyless, purpose, size_of_block, lease, slice_index, is_some, Access, did_owns}
 use Rattle.std.proofs.Crossing.{frees}
-use Rattle.piper_ring.specs.Block.{purpose, size_of_block}
-use Rattle.piper_cells.specs.Space.{lease}
 use Rattle.piper_ring.specs.Shared.{rights, slot_of, spare}
-use Rattle.std.proofs.Common.{slice_index, is_some}
-use Rattle.piper_protocol.specs.OneList.{Access}
-use Rattle.piper_ring.specs.Trace.{did_owns}
 use Rattle.piper_ring.proofs.Evidence.{evidence-Keyless}
 use Rattle.piper_cells.proofs.CellCrosses.{right-Keyless}
 use Rattle.piper_ring.proofs.PlacesLaws.{run-Keyless, span-Keyless}

@@ -1,9 +1,7 @@
 -- What a mark reports, and what a side has stored, can be had twice, and two marks give one that says
 -- what either says. Assumes `Logic`.
-use Rattle.piper_ring.proofs.Kit.{◌≡◌, ℕ, ◌<◌, ◌≤◌, ◌⊎◌, inl, inr, Bool, true, false, List, [], ◌∷◌, max, leb, arith, Ura, numbers, at_least, SProp, ent, sep, ex, guard, emp, emp∗, Fml, Logic, sem, ‵, ◌⊛◌, some, given, ◌$◌, ◌∵◌, !, qed, by, move, split, pick, learn, check, show, use1, use2, done, drop as forget, Names, took, raised, announced, evidence, Stored, fsplit, fjoin, Stream, Reaches, streams, reaches_same}
-use Rattle.std.proofs.lemmas.Bool.Decides.{leb_tells}
+use Rattle.piper_ring.proofs.Kit.{◌≡◌, ℕ, ◌<◌, ◌≤◌, ◌⊎◌, inl, inr, Bool, true, false, List, [], ◌∷◌, max, leb, arith, Ura, numbers, at_least, SProp, ent, sep, ex, guard, emp, emp∗, Fml, Logic, sem, ‵, ◌⊛◌, some, given, ◌$◌, ◌∵◌, !, qed, by, move, split, pick, learn, check, show, use1, use2, done, drop as forget, Names, took, raised, announced, evidence, Stored, fsplit, fjoin, Stream, Reaches, streams, reaches_same, leb_tells, Keyless}
 use base.Growing.{Least}
-use base.Shift.{Keyless}
 use types.Growing.{at_least_dup, at_least_join}
 use Rattle.piper_ring.proofs.Reaching.{in_line, prefix_length, flag_reaches, Joined}
 

@@ -1,10 +1,9 @@
 -- The two calls of the heap, as a walk meets them: what a call is handed, and what its caller has
 -- afterwards. Assumes `Logic`.
-use Rattle.piper_ring.proofs.Kit.{◌≡◌, ℕ, List, [], ◌∷◌, ◌++◌, refl, ap, ◌∙◌, w64, Ura, Ty, Val, vint, vptr, vunit, vstruct, vnil, of_list, SProp, ent, sep, emp, guard, ex, id⊢, fst∗, never, Lft, Share, Fml, ftrue, fsep, flft, Logic, sem, ‵, raw, ◌⊛◌, some, later, ◌$◌, ◌∵◌, !, qed, move, keep, drop, split, join, fsplit, fjoin, feq_i, pick, show, check, use0, use1, updating, await, now, done, fact, fact_i, RattleType, Is, shows, usize, RefOf, shr_vals, plain, Ptr, ptr_val, block_ptr, null_ptr, in_a_block, nothing, peeks, owned_block, block_if_ok, heap_token}
+use Rattle.piper_ring.proofs.Kit.{◌≡◌, ℕ, List, [], ◌∷◌, ◌++◌, refl, ap, ◌∙◌, w64, Ura, Ty, Val, vint, vptr, vunit, vstruct, vnil, of_list, SProp, ent, sep, emp, guard, ex, id⊢, fst∗, never, Lft, Share, Fml, ftrue, fsep, flft, Logic, sem, ‵, raw, ◌⊛◌, some, later, ◌$◌, ◌∵◌, !, qed, move, keep, drop, split, join, fsplit, fjoin, feq_i, pick, show, check, use0, use1, updating, await, now, done, fact, fact_i, RattleType, Is, shows, usize, RefOf, shr_vals, plain, Ptr, ptr_val, block_ptr, null_ptr, in_a_block, nothing, peeks, owned_block, block_if_ok, heap_token, live, Answer}
 use prog.Model.{Model}
 use types.Kit.{Goal, Item, Seq, feq_l}
 use contract.Running.{Running}
-use types.Match.{live}
 use Rattle.core.specs.declared.alloc.AllocError.{AllocError}
 use Rattle.core.specs.declared.result.Result.TheVariants.{Ok, Err}
 use denote.Builtin.{unit}
@@ -13,7 +12,6 @@ use denote.Steps.{only}
 use denote.Triple.Statement.{Contract}
 use denote.Triple.Spec.{triple_of}
 use Rattle.core.specs.Allocator.{HasLayout}
-use Rattle.core.proofs.alloc.Calls.{Answer}
 use Rattle.std_heap.specs.contracts.Global as Heap
 use Rattle.std_heap.specs.contracts.GlobalAllocator.allocate as Allocate
 use Rattle.std_heap.specs.contracts.GlobalAllocator.deallocate as Deallocate

@@ -1,9 +1,7 @@
 -- What `piper_protocol` says of indices, said of counts of bytes.
-use Rattle.std.proofs.Common.{◌≡◌, ℕ, ◌+◌, ◌-◌, ◌*◌, ◌%◌, ◌<◌, ◌≤◌, ap, ◌∙◌, arith}
+use Rattle.piper_ring.proofs.Kit.{◌≡◌, ℕ, ◌+◌, ◌-◌, ◌*◌, ◌%◌, ◌<◌, ◌≤◌, ap, ◌∙◌, arith, position_of, slot_of as offset_of, distance}
 use native.Mathlib.Nat.{mod-add-mod, mod-mod_of_dvd, dvd-mul_left}
-use Rattle.rtrb.specs.Fifo.{position_of, slot_of as offset_of}
 use Rattle.rtrb.proofs.Positions.{position_apart}
-use Rattle.piper_protocol.specs.Index.{distance}
 
 -- the remainder of an index is the offset of its count
 pub offset_at : (c i n r : ℕ) → i ≡ position_of c n → r ≡ i % c → r ≡ offset_of c n

@@ -1,18 +1,11 @@
 -- An end leaves: it closes the ring, and then gives up its places; the second one to leave gets all
 -- of the memory. Assumes `Logic`.
-use Rattle.piper_protocol.specs.Lines.{accesses_in}
-use Rattle.piper_ring.proofs.Kit.{position_of, fwand, ◌<◌, Filled, filled, slot_word, slot_rooms, ◌≡◌, ℕ, zero, suc, ◌+◌, ◌-◌, ◌*◌, ◌≤◌, Bool, true, false, List, [], ◌∷◌, length, sym, refl, ap, ◌∙◌, subst, arith, Ura, numbers, latest, SProp, ent, sep, upd, ex, via, upd_i, Share, Fml, ftrue, fsep, Logic, sem, latest_grows, latest_shows, ‵, raw, ◌⊛◌, some, given, ◌$◌, ◌∵◌, !, qed, by, move, keep, split, split3, fsplit, fsplit3, fjoin, fjoin3, fpick, fpack, pick, learn, show, frame, assume, settle, suffices, rewrite, use1, use2, use3, done, drop as forget, Ptr, block_ptr, block_of, count_of, nothing, asks, always, Lies, length-drop, span_join, span_map, span, array_of, Ty, w64, ty_int, lone, apply∗, id⊢, froom, fex, unset, full_share, u8, slot_of as offset_of, Names, State, Holds, half, other, flag, gone, until_both, where_gone, word, word_room, all_rooms, slots, blanks, memory, writer_knows, reader_knows, ends, raised, state_holds, Inner, common, drop_list}
+use Rattle.piper_ring.proofs.Kit.{position_of, fwand, ◌<◌, Filled, filled, slot_word, slot_rooms, ◌≡◌, ℕ, zero, suc, ◌+◌, ◌-◌, ◌*◌, ◌≤◌, Bool, true, false, List, [], ◌∷◌, length, sym, refl, ap, ◌∙◌, subst, arith, Ura, numbers, latest, upd, ex, via, upd_i, Share, Fml, ftrue, fsep, Logic, latest_grows, latest_shows, ‵, raw, ◌⊛◌, some, given, ◌$◌, ◌∵◌, !, qed, by, move, keep, split, split3, fsplit, fsplit3, fjoin, fjoin3, fpick, fpack, pick, learn, show, frame, assume, settle, suffices, rewrite, use1, use2, use3, done, drop as forget, Ptr, block_ptr, block_of, count_of, nothing, asks, always, Lies, length-drop, span_join, span_map, span, array_of, Ty, w64, ty_int, lone, apply∗, id⊢, froom, fex, unset, full_share, u8, slot_of as offset_of, Names, State, Holds, half, other, flag, gone, until_both, where_gone, word, word_room, all_rooms, slots, blanks, memory, writer_knows, reader_knows, ends, raised, state_holds, Inner, common, drop_list, accesses_in, Coded, coded_ℕ, coded_bool, closed_is, mirrored, bytes_code, closed_name, head_name, tail_name, Log, lease, space_room, signs}
 use Rattle.rtrb.proofs.Spans.{ring_in}
 use Rattle.piper_ring.proofs.PlacesParts.{forgets}
 use mir.Raw.{raw as bare}
 use Rattle.piper_ring.specs.Places.{fact}
-use Rattle.std.specs.Coded.{Coded, coded_ℕ, coded_bool}
-use Rattle.piper_ring.specs.Shared.{closed_is, mirrored}
-use Rattle.piper_ring.specs.Trace.{bytes_code, closed_name, head_name, tail_name}
-use Rattle.piper_ring.specs.declared.log.Log.{Log}
 use Rattle.piper_ring.proofs.Steps.{Closed, ClosedAt, Kept, closed_stored_noted, flag_small, Rest, OneStays, ReaderSees, WriterSees, reader_opens, writer_opens, closes, inside, raise}
-use Rattle.piper_cells.specs.Space.{lease}
-use Rattle.piper_ring.specs.Block.{space_room}
 use Rattle.piper_ring.specs.Shared.{block_room, bytes_room, found_left, four_rooms, frame as frame_of, leases, left_in, one_gone, slot_of as slot_in, titles, wakers_left, whole}
 
 pub here : (i : ℕ) → i ≤ 1 → gone i ≡ false
@@ -30,18 +23,7 @@ one_true true = refl
 
 module _ {M : Type 1} {𝓤 : Ura M} (𝓛 : Logic 𝓤) (w p : Ptr) (z : Names) where
   open 𝓛 use {H, A}
-
-  abbrev Pr : Type 2
-  Pr = SProp 𝓤
-
-  abbrev ◌⊢◌ : Pr → Pr → Type 1
-  P ⊢ Q = ent 𝓤 P Q
-
-  abbrev ◌∗◌ : Pr → Pr → Pr
-  P ∗ Q = sep 𝓤 P Q
-
-  abbrev ⟦◌⟧ : Fml → Pr
-  ⟦ P ⟧ = sem 𝓛 P
+  open signs 𝓛 use {Pr, ◌⊢◌, ◌∗◌, ⟦◌⟧}
 
   infix 26 ◌⊢◌
   infixr 35 ◌∗◌

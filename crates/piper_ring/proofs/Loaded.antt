@@ -1,7 +1,5 @@
 -- What a load showed stays so while an end moves on by what it knows of.
-use Rattle.std.proofs.Common.{◌≡◌, ℕ, ◌++◌, length, sym, subst}
-use Rattle.piper_ring.specs.Shared.{Ring}
-use Rattle.piper_ring.specs.Loads.{FoundPublished}
+use Rattle.piper_ring.proofs.Kit.{◌≡◌, ℕ, ◌++◌, length, sym, subst, Ring, FoundPublished}
 use Rattle.piper_ring.specs.ReadView.{HasLoadedTail, ReadView}
 
 pub still_loaded : (a b : ReadView) → b.ring ≡ a.ring → length (b.taken ++ b.known) ≡ length (a.taken ++ a.known) → HasLoadedTail a → HasLoadedTail b

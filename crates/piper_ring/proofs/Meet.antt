@@ -1,19 +1,14 @@
 -- Both ends held by one thread open the invariant with no step of the program: the reader gets all
 -- that was published, the writer all that is free, and a ring that was seen closed is shut. Assumes
 -- `Logic`.
-use Rattle.piper_ring.proofs.Kit.{◌≡◌, ℕ, ◌+◌, ◌-◌, ◌≤◌, Bool, false, List, [], ◌∷◌, ◌++◌, length, sym, refl, ap, subst, ◌∙◌, arith, Order, numbers, latest, prefix_refl, latest_bounds, latest_shows, run, byte, Ura, SProp, ent, sep, ex, guard, upd, upd_i, Fml, ftrue, fsep, Logic, sem, keep, ‵, raw, ◌⊛◌, some, given, ◌$◌, ◌∵◌, !, qed, move, split, split3, fsplit, fsplit3, fjoin, fjoin3, fpick, fpack, pick, learn, check, show, frame, settle, suffices, rewrite, use1, use2, use3, done, nothing, drop as forget, Ptr, Names, State, Holds, half, other, idle, flag, gone, where_gone, blanks, deeds, raised, announced, began, writer_knows, reader_knows, ends, Inner, common, Stream, Reaches, streams, open_reaches, drop_list}
+use Rattle.piper_ring.proofs.Kit.{◌≡◌, ℕ, ◌+◌, ◌-◌, ◌≤◌, Bool, false, List, [], ◌∷◌, ◌++◌, length, sym, refl, ap, subst, ◌∙◌, arith, Order, numbers, latest, prefix_refl, latest_bounds, latest_shows, run, byte, Ura, SProp, ent, ex, guard, upd, upd_i, Fml, ftrue, fsep, Logic, keep, ‵, raw, ◌⊛◌, some, given, ◌$◌, ◌∵◌, !, qed, move, split, split3, fsplit, fsplit3, fjoin, fjoin3, fpick, fpack, pick, learn, check, show, frame, settle, suffices, rewrite, use1, use2, use3, done, nothing, drop as forget, Ptr, Names, State, Holds, half, other, idle, flag, gone, where_gone, blanks, deeds, raised, announced, began, writer_knows, reader_knows, ends, Inner, common, Stream, Reaches, streams, open_reaches, drop_list, signs}
 use Rattle.std.proofs.Math.Seq.{drop-length}
 use Rattle.piper_ring.proofs.LoadIfNone.{pending_is}
 use Rattle.piper_ring.proofs.Steps.{quietly, ends_show, flag_small, not_gone, Rest, OneStays, WriterSees, writer_opens, reader_agrees, closes, raise}
 
 module _ {M : Type 1} {𝓤 : Ura M} (𝓛 : Logic 𝓤) (w p : Ptr) (z : Names) (head seen : ℕ) (sent : List ℕ) (limit : ℕ) (shut there : Bool) (have : List ℕ) (heard : Stream) (other_saw : Bool) where
   open 𝓛 use {H}
-
-  abbrev ⟦◌⟧ : Fml → SProp 𝓤
-  ⟦ P ⟧ = sem 𝓛 P
-
-  abbrev ◌∗◌ : SProp 𝓤 → SProp 𝓤 → SProp 𝓤
-  P ∗ Q = sep 𝓤 P Q
+  open signs 𝓛 use {◌∗◌, ⟦◌⟧}
 
   infixr 35 ◌∗◌
   abbrev cap : ℕ

@@ -1,23 +1,12 @@
 -- A ring is opened: the words are cut out of their room, the bytes are places, and the invariant is
 -- made. Assumes `Logic`.
-use Rattle.piper_ring.proofs.Kit.{Stored, nothing_stored, stored_code, evidence, waits_in, wakes_in, ◌≡◌, ℕ, suc, ◌+◌, ◌-◌, ◌*◌, ◌<◌, ◌^◌, true, false, List, [], ◌∷◌, length, sym, refl, ap, ◌∙◌, subst, arith, Ura, full_share, Order, numbers, latest, at_least, SProp, ent, sep, emp, ex, via, id⊢, Fml, ftrue, fsep, finv, fobs, Logic, sem, latest_shows, assume, ‵, ◌⊛◌, some, later, ◌$◌, ◌∵◌, !, qed, by, move, split, split3, fsplit, fsplit3, fjoin, fjoin3, fpack, pick, show, frame, rewrite, check, use0, use1, use2, use3, updating, await, now, done, Ptr, nothing, Ty, ty_int, w64, u8, lone, block_of, count_of, array_of, fwand, froom, span, slot_of as offset_of, span_map, unset, Stream, streams, reaches_same, Names, State, Holds, half, other, word, word_room, words_type, slot_rooms, all_rooms, idle, Inner, RingIsPlaced, common, reader_owns, writer_owns, Waits, Wakes, AreAt, Lying, number, waits_code, wakes_code, both_at, slot, slot_at, took, right}
-use Rattle.std.proofs.Common.{None, slice_index}
-use Rattle.std.specs.Coded.{coded_ℕ, coded_bool}
-use Rattle.piper_protocol.specs.OneList.{Access, AreInOrder, By}
-use Rattle.piper_ring.specs.Trace.{access_code, bytes_code, closed_name, did_owns, head_name, slot_name, tail_name, ticket_code, trace, traced}
-use Rattle.std.proofs.lemmas.Bool.{false≢true}
+use Rattle.piper_ring.proofs.Kit.{Stored, nothing_stored, stored_code, evidence, waits_in, wakes_in, ◌≡◌, ℕ, suc, ◌+◌, ◌-◌, ◌*◌, ◌<◌, ◌^◌, true, false, List, [], ◌∷◌, length, sym, refl, ap, ◌∙◌, subst, arith, Ura, full_share, Order, numbers, latest, at_least, SProp, ent, sep, emp, ex, via, id⊢, Fml, ftrue, fsep, finv, fobs, Logic, sem, latest_shows, assume, ‵, ◌⊛◌, some, later, ◌$◌, ◌∵◌, !, qed, by, move, split, split3, fsplit, fsplit3, fjoin, fjoin3, fpack, pick, show, frame, rewrite, check, use0, use1, use2, use3, updating, await, now, done, Ptr, nothing, Ty, ty_int, w64, u8, lone, block_of, count_of, array_of, fwand, froom, span, slot_of as offset_of, span_map, unset, Stream, streams, reaches_same, Names, State, Holds, half, other, word, word_room, words_type, slot_rooms, all_rooms, idle, Inner, RingIsPlaced, common, reader_owns, writer_owns, Waits, Wakes, AreAt, Lying, number, waits_code, wakes_code, both_at, slot, slot_at, took, right, None, slice_index, coded_ℕ, coded_bool, Access, AreInOrder, By, access_code, bytes_code, closed_name, did_owns, head_name, slot_name, tail_name, ticket_code, trace, traced, false≢true, InBlock, ty_array, past as beyond, room_cut, room_glue, behind, size_of_block, space_room, Whole, mirrored, names_of, titles, Coded, signs}
 use types.Growing.{latest_new}
-use denote.RawPtr.{InBlock}
 use types.Owned.{basic}
-use mir.Syntax.{ty_array}
 use mir.Raw.{raw as bare}
-use denote.RawPtr.Room.{past as beyond, room_cut, room_glue}
 use Rattle.rtrb.proofs.Spans.{ring_out}
 use Rattle.rtrb.proofs.Positions.{position_zero}
-use Rattle.piper_ring.specs.Block.{behind, size_of_block, space_room}
-use Rattle.piper_ring.specs.Shared.{Whole, mirrored, names_of, titles}
 use types.Tokens.{name_new}
-use Rattle.std.specs.Coded.{Coded}
 use Rattle.piper_ring.proofs.Block.{beyond_words}
 use Rattle.piper_ring.proofs.Evidence.{evidence_twice}
 use Rattle.piper_ring.proofs.Rights.{common_twice, cut}
@@ -25,15 +14,7 @@ use Rattle.piper_ring.proofs.Steps.{closes}
 
 module _ {M : Type 1} {𝓤 : Ura M} (𝓛 : Logic 𝓤) (w p : Ptr) (cap : ℕ) where
   open 𝓛 use {H, A}
-
-  abbrev ◌⊢◌ : SProp 𝓤 → SProp 𝓤 → Type 1
-  P ⊢ Q = ent 𝓤 P Q
-
-  abbrev ◌∗◌ : SProp 𝓤 → SProp 𝓤 → SProp 𝓤
-  P ∗ Q = sep 𝓤 P Q
-
-  abbrev ⟦◌⟧ : Fml → SProp 𝓤
-  ⟦ P ⟧ = sem 𝓛 P
+  open signs 𝓛 use {◌⊢◌, ◌∗◌, ⟦◌⟧}
 
   infix 26 ◌⊢◌
   infixr 35 ◌∗◌

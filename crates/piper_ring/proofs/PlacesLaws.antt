@@ -1,9 +1,7 @@
 -- A `&` to a stretch of places lends its bytes. Assumes `Logic`.
-use Rattle.piper_ring.proofs.Kit.{ℕ, zero, suc, List, [], ◌∷◌, Ura, Lft, ftrue, full_share, Logic, u8, w8, Ptr, block_of, beside_shr_laws, nothing_shr_laws, said_shr_laws, IsSend, IsSync, Common, Lends, Lends-both, Lends-nothing, Lends-said, shared_of, run, span, place, byte, unset, run_lent, places_lent, part_keyless}
-use base.Shift.{Keyless}
+use Rattle.piper_ring.proofs.Kit.{ℕ, zero, suc, List, [], ◌∷◌, Ura, Lft, ftrue, full_share, Logic, u8, w8, Ptr, block_of, beside_shr_laws, nothing_shr_laws, said_shr_laws, IsSend, IsSync, Common, Lends, Lends-both, Lends-nothing, Lends-said, shared_of, run, span, place, byte, unset, run_lent, places_lent, part_keyless, Keyless, ShrLaws, said}
 use denote.Plain.{uint_row_laws}
 use denote.Copied.{uint_Copied}
-use denote.Sharing.{ShrLaws, said}
 use Rattle.piper_ring.specs.Places.{fact, Placed, blank_own, places_own}
 
 module _ (at : Ptr) (cap : ℕ) where

@@ -1,10 +1,7 @@
 -- Stretches of places are cut; their front is one piece of memory; and their bytes are given up.
 -- Assumes `Logic`.
-use Rattle.piper_ring.proofs.Kit.{◌≡◌, ℕ, zero, suc, ◌+◌, ◌<◌, ◌≤◌, List, [], ◌∷◌, length, take, sym, ap, ◌∙◌, subst, arith, Ura, ent, id⊢, Lft, Fml, Logic, sem, ‵, ◌$◌, ◌∵◌, !, qed, keep, done, u8, Ptr, block_of, count_of, shared_of, slot_of as offset_of, slot_small, mem, full_share, sep, via, emp, emp∗, move, split, fjoin, use1, ◌⊛◌, w8, ty_int, vint, run, span, run_lent, place, byte, unset, drop_list}
+use Rattle.piper_ring.proofs.Kit.{◌≡◌, ℕ, zero, suc, ◌+◌, ◌<◌, ◌≤◌, List, [], ◌∷◌, length, take, sym, ap, ◌∙◌, subst, arith, Ura, ent, id⊢, Lft, Fml, Logic, sem, ‵, ◌$◌, ◌∵◌, !, qed, keep, done, u8, Ptr, block_of, count_of, shared_of, slot_of as offset_of, slot_small, mem, full_share, sep, via, emp, emp∗, move, split, fjoin, use1, ◌⊛◌, w8, ty_int, vint, run, span, run_lent, place, byte, unset, drop_list, elements_shared, slot_add, cells}
 use base.Logic.{mono_r}
-use denote.Slice.{elements_shared}
-use Rattle.rtrb.proofs.Positions.{slot_add}
-use types.SemTy.{cells}
 use denote.Plain.{uint_out}
 use Rattle.rtrb.proofs.Spans.{run_span}
 

@@ -1,7 +1,5 @@
 -- What follows for two streams where one may become of the other. Assumes nothing.
-use Rattle.piper_ring.proofs.Kit.{◌≡◌, ℕ, ◌+◌, ◌<◌, ◌≤◌, ◌⊎◌, inl, inr, Bool, true, false, List, ◌++◌, length, take, max, leb, refl, sym, ap, subst, ◌∙◌, length-append, arith, take-append_seam, take-append-le, take-append-drop, IsPrefix, flag, Stream, Reaches, open_reaches, drop_list}
-use Rattle.std.proofs.lemmas.Bool.{false≢true}
-use Rattle.std.proofs.lemmas.Bool.Decides.{leb_tells}
+use Rattle.piper_ring.proofs.Kit.{◌≡◌, ℕ, ◌+◌, ◌<◌, ◌≤◌, ◌⊎◌, inl, inr, Bool, true, false, List, ◌++◌, length, take, max, leb, refl, sym, ap, subst, ◌∙◌, length-append, arith, take-append_seam, take-append-le, take-append-drop, IsPrefix, flag, Stream, Reaches, open_reaches, drop_list, false≢true, leb_tells}
 
 -- of two beginnings of one list, the longer begins with the shorter
 pub begins : (a b l xs ys : List ℕ) → a ++ xs ≡ l → b ++ ys ≡ l → length a ≤ length b → a ++ drop_list (length a) b ≡ b

@@ -1,17 +1,12 @@
 -- The places that the writer saw given back come to it, with no step of the program. Assumes
 -- `Logic`.
-use Rattle.piper_ring.proofs.Kit.{◌≡◌, ℕ, ◌+◌, ◌-◌, ◌≤◌, Bool, false, List, [], ◌∷◌, length, take, sym, refl, ap, arith, length-take-le, length-drop, Ura, numbers, latest, SProp, ent, sep, ex, guard, upd, upd_i, Fml, ftrue, fsep, Logic, sem, latest_bounds, ‵, raw, ◌⊛◌, some, given, ◌$◌, ◌∵◌, !, qed, move, split, split3, fsplit, fsplit3, fjoin, fjoin3, fpick, fpack, pick, learn, check, show, frame, settle, suffices, rewrite, use1, use2, use3, done, drop as forget, Ptr, nothing, run, byte, Names, State, Holds, half, other, idle, gone, where_gone, blanks, deeds, took, writer_knows, reader_knows, Inner, common, drop_list}
+use Rattle.piper_ring.proofs.Kit.{◌≡◌, ℕ, ◌+◌, ◌-◌, ◌≤◌, Bool, false, List, [], ◌∷◌, length, take, sym, refl, ap, arith, length-take-le, length-drop, Ura, numbers, latest, SProp, ent, ex, guard, upd, upd_i, Fml, ftrue, fsep, Logic, latest_bounds, ‵, raw, ◌⊛◌, some, given, ◌$◌, ◌∵◌, !, qed, move, split, split3, fsplit, fsplit3, fjoin, fjoin3, fpick, fpack, pick, learn, check, show, frame, settle, suffices, rewrite, use1, use2, use3, done, drop as forget, Ptr, nothing, run, byte, Names, State, Holds, half, other, idle, gone, where_gone, blanks, deeds, took, writer_knows, reader_knows, Inner, common, drop_list, signs}
 use Rattle.piper_ring.proofs.PlacesParts.{run_cut}
 use Rattle.piper_ring.proofs.Steps.{quietly, flag_small, not_gone, Rest, OneStays, WriterSees, writer_opens, closes, raise}
 
 module _ {M : Type 1} {𝓤 : Ura M} (𝓛 : Logic 𝓤) (w p : Ptr) (z : Names) (sent : List ℕ) (limit : ℕ) (shut : Bool) (consumed : ℕ) where
   open 𝓛 use {H}
-
-  abbrev ⟦◌⟧ : Fml → SProp 𝓤
-  ⟦ P ⟧ = sem 𝓛 P
-
-  abbrev ◌∗◌ : SProp 𝓤 → SProp 𝓤 → SProp 𝓤
-  P ∗ Q = sep 𝓤 P Q
+  open signs 𝓛 use {◌∗◌, ⟦◌⟧}
 
   infixr 35 ◌∗◌
   abbrev full : ℕ

@@ -1,5 +1,5 @@
 -- What an end knows is cut and joined, lent, and moved up. Assumes `Logic`.
-use Rattle.piper_ring.proofs.Kit.{ℕ, Bool, List, [], ◌∷◌, Ura, Order, numbers, latest, SProp, ent, sep, snd∗, Lft, Share, Fml, GName, ftrue, fsep, finv, before, Logic, sem, ‵, raw, ◌⊛◌, ◌$◌, ◌∵◌, !, qed, move, drop, split, fsplit, fjoin, fpick, fpack, frame, use1, use2, updating, now, done, Ptr, beside_shr_laws, nothing, Lends, Lends-both, Lends-first, lends_twice, streams, Names, half, flag, writer_knows, reader_knows, arrived_first, Whole, RingIsPlaced, common, reader_owns, reader_lends, writer_owns, writer_lends, Known, by_reader, by_writer, knows}
+use Rattle.piper_ring.proofs.Kit.{ℕ, Bool, List, [], ◌∷◌, Ura, Order, numbers, latest, sep, snd∗, Lft, Share, Fml, GName, ftrue, fsep, finv, before, Logic, sem, ‵, raw, ◌⊛◌, ◌$◌, ◌∵◌, !, qed, move, drop, split, fsplit, fjoin, fpick, fpack, frame, use1, use2, updating, now, done, Ptr, beside_shr_laws, nothing, Lends, Lends-both, Lends-first, lends_twice, streams, Names, half, flag, writer_knows, reader_knows, arrived_first, Whole, RingIsPlaced, common, reader_owns, reader_lends, writer_owns, writer_lends, Known, by_reader, by_writer, knows, one_shr_laws, signs}
 use base.Share.{left, right, halves}
 use base.Fml.{fbor, fshr_bor}
 use ghost.Rules.{Halves}
@@ -7,22 +7,10 @@ use types.Logic.{lfts}
 use types.Growing.{latest_cut, latest_glue}
 use types.Tokens.{bor_fracture}
 use denote.Sharing.{ShrLaws, said, one}
-use denote.SharingLaws.{one_shr_laws}
 
 module _ {M : Type 1} {𝓤 : Ura M} (𝓛 : Logic 𝓤) where
   open 𝓛 use {H, A}
-
-  abbrev Pr : Type 2
-  Pr = SProp 𝓤
-
-  abbrev ◌⊢◌ : Pr → Pr → Type 1
-  P ⊢ Q = ent 𝓤 P Q
-
-  abbrev ◌∗◌ : Pr → Pr → Pr
-  P ∗ Q = sep 𝓤 P Q
-
-  abbrev ⟦◌⟧ : Fml → Pr
-  ⟦ P ⟧ = sem 𝓛 P
+  open signs 𝓛 use {Pr, ◌⊢◌, ◌∗◌, ⟦◌⟧}
 
   infix 26 ◌⊢◌
   infixr 35 ◌∗◌

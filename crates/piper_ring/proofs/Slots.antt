@@ -1,17 +1,8 @@
 -- The steps of both sides on a slot. Assumes `Logic`.
-use Rattle.piper_protocol.specs.Lines.{accesses_in}
-use Rattle.piper_ring.proofs.Kit.{◌*◌, ◌^◌, ◌<◌, lit<, flag, ◌≡◌, ℕ, ◌+◌, ◌≤◌, ◌⊎◌, inl, inr, Bool, true, false, List, [], ◌∷◌, sym, refl, subst, arith, Ura, SProp, ent, sep, upd, ex, guard, upd_i, apply∗, Share, Fml, ftrue, fsep, fex, fwand, fobs, Logic, sem, ‵, raw, ◌⊛◌, some, given, ◌$◌, ◌∵◌, !, qed, by, move, keep, split, split3, fsplit, fsplit3, fjoin, fjoin3, fpick, fpack, pick, learn, check, show, frame, assume, settle, suffices, rewrite, use1, use2, done, drop as forget, Ptr, block_ptr, block_of, count_of, nothing, asks, always, Filled, filled, Lying, number, ticket_if, mirrored, is_odd, Waits, Wakes, AreAt, Exchanges, IsTicket, waits_code, wakes_code, both_at, both, cell, slot_at, slot, IsRemembered, Names, State, Holds, other, reader_knows, writer_knows, slots, Inner, common, Order, numbers, latest, latest_shows, Stream, streams, reaches_same, took, raised, Stored, as_stored, stored_code, Known, by_reader, by_writer, knows, evidence, slot_word, waits_in, wakes_in}
-use Rattle.std.proofs.Common.{◌%◌, ◌==◌, ◌∙◌, Option, Some, None, is_some, ap}
-use Rattle.std.proofs.lemmas.Bool.{false≢true}
-use base.Fml.{fauth}
-use types.Tokens.{name_agree}
-use Rattle.std.specs.Coded.{Coded}
+use Rattle.piper_ring.proofs.Kit.{◌*◌, ◌^◌, ◌<◌, lit<, flag, ◌≡◌, ℕ, ◌+◌, ◌≤◌, ◌⊎◌, inl, inr, Bool, true, false, List, [], ◌∷◌, sym, refl, subst, arith, Ura, upd, ex, guard, upd_i, apply∗, Share, Fml, ftrue, fsep, fex, fwand, fobs, Logic, ‵, raw, ◌⊛◌, some, given, ◌$◌, ◌∵◌, !, qed, by, move, keep, split, split3, fsplit, fsplit3, fjoin, fjoin3, fpick, fpack, pick, learn, check, show, frame, assume, settle, suffices, rewrite, use1, use2, done, drop as forget, Ptr, block_ptr, block_of, count_of, nothing, asks, always, Filled, filled, Lying, number, ticket_if, mirrored, is_odd, Waits, Wakes, AreAt, Exchanges, IsTicket, waits_code, wakes_code, both_at, both, cell, slot_at, slot, IsRemembered, Names, State, Holds, other, reader_knows, writer_knows, slots, Inner, common, Order, numbers, latest, latest_shows, Stream, streams, reaches_same, took, raised, Stored, as_stored, stored_code, Known, by_reader, by_writer, knows, evidence, slot_word, waits_in, wakes_in, accesses_in, ◌%◌, ◌==◌, ◌∙◌, Option, Some, None, is_some, ap, false≢true, fauth, name_agree, Coded, Access, FindsWords, Words, loaded_slot, slot_in, swapped, with_slot, words_after, side_of, slot_name, ticket_code, Log, signs}
 use Rattle.piper_ring.specs.Places.{fact}
 use Rattle.piper_ring.specs.Shared.{slot_of, waiter, waker}
 use Rattle.piper_ring.proofs.Evidence.{evidence_twice}
-use Rattle.piper_protocol.specs.OneList.{Access, FindsWords, Words, loaded_slot, slot_in, swapped, with_slot, words_after}
-use Rattle.piper_ring.specs.Trace.{side_of, slot_name, ticket_code}
-use Rattle.piper_ring.specs.declared.log.Log.{Log}
 use Rattle.piper_ring.proofs.Trace.{takes_slot}
 use Rattle.piper_ring.proofs.Steps.{Holding, Kept, Noted, access_noted, flag_small, no_load, quietly, Rest, OneStays, ReaderSees, WriterSees, reader_opens, writer_opens, closes}
 
@@ -101,18 +92,7 @@ module _ {X : Type 0} where
 
 module _ {M : Type 1} {𝓤 : Ura M} (𝓛 : Logic 𝓤) (w p : Ptr) (z : Names) where
   open 𝓛 use {H, A}
-
-  abbrev Pr : Type 2
-  Pr = SProp 𝓤
-
-  abbrev ◌⊢◌ : Pr → Pr → Type 1
-  P ⊢ Q = ent 𝓤 P Q
-
-  abbrev ◌∗◌ : Pr → Pr → Pr
-  P ∗ Q = sep 𝓤 P Q
-
-  abbrev ⟦◌⟧ : Fml → Pr
-  ⟦ P ⟧ = sem 𝓛 P
+  open signs 𝓛 use {Pr, ◌⊢◌, ◌∗◌, ⟦◌⟧}
 
   infix 26 ◌⊢◌
   infixr 35 ◌∗◌

@@ -1,24 +1,14 @@
 -- The invariant is taken apart by what one end knows and put together again; and the steps on the
 -- tail, on the head and on closed. Assumes `Logic`.
-use Rattle.piper_protocol.specs.Lines.{accesses_in}
-use Rattle.piper_ring.proofs.Kit.{◌≡◌, ℕ, zero, suc, ◌+◌, ◌-◌, ◌≤◌, Bool, true, false, List, [], ◌∷◌, ◌++◌, length, sym, refl, ap, ◌∙◌, length-append, arith, Ura, full_share, Order, numbers, latest, prefix_refl, SProp, ent, sep, upd, guard, ex, upd_i, Share, Fml, GName, ftrue, fsep, Logic, sem, latest_grows, latest_bounds, latest_shows, ‵, raw, ◌⊛◌, some, given, ◌$◌, ◌∵◌, !, qed, by, move, split, split3, fsplit, fsplit3, fjoin, fjoin3, fpick, fpack, pick, learn, check, show, frame, assume, settle, suffices, rewrite, use1, use2, use3, done, drop as forget, Ptr, block_ptr, block_of, count_of, nothing, asks, always, position_of, run, Lies, length-drop, run_join, byte, Stream, Reaches, streams, open_reaches, Names, State, Holds, half, other, flag, gone, until_both, where_gone, blanks, deeds, memory, announced, began, took, writer_knows, reader_knows, ends, state_holds, Inner, common, keep, reaches_same, raised, u8, part_at, slot_of as offset_of, idle, drop_list}
+use Rattle.piper_ring.proofs.Kit.{◌≡◌, ℕ, zero, suc, ◌+◌, ◌-◌, ◌≤◌, Bool, true, false, List, [], ◌∷◌, ◌++◌, length, sym, refl, ap, ◌∙◌, length-append, arith, Ura, full_share, Order, numbers, latest, prefix_refl, upd, guard, ex, upd_i, Share, Fml, GName, ftrue, fsep, Logic, latest_grows, latest_bounds, latest_shows, ‵, raw, ◌⊛◌, some, given, ◌$◌, ◌∵◌, !, qed, by, move, split, split3, fsplit, fsplit3, fjoin, fjoin3, fpick, fpack, pick, learn, check, show, frame, assume, settle, suffices, rewrite, use1, use2, use3, done, drop as forget, Ptr, block_ptr, block_of, count_of, nothing, asks, always, position_of, run, Lies, length-drop, run_join, byte, Stream, Reaches, streams, open_reaches, Names, State, Holds, half, other, flag, gone, until_both, where_gone, blanks, deeds, memory, announced, began, took, writer_knows, reader_knows, ends, state_holds, Inner, common, keep, reaches_same, raised, u8, part_at, slot_of as offset_of, idle, drop_list, accesses_in, slot_turn, Coded, coded_ℕ, coded_bool, Access, AreOneList, FindsWords, Words, loaded_closed, loaded_head, loaded_tail, stored_closed, stored_head, stored_tail, words_after, bytes_code, closed_name, did_owns, head_name, tail_name, AreSides, IsLogOf, not, await, later, now, updating, subst, Log, signs}
 use Rattle.std.proofs.Common.{append-nil}
 use types.Growing.{latest_agrees}
 use Rattle.std.proofs.lemmas.List.{drop-append-le}
 use Rattle.piper_ring.specs.Places.{fact}
 use Rattle.piper_ring.proofs.Rights.{cut, glue}
 use Rattle.piper_ring.proofs.Reaching.{flag_reaches, open_before}
-use Rattle.rtrb.proofs.Positions.{slot_turn}
 use Rattle.std.proofs.lemmas.Bool.{true≢false}
-use Rattle.std.specs.Coded.{Coded, coded_ℕ, coded_bool}
-use Rattle.piper_protocol.specs.OneList.{Access, AreOneList, FindsWords, Words, loaded_closed, loaded_head, loaded_tail, stored_closed, stored_head, stored_tail, words_after}
 use Rattle.piper_ring.specs.Shared.{head_is, tail_is, closed_is}
-use Rattle.piper_ring.specs.Trace.{bytes_code, closed_name, did_owns, head_name, tail_name}
-use Rattle.piper_ring.specs.Log.{AreSides, IsLogOf}
-use Rattle.std.proofs.Common.{not}
-use types.Kit.{await, later, now, updating}
-use Rattle.std.proofs.Common.{subst}
-use Rattle.piper_ring.specs.declared.log.Log.{Log}
 use Rattle.piper_ring.proofs.Trace.{Holding as HoldingIn, Noted as NotedIn, Takes, beside, noted, meets as meets_in, quietly as quietly_in, takes_closed, takes_head, takes_tail}
 
 pub flag_one : (a b : Bool) → flag a ≡ flag b → a ≡ b
@@ -39,18 +29,7 @@ run_turn p cap (x ∷ xs) k j e = let same : offset_of cap k + count_of p ≡ of
 
 module _ {M : Type 1} {𝓤 : Ura M} (𝓛 : Logic 𝓤) (w p : Ptr) (z : Names) where
   open 𝓛 use {H, A}
-
-  abbrev Pr : Type 2
-  Pr = SProp 𝓤
-
-  abbrev ◌⊢◌ : Pr → Pr → Type 1
-  P ⊢ Q = ent 𝓤 P Q
-
-  abbrev ◌∗◌ : Pr → Pr → Pr
-  P ∗ Q = sep 𝓤 P Q
-
-  abbrev ⟦◌⟧ : Fml → Pr
-  ⟦ P ⟧ = sem 𝓛 P
+  open signs 𝓛 use {Pr, ◌⊢◌, ◌∗◌, ⟦◌⟧}
 
   infix 26 ◌⊢◌
   infixr 35 ◌∗◌

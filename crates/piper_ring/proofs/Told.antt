@@ -1,22 +1,13 @@
 -- A note that is true keeps the log true.
-use Rattle.std.proofs.Common.{◌≡◌, ◌↔◌, IsTrue, ℕ, ◌+◌, ◌-◌, ◌≤◌, ◌==◌, ◌%◌, true≢false, sym, min, nat_le, if◌then◌else◌, ap, Bool, true, false, not, List, [], ◌∷◌, take, length, is_some, Option, None, refl, length-take-le, arith}
-use Rattle.std.proofs.lemmas.Bool.{eq-eqb}
+use Rattle.std.proofs.Common.{◌≡◌, ◌↔◌, IsTrue, ℕ, ◌+◌, ◌-◌, ◌≤◌, ◌==◌, ◌%◌, true≢false, sym, min, nat_le, if◌then◌else◌, ap, Bool, true, false, not, List, [], ◌∷◌, length, Option, None, refl, arith}
 use Rattle.std.proofs.lemmas.Bool.Decides.{nat_tests}
 use Rattle.piper_protocol.specs.Lines.{Line, access, action, comes_to, met, note}
 use Rattle.piper_protocol.specs.OneList.{Access, is_same, loaded_head, loaded_slot, loaded_tail, swapped}
-use Rattle.piper_protocol.specs.Told.{alike, are_told, begins, both, fits, is_made, is_settled, known_in, lendable_in, may_draw, moved_in, rests, seen_in, shut_in, waits_in}
+use Rattle.piper_protocol.specs.Told.{alike, are_told, begins, both, fits, is_made, is_settled, lendable_in, may_draw, moved_in, rests, seen_in, shut_in, waits_in}
 use Rattle.piper_protocol.specs.declared.table.Action.{Action}
 use Rattle.piper_protocol.specs.declared.table.Action.TheVariants.{LoadIndex}
-use Rattle.piper_protocol.specs.declared.table.Found.{Found}
-use Rattle.piper_protocol.specs.declared.table.Found.TheVariants.{IndexLoaded}
-use Rattle.piper_protocol.specs.declared.table.Point.{Point}
+use Rattle.piper_ring.proofs.Kit.{Found, IndexLoaded, Point, Reader, Writer, slot_of as offset_of, ReadView, in_one_piece, IsBounded, WriteView, lendable, side_of}
 use Rattle.piper_protocol.specs.declared.table.Side.{Side}
-use Rattle.piper_protocol.specs.declared.table.Side.TheVariants.{Reader, Writer}
-use Rattle.rtrb.specs.Fifo.{slot_of as offset_of}
-use Rattle.piper_ring.specs.ReadView.{ReadView, in_one_piece}
-use Rattle.piper_ring.specs.WriteView.{IsBounded, WriteView, lendable}
-use Rattle.piper_ring.specs.Slot.{ticket_if}
-use Rattle.piper_ring.specs.Trace.{side_of}
 use Rattle.piper_ring.specs.Log.{IsLoadedIn, IsOutside, IsToldIn, MayPassIn, as_is}
 use Rattle.piper_protocol.specs.declared.log.Note.{Note}
 use Rattle.piper_protocol.specs.declared.log.Note.TheVariants.{Began, ClosedLoaded, Drew, Made, Passed, Told}
@@ -68,14 +59,6 @@ module _ (capacity : ℕ) (own : Side) where
 
 -- what the notes of accesses say
 
-pub alike_same : (b : Bool) → alike b b ≡ true
-alike_same true = refl
-alike_same false = refl
-
-pub same_side : (s : Side) → is_same s s ≡ true
-same_side Reader = refl
-same_side Writer = refl
-
 own_there : (b reads : Bool) → both (not (is_same (side_of reads) (side_of reads))) b ≡ false
 own_there b true = refl
 own_there b false = refl
@@ -93,11 +76,6 @@ module _ (reads slot : Bool) (lines : List Line) where
   unfolding waits_in
   own_loaded true is waits = waits
   own_loaded false is waits = rw is (own_there _ reads)
-
-  pub own_taken : (old : Option ℕ) → slot ≡ reads
-      → waits_in (side_of reads) (access (swapped (side_of slot) old None) ∷ lines) ≡ false
-  unfolding waits_in
-  own_taken old is = rw is (own_there _ reads)
 
   pub other_loaded : (is_filled : Bool) → slot ≡ not reads
       → waits_in (side_of reads) (access (loaded_slot (side_of slot) is_filled) ∷ lines)
@@ -141,9 +119,6 @@ module _ (capacity : ℕ) (before : List Line) (count : ℕ) (none : Bool) where
   fits_head true is fit = absurd (true≢false is)
   fits_head false is fit = fit
 
-pub stored_all : (n : ℕ) (bytes : List ℕ) → n ≤ length bytes → (length (take n bytes) == n) ≡ true
-stored_all n bytes within = eq-eqb _ _ (length-take-le n bytes within)
-
 pub outside_made : (capacity : ℕ) (own : Side) (it : Action) (said : Found) (lines : List Line)
     → IsOutside it said → is_made capacity own lines it said ≡ true
 outside_made capacity own it said lines is = grind arith
@@ -164,13 +139,6 @@ module _ (capacity : ℕ) (lines : List Line) where
   unfolding as_is offset_of
   lent_is w bounds same seen moved shut =
       rw (seen, moved, shut, same) (ap (λ (n : ℕ). if w.shut then 0 else min n (capacity - length w.sent % capacity)) (omega (arith, bounds.1, bounds.2, same)))
-
-  pub room_is : (w : WriteView) → IsBounded w → w.capacity ≡ capacity
-      → seen_in lines ≡ as_is (length w.sent + w.room - w.capacity) → moved_in lines ≡ w.sent
-      → known_in capacity Writer lines ≡ w.room
-  unfolding as_is
-  room_is w bounds same seen moved =
-      rw (seen, moved) (omega (arith, bounds.1, bounds.2, same))
 
 pub is_within : (n most : ℕ) → n ≤ most → nat_le n most ≡ true
 is_within n most le = grind (arith, nat_tests)

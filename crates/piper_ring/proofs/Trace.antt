@@ -1,39 +1,15 @@
 -- An access under an invariant of the words is one under the invariant with the list of all accesses,
 -- and adds itself to that list. Assumes `Logic`.
-use Rattle.std.proofs.Common.{◌≡◌, ℕ, ◌+◌, Bool, true, false, List, [], ◌∷◌, refl, sym, subst}
-use seplogic.Ra.Ura.{Ura}
-use base.Fml.{Fml, ftrue, fsep, fex, finv, fauth, fobs}
-use base.Logic.{SProp, ent, sep, wand, upd, ex, guard, upd_i, apply∗}
-use types.Logic.{Logic, sem}
-use types.Kit.{‵, raw, ◌⊛◌, some, ◌$◌, ◌∵◌, !, qed, move, split, fsplit, fsplit3, fjoin, fpick, fpack, pick, check, show, frame, assume, settle, suffices, rewrite, use1, use2, done, drop as forget}
-use types.Tokens.{name_agree}
-use denote.RawPtr.{Ptr, block_ptr, block_of, count_of}
-use denote.Steps.{nothing}
-use Rattle.core.specs.Sync.RawAtomic.{asks, always}
-use Rattle.std.specs.Coded.{Coded, coded_ℕ, coded_bool}
+use Rattle.piper_ring.proofs.Kit.{◌≡◌, ℕ, ◌+◌, Bool, true, false, List, [], ◌∷◌, refl, sym, subst, Ura, Fml, ftrue, fsep, fex, finv, fauth, fobs, Logic, ‵, raw, ◌⊛◌, some, ◌$◌, ◌∵◌, !, qed, move, split, fsplit, fsplit3, fjoin, fpick, fpack, pick, check, show, frame, assume, settle, suffices, rewrite, use1, use2, done, drop as forget, name_agree, Ptr, block_ptr, block_of, count_of, nothing, asks, always, Coded, coded_ℕ, coded_bool, Reader, Writer, signs}
+use base.Logic.{upd, ex, guard, upd_i, apply∗}
 use Rattle.rtrb.proofs.Asks.{Lies, shared}
-use Rattle.piper_protocol.specs.declared.table.Side.TheVariants.{Reader, Writer}
 use Rattle.piper_protocol.specs.OneList.{Access, By, Words, AreInOrder, AreOneList, FindsWords, did_by, slot_in, with_slot, words_after, words_of, by as turn}
 use Rattle.piper_ring.specs.Trace.{access_code, bytes_code, closed_name, did_name, did_owns, head_name, mirrors, side_of, sides, slot_name, tail_name, ticket_code, trace, traced}
 use Rattle.piper_ring.specs.Words.{mirrored, word}
 
 module _ {M : Type 1} {𝓤 : Ura M} (𝓛 : Logic 𝓤) where
   open 𝓛 use {H, A}
-
-  abbrev Pr : Type 2
-  Pr = SProp 𝓤
-
-  abbrev ◌⊢◌ : Pr → Pr → Type 1
-  P ⊢ Q = ent 𝓤 P Q
-
-  abbrev ◌∗◌ : Pr → Pr → Pr
-  P ∗ Q = sep 𝓤 P Q
-
-  abbrev ◌-∗◌ : Pr → Pr → Pr
-  P -∗ Q = wand 𝓤 P Q
-
-  abbrev ⟦◌⟧ : Fml → Pr
-  ⟦ P ⟧ = sem 𝓛 P
+  open signs 𝓛 use {Pr, ◌⊢◌, ◌∗◌, ◌-∗◌, ⟦◌⟧}
 
   infix 26 ◌⊢◌
   infixr 35 ◌∗◌

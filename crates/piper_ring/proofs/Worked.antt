@@ -1,24 +1,19 @@
 -- Logs that no call makes, evaluated: a line that the table doesn't have where it stands is the end of
 -- the run, and a note that is not true of its access is found.
-use Rattle.std.proofs.Common.{◌≡◌, Bool, true, false, List, [], ◌∷◌, None, Some, ap, sym, ◌∙◌, refl}
+use Rattle.piper_ring.proofs.Kit.{◌≡◌, Bool, true, false, List, [], ◌∷◌, None, Some, ap, sym, ◌∙◌, refl, Found, Point, loaded_closed, loaded_slot, loaded_tail, stored_tail, are_told, moved_in, seen_in, Began, ClosedLoaded, Made, Told}
 use Rattle.std.proofs.lemmas.Option.{none-some}
 use Rattle.piper_protocol.specs.Table.{Next, goes_on}
 use Rattle.piper_protocol.specs.declared.answer.Answer.{Answer}
 use Rattle.piper_protocol.specs.declared.answer.Answer.TheVariants as answers
 use Rattle.piper_protocol.specs.declared.answer.Polled.TheVariants.{Ready}
 use Rattle.piper_protocol.specs.declared.table.Form.TheVariants.{Try}
-use Rattle.piper_protocol.specs.declared.table.Found.{Found}
 use Rattle.piper_protocol.specs.declared.table.Found.TheVariants.{Flag as flag, IndexLoaded as index_loaded, Moved, Nothing, Waker as waker}
-use Rattle.piper_protocol.specs.declared.table.Point.{Point}
 use Rattle.piper_protocol.specs.declared.table.Point.TheVariants.{Reader, Writer}
 use Rattle.piper_protocol.specs.declared.table.Purpose.TheVariants.{Copy, Poll}
 use Rattle.piper_protocol.specs.declared.table.ReadPoint.TheVariants as reads
 use Rattle.piper_protocol.specs.declared.table.WritePoint.TheVariants as on
 use Rattle.piper_protocol.specs.declared.table.Side.TheVariants as sides
-use Rattle.piper_protocol.specs.OneList.{loaded_closed, loaded_slot, loaded_tail, stored_tail}
 use Rattle.piper_protocol.specs.Lines.{Line, access, comes_to, drawn, idle, looks, note, step}
-use Rattle.piper_protocol.specs.Told.{are_told, moved_in, seen_in}
-use Rattle.piper_protocol.specs.declared.log.Note.TheVariants.{Began, ClosedLoaded, Made, Told}
 use Rattle.piper_ring.specs.Log.{Log, Ran}
 
 -- where no call is open no line leads on but the beginning of one

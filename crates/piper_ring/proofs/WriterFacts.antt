@@ -1,9 +1,6 @@
 -- What the parts of a writer's end say of its indices.
 use Rattle.std.proofs.Common.{◌≡◌, ℕ, ◌+◌, ◌-◌, ◌≤◌, ◌⊎◌, inl, inr, ⊎_elim, eq-or-lt_of_le, Bool, true, false, if◌then◌else◌, length, min, arith, refl, ◌<◌, sym, subst, ap, ◌∙◌}
-use Rattle.rtrb.proofs.Positions.{slot_add, slot_small, slot_turn}
-use Rattle.rtrb.specs.Fifo.{slot_of as offset_of}
-use Rattle.piper_protocol.specs.Index.{distance}
-use Rattle.piper_protocol.specs.LendBound.{lend_bound}
+use Rattle.piper_ring.proofs.Kit.{slot_add, slot_small, slot_turn, slot_of as offset_of, distance, lend_bound}
 use Rattle.piper_protocol.specs.WriterIndices.{WriterIndices, room_in, left_in, lendable_in}
 use Rattle.piper_ring.specs.WriteView.{IsBounded, IsWriteEnd, lendable, write_view_of}
 use Rattle.piper_ring.specs.declared.ends.writer.WriteParts.{WriteParts}

@@ -1,16 +1,10 @@
 -- A `&` to a lease holds a fraction of its half of the token. Assumes `Logic`.
 use mathlib.Core.List.{[], ◌∷◌}
-use base.Fml.{flft, fbor}
-use types.Logic.{lfts}
-use types.Kit.{‵, raw, ◌$◌, ◌∵◌, !, qed, updating, now, done}
+use Rattle.piper_cells.proofs.SpaceKit.{flft, fbor, lfts, ‵, raw, ◌$◌, ◌∵◌, !, qed, updating, now, done, copy_shared, field_copy, of_Lends, half}
 use types.Tokens.{bor_fracture}
 use denote.RawPtr.{RawPtr}
-use denote.Param.Shared.{copy_shared}
 use denote.SharingLaws.{one_shr_laws}
-use denote.Struct.Laws.{field_copy}
-use denote.Struct.Lending.{of_Lends}
 use Rattle.core.specs.contracts.marker.PhantomData as marker
-use Rattle.piper_cells.specs.Space.{half}
 use Rattle.piper_cells.specs.contracts.lent_space.Lease as C
 use Rattle.piper_cells.proofs.lent_space.Lease.TheLaw.Statement.{statement}
 

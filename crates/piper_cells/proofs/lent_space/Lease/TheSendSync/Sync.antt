@@ -1,7 +1,5 @@
 -- Threads may share it.
-use denote.Param.Send.{IsSync, sendable}
-use denote.Struct.Struct.{Struct}
-use denote.Struct.Owning.{shape}
+use Rattle.piper_cells.proofs.SpaceKit.{IsSync, sendable, Struct, shape}
 use Rattle.piper_cells.specs.contracts.lent_space.Lease.{the_row, the_type}
 
 pub sync : IsSync the_row

@@ -1,7 +1,6 @@
 -- `take_back` ends the lifetime, and so has the room again. Assumes `Logic`.
-use Rattle.piper_cells.proofs.SpaceKit.{◌≡◌, ℕ, Bool, true, false, [], ◌∷◌, refl, Val, SProp, emp, full_share, ftrue, flft, tables, fact, fact_i, ‵, raw, ◌⊛◌, ◌$◌, ◌∵◌, !, qed, by, move, keep, drop, split, fsplit, fsplit3, fjoin, fpick, fpack, rewrite, use0, use2, stop, fld, of_opd, no_more, and_then, returns, enter, alloc_all, pass_all, free_all, look_at, get, get_in, sets, env, agg, sub, whole, lft_end, lent_back, yes, RattleType, owns, Ptr, InBlock, plain, types_at, nothing, heard, alive, Stays, stay_dropped, walk_of, Goes-dropped, proved, leaves, word-Good, ptr-Good}
+use Rattle.piper_cells.proofs.SpaceKit.{◌≡◌, ℕ, Bool, true, false, [], ◌∷◌, refl, Val, SProp, emp, full_share, ftrue, flft, tables, fact, fact_i, ‵, raw, ◌⊛◌, ◌$◌, ◌∵◌, !, qed, by, move, keep, drop, split, fsplit, fsplit3, fjoin, fpick, fpack, rewrite, use0, use2, stop, fld, of_opd, no_more, and_then, returns, enter, alloc_all, pass_all, free_all, look_at, get, get_in, sets, env, agg, sub, whole, lft_end, lent_back, yes, RattleType, owns, Ptr, InBlock, plain, types_at, nothing, heard, alive, Stays, stay_dropped, walk_of, Goes-dropped, proved, leaves, word-Good, ptr-Good, lease}
 use Rattle.piper_cells.proofs.SpaceFields.{word, mark_val, SpaceData, lender_told, lease_told, space_made}
-use Rattle.piper_cells.specs.Space.{lease}
 use Rattle.piper_cells.specs.contracts.lent_space.Space as Space
 use Rattle.piper_cells.specs.contracts.lent_space.Lender as Lender
 use Rattle.piper_cells.specs.contracts.lent_space.Lease as Lease

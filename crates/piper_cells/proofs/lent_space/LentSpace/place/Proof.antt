@@ -1,8 +1,6 @@
 -- `place` writes into the borrowed room, and turns the borrow into what leases show. Assumes `Logic`.
-use Rattle.piper_cells.proofs.SpaceKit.{◌≡◌, ℕ, List, [], ◌∷◌, sym, refl, ap, subst, a_type, inst_fn, Val, SProp, ent, emp, Lft, Share, ftrue, flft, froom, WpFn, ◌⊑◌, fact, fact_i, tables, ‵, raw, ◌⊛◌, later, await, at_ret, ◌$◌, ◌∵◌, !, qed, by, move, keep, drop, split, split3, join, group, fsplit, fsplit3, fjoin, fpick, rewrite, use0, use1, use2, stop, fld, init, of_opd, no_more, and_then, first, blocks, exec, assigns_last, returns, enter, alloc_all, pass_all, free_all, look_at, get, get_in, through, sets, is, env, agg, sub, whole, bor_open, yes, no, param, layout, layouts, RattleType, owns, Ptr, block_ptr, block_of, count_of, ptr_val, at_block, plain, types_at, nothing, heard, Stays, stay_dropped, walk_of, Goes-dropped, El, lawful, Good, one, after, proved_at, leaves, pair_val, pair_of, word-Good, lent_at, full_share}
-use denote.Struct.Tuple.{Tuple}
+use Rattle.piper_cells.proofs.SpaceKit.{◌≡◌, ℕ, List, [], ◌∷◌, sym, refl, ap, subst, a_type, inst_fn, Val, SProp, ent, emp, Lft, Share, ftrue, flft, froom, WpFn, ◌⊑◌, fact, fact_i, tables, ‵, raw, ◌⊛◌, later, await, at_ret, ◌$◌, ◌∵◌, !, qed, by, move, keep, drop, split, split3, join, group, fsplit, fsplit3, fjoin, fpick, rewrite, use0, use1, use2, stop, fld, init, of_opd, no_more, and_then, first, blocks, exec, assigns_last, returns, enter, alloc_all, pass_all, free_all, look_at, get, get_in, through, sets, is, env, agg, sub, whole, bor_open, yes, no, param, layout, layouts, RattleType, owns, Ptr, block_ptr, block_of, count_of, ptr_val, at_block, plain, types_at, nothing, heard, Stays, stay_dropped, walk_of, Goes-dropped, El, lawful, Good, one, after, proved_at, leaves, pair_val, pair_of, word-Good, lent_at, full_share, Tuple, Fits, half}
 use borrow.Table.OneValue.{part_in}
-use Rattle.piper_cells.specs.Space.{Fits, half}
 use Rattle.piper_cells.proofs.SpaceFields.{word, mark_val, PlacedData, LeaseData, lent_told, lease_told, placed_made, lease_made}
 use Rattle.piper_cells.proofs.SpaceSteps.{Back, There, room_out, lies_there}
 use Rattle.piper_cells.specs.contracts.lent_space.LentSpace as LentSpace

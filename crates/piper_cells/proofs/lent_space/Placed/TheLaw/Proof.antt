@@ -1,19 +1,11 @@
 -- A `&` to a place holds what the place owns, which can be had twice. Assumes `Logic`.
 use mathlib.Core.List.{[], ◌∷◌}
-use seplogic.Ra.Ura.{Ura}
-use base.Logic.{sep, wand, apply∗}
-use base.Fml.{Fml, fbor, Lft}
-use types.Logic.{Logic, sem, lfts}
-use types.Kit.{‵, raw, ◌⊛◌, later, ◌$◌, ◌∵◌, !, qed, move, drop, split, await, updating, use1, use2, now, done}
-use denote.Param.Laws.{Laws}
-use denote.Param.Shared.{copy_shared}
-use denote.RattleType.{RattleType}
+use Rattle.piper_cells.proofs.SpaceKit.{Ura, sep, wand, apply∗, Fml, fbor, Lft, Logic, sem, lfts, ‵, raw, ◌⊛◌, later, ◌$◌, ◌∵◌, !, qed, move, drop, split, await, updating, use1, use2, now, done, Laws, copy_shared, RattleType, placed}
 use denote.Sharing.{said, ShrLaws}
 use denote.SharingLaws.{contraction, held_shr_laws}
 use denote.Struct.Field.{RawPtr-field}
 use denote.Struct.Laws.{RawPtr-copy}
 use denote.Struct.Lending.{Lends, of_Lends, lent_at, lent_at_shr_laws}
-use Rattle.piper_cells.specs.Space.{placed}
 use Rattle.piper_cells.specs.contracts.lent_space.Placed as C
 use Rattle.piper_cells.proofs.lent_space.Placed.TheLaw.Statement.{statement}
 

@@ -1,8 +1,6 @@
 -- It may move to another thread, where threads may share the value.
 use mathlib.Core.List.{[], ◌∷◌}
-use denote.Param.Send.{IsSend, IsSync}
-use denote.RattleType.{RattleType}
-use Rattle.std_alloc.proofs.SendSync.{seen}
+use Rattle.piper_cells.proofs.SpaceKit.{IsSend, IsSync, RattleType, seen}
 use Rattle.piper_cells.specs.contracts.lent_space.Placed.{the_row}
 
 pub send : (T : RattleType) → IsSync T → IsSend (the_row T)

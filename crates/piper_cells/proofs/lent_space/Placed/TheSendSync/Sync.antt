@@ -1,10 +1,7 @@
 -- Threads may share it, where they may share the value.
 use mathlib.Core.List.{[], ◌∷◌}
-use denote.Builtin.{RawPtr}
+use Rattle.piper_cells.proofs.SpaceKit.{RawPtr, RattleType, shape, seen}
 use denote.Param.Send.{IsSync, sendable, struct_sync}
-use denote.RattleType.{RattleType}
-use denote.Struct.Owning.{shape}
-use Rattle.std_alloc.proofs.SendSync.{seen}
 use Rattle.piper_cells.specs.contracts.lent_space.Placed.{the_row, the_type}
 
 pub sync : (T : RattleType) → IsSync T → IsSync (the_row T)

@@ -1,7 +1,5 @@
 -- `duplicate` copies the pointer, and what a place owns can be had twice. Assumes `Logic`.
-use Rattle.piper_cells.proofs.SpaceKit.{◌≡◌, ℕ, ◌+◌, [], ◌∷◌, sym, refl, ap, a_type, named, inst_fn, Val, vptr, SProp, emp, Share, ftrue, flft, fhide, fact, fact_i, tables, ‵, raw, ◌⊛◌, ◌$◌, ◌∵◌, !, qed, by, move, keep, drop, split, join, fsplit, fjoin, use0, use1, stop, fld, load, look, of_opd, no_more, and_then, returns, enter, alloc_all, pass_all, free_all, look_at, get, through, sets, is, env, agg, yes, RefOf, hidden_shr, hide, unhide, param, layouts, param_laws, RattleType, owns, Ptr, block_ptr, InBlock, block_of, count_of, at_block, shr_vals, shr_Tells, plain, types_at, nothing, heard, lent_at, lent_at_shr_laws, lent_out, in_block_says, Stays, stay_dropped, walk_of, Goes-dropped, pointer_in, pointer_out, proved, leaves, word-Good}
-use denote.SharingLaws.{contraction}
-use Rattle.piper_cells.specs.Space.{placed}
+use Rattle.piper_cells.proofs.SpaceKit.{◌≡◌, ℕ, ◌+◌, [], ◌∷◌, sym, refl, ap, a_type, named, inst_fn, Val, vptr, SProp, emp, Share, ftrue, flft, fhide, fact, fact_i, tables, ‵, raw, ◌⊛◌, ◌$◌, ◌∵◌, !, qed, by, move, keep, drop, split, join, fsplit, fjoin, use0, use1, stop, fld, load, look, of_opd, no_more, and_then, returns, enter, alloc_all, pass_all, free_all, look_at, get, through, sets, is, env, agg, yes, RefOf, hidden_shr, hide, unhide, param, layouts, param_laws, RattleType, owns, Ptr, block_ptr, InBlock, block_of, count_of, at_block, shr_vals, shr_Tells, plain, types_at, nothing, heard, lent_at, lent_at_shr_laws, lent_out, in_block_says, Stays, stay_dropped, walk_of, Goes-dropped, pointer_in, pointer_out, proved, leaves, word-Good, contraction, placed}
 use Rattle.piper_cells.proofs.SpaceFields.{word, PlacedData, placed_made}
 use Rattle.piper_cells.specs.contracts.lent_space.Placed as Placed
 use Rattle.piper_cells.specs.contracts.lent_space.Placed.duplicate.{ended, clauses}

@@ -1,8 +1,6 @@
 -- `lend` borrows the room for a new lifetime, and cuts its token in two. Assumes `Logic`.
-use Rattle.piper_cells.proofs.SpaceKit.{◌≡◌, ℕ, true, false, [], ◌∷◌, refl, Val, SProp, emp, full_share, ftrue, tables, fact, fact_i, ‵, raw, ◌⊛◌, ◌$◌, ◌∵◌, !, qed, by, move, keep, drop, split, join, group, fsplit, fjoin, fpick, fpack, use0, use1, stop, fld, of_opd, no_more, and_then, returns, enter, alloc_all, pass_all, free_all, look_at, get, get_in, sets, env, agg, sub, whole, lft_new, bor_new, yes, RattleType, owns, Ptr, InBlock, plain, types_at, nothing, alive, Stays, stay_dropped, walk_of, Goes-dropped, proved, leaves, word-Good, ptr-Good}
-use denote.Struct.Tuple.{Tuple}
+use Rattle.piper_cells.proofs.SpaceKit.{◌≡◌, ℕ, true, false, [], ◌∷◌, refl, Val, SProp, emp, full_share, ftrue, tables, fact, fact_i, ‵, raw, ◌⊛◌, ◌$◌, ◌∵◌, !, qed, by, move, keep, drop, split, join, group, fsplit, fjoin, fpick, fpack, use0, use1, stop, fld, of_opd, no_more, and_then, returns, enter, alloc_all, pass_all, free_all, look_at, get, get_in, sets, env, agg, sub, whole, lft_new, bor_new, yes, RattleType, owns, Ptr, InBlock, plain, types_at, nothing, alive, Stays, stay_dropped, walk_of, Goes-dropped, proved, leaves, word-Good, ptr-Good, Tuple, lease}
 use Rattle.piper_cells.proofs.SpaceFields.{word, mark_val, LentData, LenderData, LeaseData, space_told, lent_made, lender_made, lease_made, four_val, four_of, four_Good}
-use Rattle.piper_cells.specs.Space.{lease}
 use Rattle.piper_cells.specs.contracts.lent_space.Space as Space
 use Rattle.piper_cells.specs.contracts.lent_space.LentSpace as LentSpace
 use Rattle.piper_cells.specs.contracts.lent_space.Lender as Lender

@@ -1,8 +1,7 @@
 -- A `&` to it holds nothing. Assumes `Logic`.
 use denote.RawPtr.{RawPtr}
-use denote.Param.Shared.{copy_shared}
+use Rattle.piper_cells.proofs.SpaceKit.{copy_shared, field_copy}
 use denote.SharingLaws.{nothing_shr_laws}
-use denote.Struct.Laws.{field_copy}
 use denote.Struct.Lending.{of_Lends, Lends-nothing}
 use Rattle.core.specs.contracts.marker.PhantomData as marker
 use Rattle.piper_cells.specs.contracts.token_cell.Token as C

@@ -1,54 +1,31 @@
 -- A `&` to a place is made of a borrow of it: the content's borrow goes under an invariant.
 -- Assumes `Logic`.
 use Rattle.std.proofs.Common.{◌≡◌, ℕ, zero, ◌+◌, List, [], ◌∷◌, sym, subst}
-use seplogic.Ra.Ura.{Ura}
-use mir.Syntax.{Ty}
-use mir.Val.{Val}
-use base.Fraction.{full_share}
+use Rattle.piper_cells.proofs.SpaceKit.{Ura, Ty, Val, full_share, Logic, lfts, part_of, part_at, cell_at, block_ptr, layout, Laws, Struct, Ghosts}
 use base.Stored.{gnum}
-use base.Logic.{SProp, ent, sep, wand, ex, upd_i, all_e, apply∗, id⊢}
+use base.Logic.{ex, upd_i, all_e, apply∗, id⊢}
 use base.Fml.{Lft, Share, Incl, Incl-refl, Fml, ftrue, fsep, fseps, fwand, fupd, fdead, fbor, flft, finv}
 use base.Before.{before}
 use ghost.Rules.{Toks, span}
-use types.Logic.{Logic, sem, lfts}
 use types.Kit.{‵, raw, ◌⊛◌, some, later, ◌$◌, ◌∵◌, !, qed, by, move, keep, drop, use0, use1, use2, split, fsplit, fsplit3, fjoin, fpick, fpack, pick, show, assume, suffices, await, updating, now, done}
 use types.Tokens.{bor_open, obor_alter, name_new}
 use types.Na.{before-Incl}
 use denote.RattleType.{RattleType, Denots}
 use denote.Laws.{Lawful}
-use denote.Memory.{part_of, part_at, cell_at}
-use denote.RawPtr.{block_ptr}
 use denote.Sharing.{ShrLaws, ends, always}
 use denote.SharingLaws.{some_shr_laws, beside_shr_laws, ends_shr_laws, always_shr_laws}
-use denote.Param.{layout}
-use denote.Param.Laws.{Laws}
-use denote.Struct.Struct.{Struct}
 use denote.Struct.Members.{Member, row_of, rows_of, parts_at}
 use denote.Struct.Parts.{PartsBack, Struct-parts, shape_of}
 use denote.Struct.Lending.{Law}
 use Rattle.core.proofs.cell.Borrows.{by_one}
+use Rattle.piper_cells.proofs.Signs.{signs}
 use Rattle.piper_cells.specs.TokenCell.{offset, known, content, Loan, lies, Kept, kept, place_shares}
-use Rattle.piper_cells.specs.declared.token_cell.Content.{Ghosts}
 use Rattle.piper_cells.specs.contracts.token_cell.TokenCell as C
 use Rattle.piper_cells.proofs.token_cell.TokenCell.TheLaw.Statement.{statement}
 
 module _ {M : Type 1} {𝓤 : Ura M} (𝓛 : Logic 𝓤) (m : Member) (g : Ghosts m.row.Denot) (name : ℕ) (L : Lawful 𝓛 (row_of m)) (b o : ℕ) (κ : Lft) where
   open 𝓛 use {H, A}
-
-  abbrev Pr : Type 2
-  Pr = SProp 𝓤
-
-  abbrev ◌⊢◌ : Pr → Pr → Type 1
-  P ⊢ Q = ent 𝓤 P Q
-
-  abbrev ◌∗◌ : Pr → Pr → Pr
-  P ∗ Q = sep 𝓤 P Q
-
-  abbrev ◌-∗◌ : Pr → Pr → Pr
-  P -∗ Q = wand 𝓤 P Q
-
-  abbrev ⟦◌⟧ : Fml → Pr
-  ⟦ P ⟧ = sem 𝓛 P
+  open signs 𝓛 use {Pr, ◌⊢◌, ◌∗◌, ◌-∗◌, ⟦◌⟧}
 
   infix 26 ◌⊢◌
   infixr 35 ◌∗◌

@@ -1,8 +1,5 @@
 -- It may move to another thread, where the content may.
-use base.Share.{quarter}
-use denote.RattleType.{RattleType}
-use denote.Param.Send.{IsSend}
-use Rattle.piper_cells.specs.declared.token_cell.Content.{Ghosts}
+use Rattle.piper_cells.proofs.SpaceKit.{quarter, RattleType, IsSend, Ghosts}
 use Rattle.piper_cells.specs.contracts.token_cell.TokenCell.{the_row}
 use Rattle.piper_cells.proofs.CellCrosses.{counted-Keyless}
 

@@ -1,14 +1,8 @@
 -- Threads may share it, where the content may move to another.
-use base.Fraction.{full_share}
-use base.Growing.{latest}
-use base.Shift.{Keyless}
-use base.Share.{quarter}
+use Rattle.piper_cells.proofs.SpaceKit.{full_share, latest, Keyless, quarter, RattleType, offset, Loan, lies, Ghosts}
 use Rattle.std.specs.Prelude.{ℕ, ◌+◌, Bool, true, false}
-use denote.RattleType.{RattleType}
 use denote.Param.Send.{IsSend, IsSync, part_keyless}
 use Rattle.core.proofs.atomic.Sent.{chain-Keyless}
-use Rattle.piper_cells.specs.TokenCell.{offset, Loan, lies}
-use Rattle.piper_cells.specs.declared.token_cell.Content.{Ghosts}
 use Rattle.piper_cells.specs.contracts.token_cell.TokenCell.{the_row}
 use Rattle.piper_cells.proofs.CellCrosses.{counted-Keyless}
 

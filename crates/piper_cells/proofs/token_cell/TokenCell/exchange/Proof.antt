@@ -1,38 +1,12 @@
 -- `exchange` takes the content out from under the invariant, reads and writes it, and lays it back.
 -- Assumes `Logic`.
-use Rattle.std.proofs.Common.{◌≡◌, ℕ, ◌+◌, Bool, true, List, [], ◌∷◌, sym, refl, ap, ◌∙◌, subst}
-use mir.Syntax.{dcons, dnil, a_type}
-use mir.Val.{Val, vptr}
-use mir.MapTy.{inst_fn}
-use base.Fraction.{full_share}
-use base.Share.{quarter, three_quarters}
-use base.Logic.{SProp, ent, wand, emp, apply∗}
-use base.Fml.{Lft, Share, Fml, ftrue, fsep, flft, finv}
-use base.Growing.{numbers, latest}
-use prog.Wp.{WpFn}
-use types.Kit.{‵, raw, ◌⊛◌, some, given, later, at_ret, ◌$◌, ◌∵◌, !, qed, by, move, keep, drop, split, split3, join, fsplit, fsplit3, fjoin, fjoin3, fpick, fpack, pick, learn, use0, use1, use2, await, rewrite, feq_i}
+use Rattle.piper_cells.proofs.SpaceKit.{◌≡◌, ℕ, ◌+◌, Bool, true, List, [], ◌∷◌, sym, refl, ap, ◌∙◌, subst, dcons, dnil, a_type, Val, vptr, inst_fn, full_share, quarter, three_quarters, SProp, ent, wand, emp, apply∗, Lft, Share, Fml, ftrue, fsep, flft, finv, numbers, latest, WpFn, ‵, raw, ◌⊛◌, some, given, later, at_ret, ◌$◌, ◌∵◌, !, qed, by, move, keep, drop, split, split3, join, fsplit, fsplit3, fjoin, fjoin3, fpick, fpack, pick, learn, use0, use1, use2, await, rewrite, feq_i, alloc_all, pass_all, free_all, look_at, get, through, sets, sets_last, env, tables, fact, fact_i, ◌⊑◌, yes, no, RattleType, owns, types_at, plain, unhide, Is, shows, part_of, part_at, cell_at, param, bounded, RefOf, El, lawful, Good, one, proved_at, leaves, latest_agrees, eighth, odd, counted, right, offset, known, content, Kept}
 use types.Run.{stop, fld, load, addr, of_opd, first, blocks, exec, assigns, look_raw, store_raw, returns, enter}
-use types.ByLocal.{alloc_all, pass_all, free_all, look_at, get, through, sets, sets_last, env}
 use types.Tokens.{bor_open, obor_close}
-use contract.Running.{tables}
-use contract.Monad.{fact, fact_i}
-use contract.BorrowLft.{◌⊑◌}
 use contract.Shared.{Lends-one}
-use denote.Exit.{yes, no}
-use denote.RattleType.{RattleType, owns}
-use denote.Signature.{types_at, plain}
 use denote.Steps.{nothing, peeks, heard, opens, closes}
-use denote.Opens.{unhide}
-use denote.Laws.{Is, shows}
-use denote.Memory.{part_of, part_at, cell_at}
-use denote.Param.{param, bounded}
-use denote.Builtin.{RefOf}
 use denote.Triple.Walked.{Stays, stay_dropped, stay_ref, walk_of, Goes-dropped, Goes-ref}
 use Rattle.core.proofs.atomic.Steps.{tail}
-use Rattle.core.proofs.mem.Param.{El, lawful, Good, one}
-use Rattle.atomic_table.proofs.Walks.{proved_at, leaves}
-use types.Growing.{latest_agrees}
-use Rattle.piper_cells.specs.TokenCell.{eighth, odd, counted, right, offset, known, content, Kept}
 use Rattle.piper_cells.proofs.CellSteps as steps
 use Rattle.piper_cells.specs.contracts.token_cell.TokenCell as place
 use Rattle.piper_cells.specs.contracts.token_cell.Token as token

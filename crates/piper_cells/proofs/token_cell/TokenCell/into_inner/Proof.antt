@@ -1,27 +1,6 @@
 -- `into_inner` takes the content out of a place that nobody shares. Assumes `Logic`.
-use Rattle.std.proofs.Common.{◌≡◌, List, [], ◌∷◌, ◌++◌, sym, refl, ◌∙◌, subst}
-use mir.Syntax.{dcons, dnil, a_type}
-use mir.Val.{Val, vstruct, vcons, vnil, of_list, has_ty}
-use mir.MapTy.{inst_fn}
-use base.Logic.{SProp, ent, id⊢}
-use base.Fml.{ftrue, fsep}
-use prog.Wp.{WpFn}
+use Rattle.piper_cells.proofs.SpaceKit.{◌≡◌, List, [], ◌∷◌, ◌++◌, sym, refl, ◌∙◌, subst, dcons, dnil, a_type, Val, vstruct, vcons, vnil, of_list, has_ty, inst_fn, SProp, ent, id⊢, ftrue, fsep, WpFn, stop, fld, of_opd, returns, enter, alloc_all, pass_all, free_all, look_at, get, get_in, sets, sub, whole, tables, no, RattleType, plain, nothing, peeks, Is, shows, param, layout, bounded, alive, Stays, stay_dropped, walk_of, Goes-dropped, and_tt, El, lawful, Good, one, proved_at, leaves}
 use types.Kit.{‵, raw, ◌⊛◌, ◌$◌, ◌∵◌, !, qed, by, move, keep, drop, split, fsplit, fjoin, fpick, suffices, rewrite, feq_l}
-use types.Run.{stop, fld, of_opd, returns, enter}
-use types.ByLocal.{alloc_all, pass_all, free_all, look_at, get, get_in, sets}
-use types.Part.{sub, whole}
-use contract.Running.{tables}
-use denote.Exit.{no}
-use denote.RattleType.{RattleType}
-use denote.Signature.{plain}
-use denote.Steps.{nothing, peeks}
-use denote.Laws.{Is, shows}
-use denote.Param.{param, layout, bounded}
-use denote.Triple.Entry.{alive}
-use denote.Triple.Walked.{Stays, stay_dropped, walk_of, Goes-dropped}
-use Rattle.std.proofs.ResultValues.{and_tt}
-use Rattle.core.proofs.mem.Param.{El, lawful, Good, one}
-use Rattle.atomic_table.proofs.Walks.{proved_at, leaves}
 use Rattle.piper_cells.specs.contracts.token_cell.TokenCell as place
 use Rattle.piper_cells.specs.contracts.token_cell.TokenCell.into_inner.{ended, clauses}
 use Rattle.piper_cells.specs.contracts.token_cell.TokenCell.into_inner.Key.{name as #self}

@@ -1,36 +1,12 @@
 -- `new` cuts the number of a new place. Assumes `Logic`.
 use Rattle.std.proofs.Common.{◌≡◌, ℕ, Bool, true, ◌&&◌, T, List, [], ◌∷◌, ◌++◌, sym, refl, subst}
-use mir.Syntax.{dcons, dnil, a_type}
-use mir.Val.{Val, vstruct, vcons, vnil, of_list, has_ty, WT}
-use mir.MapTy.{inst_fn}
-use base.Fraction.{full_share}
+use Rattle.piper_cells.proofs.SpaceKit.{dcons, dnil, a_type, Val, vstruct, vcons, vnil, of_list, has_ty, WT, inst_fn, full_share, quarter, three_quarters, numbers, latest, WpFn, ‵, raw, ◌⊛◌, some, later, ◌$◌, ◌∵◌, !, qed, by, move, keep, split, fsplit, fjoin, fpack, pick, use0, use1, await, suffices, rewrite, feq_i, of_opd, no_more, and_then, returns, enter, alloc_all, pass_all, free_all, look_at, get, sets, agg, fact, fact_i, tables, no, RattleType, Valss, owns, plain, nothing, param, layout, bounded, within, alive, Stays, stay_dropped, walk_of, Goes-dropped, and_tt, El, lawful, Good, one, proved_at, leaves, odd, counted, known}
 use base.Share
-use base.Share.{quarter, three_quarters}
 use base.Logic.{SProp, ent, emp, via, id⊢}
 use base.Fml.{ftrue, fsep, feq}
-use base.Growing.{numbers, latest}
-use prog.Wp.{WpFn}
 use types.Growing.{latest_new, latest_cut}
 use types.Owned.{basic}
-use types.Kit.{‵, raw, ◌⊛◌, some, later, ◌$◌, ◌∵◌, !, qed, by, move, keep, split, fsplit, fjoin, fpack, pick, use0, use1, await, suffices, rewrite, feq_i}
-use types.Run.{of_opd, no_more, and_then, returns, enter}
-use types.ByLocal.{alloc_all, pass_all, free_all, look_at, get, sets}
-use types.Part.{agg}
-use contract.Monad.{fact, fact_i}
-use contract.Running.{tables}
-use denote.Exit.{no}
-use denote.RattleType.{RattleType, Valss, owns}
-use denote.Signature.{plain}
-use denote.Steps.{nothing}
 use denote.Laws.{Typed}
-use denote.Param.{param, layout, bounded}
-use denote.Struct.Struct.{within}
-use denote.Triple.Entry.{alive}
-use denote.Triple.Walked.{Stays, stay_dropped, walk_of, Goes-dropped}
-use Rattle.std.proofs.ResultValues.{and_tt}
-use Rattle.core.proofs.mem.Param.{El, lawful, Good, one}
-use Rattle.atomic_table.proofs.Walks.{proved_at, leaves}
-use Rattle.piper_cells.specs.TokenCell.{odd, counted, known}
 use Rattle.piper_cells.proofs.CellFields.{right_val, RightData, right_made}
 use Rattle.piper_cells.proofs.CellSteps.{shows}
 use Rattle.piper_cells.specs.contracts.token_cell.TokenCell as place

@@ -1,6 +1,5 @@
 -- A word that says that nothing is in its cell leaves the right as it is.
-use Rattle.std.proofs.Common.{◌≡◌, ◌%◌, ℕ, Bool, true, false, refl, ap, arith}
-use Rattle.piper_ring.specs.Slot.{number}
+use Rattle.piper_ring.proofs.Kit.{◌≡◌, ◌%◌, ℕ, Bool, true, false, refl, ap, arith, number}
 use Rattle.piper_ring.proofs.ends.cells.take_out.Goals as goal
 
 is_empty : (i : ℕ) (filled : Bool) (n : ℕ) → n ≡ number (i, filled) → n % 2 ≡ 0 → filled ≡ false

@@ -1,7 +1,6 @@
 -- The two ends of a new ring keep their views.
-use Rattle.piper_ring.proofs.Kit.{◌≡◌, ℕ, ◌+◌, ◌-◌, ◌*◌, ◌^◌, ◌<◌, ◌++◌, List, length, take, arith, refl, ap, subst, ◌∙◌, sym, Names, IsPrefix, Reaches, reaches_same, ReaderIndices, WriterIndices}
+use Rattle.piper_ring.proofs.Kit.{◌≡◌, ℕ, ◌+◌, ◌-◌, ◌*◌, ◌^◌, ◌<◌, ◌++◌, List, length, take, arith, refl, ap, subst, ◌∙◌, sym, Names, IsPrefix, Reaches, reaches_same, ReaderIndices, WriterIndices, slot_of as offset_of}
 use Rattle.rtrb.proofs.Positions.{position_none, slot_lt}
-use Rattle.rtrb.specs.Fifo.{slot_of as offset_of}
 use Rattle.piper_ring.specs.declared.ring.marks.WriteMark.{WriteMark}
 use Rattle.piper_ring.specs.declared.ring.places.Blank.{Blank}
 use Rattle.piper_ring.proofs.ends.opening.open_ends.Goals as goal

@@ -1,7 +1,6 @@
 -- The logs of two sides that were just opened have no line.
-use Rattle.std.proofs.Common.{rules, refl}
+use Rattle.piper_ring.proofs.Kit.{rules, refl, as_is}
 use Rattle.piper_protocol.specs.Told.{are_calls, are_told, moved_in, seen_in, shut_in, tickets_in, waits_in}
-use Rattle.piper_ring.specs.Log.{as_is}
 use Rattle.piper_ring.proofs.ends.opening.open_with_slots.Goals as goal
 
 pub invariant_of-reader : goal.invariant_of-reader

@@ -1,6 +1,5 @@
 -- It may move to another thread.
-use Rattle.piper_protocol.specs.Lines.{accesses_in}
-use Rattle.piper_ring.proofs.Kit.{IsSend}
+use Rattle.piper_ring.proofs.Kit.{IsSend, accesses_in}
 use Rattle.piper_ring.proofs.Crosses.{did-Keyless}
 use Rattle.piper_ring.specs.contracts.log.Log.{the_row}
 

@@ -1,6 +1,5 @@
 -- `unkept` makes a log that nobody keeps. Assumes `Logic`.
-use Rattle.piper_ring.specs.Shared.{names_of}
-use Rattle.piper_ring.proofs.Kit.{false, ◌≡◌, [], ◌∷◌, refl, Val, SProp, emp, ‵, raw, ◌⊛◌, ◌$◌, ◌∵◌, !, qed, by, keep, split, fjoin, use0, no_more, and_then, returns, enter, alloc_all, pass_all, free_all, look_at, get, sets, agg, fact, fact_i, tables, owns, types_at, nothing, Stays, walk_of, proved, leaves, ghost_val, GhostData, ghost_made, alive}
+use Rattle.piper_ring.proofs.Kit.{false, ◌≡◌, [], ◌∷◌, refl, Val, SProp, emp, ‵, raw, ◌⊛◌, ◌$◌, ◌∵◌, !, qed, by, keep, split, fjoin, use0, no_more, and_then, returns, enter, alloc_all, pass_all, free_all, look_at, get, sets, agg, fact, fact_i, tables, owns, types_at, nothing, Stays, walk_of, proved, leaves, ghost_val, GhostData, ghost_made, alive, names_of}
 use Rattle.piper_ring.specs.contracts.log.Log as Log
 use Rattle.piper_ring.proofs.log.Log.unkept as own
 

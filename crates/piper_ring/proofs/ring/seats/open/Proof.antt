@@ -1,18 +1,15 @@
 -- `open` writes the six words, and puts them under the ring's invariant, with the rights to two cells. Assumes `Logic`.
-use Rattle.piper_ring.proofs.Kit.{Bool, nothing_stored, block_of, count_of, at_block, arith, ◌<◌, ◌^◌, ◌≡◌, ℕ, true, false, [], ◌∷◌, refl, ap, sym, lit<, named, Val, vptr, SProp, emp, ftrue, ‵, raw, ◌⊛◌, some, given, later, await, pick, at_ret, ◌$◌, ◌∵◌, !, qed, by, move, keep, drop, split, split3, join, fsplit, fsplit3, fjoin, fjoin3, fpick, fpack, learn, use0, use1, use2, use3, rewrite, stop, fld, init, lit, of_opd, bin, no_more, and_then, first, blocks, exec, assigns_last, returns, enter, alloc_all, pass_all, free_all, look_at, get, get_in, through, sets, is, env, agg, sub, whole, fact, fact_i, tables, yes, RattleType, owns, types_at, plain, Ptr, block_ptr, ptr_val, RefOf, nothing, alive, Stays, stay_dropped, walk_of, Goes-dropped, after as from_on, word-Good, span, proved, leaves, unset, Names, reader_owns, writer_owns, shr_vals, shr_Tells, pointer_val, ghost_val, ghost_told, GhostData, ghost_made, right, List, nine_val, nine_of, pointer_told, PointerData, pointer_made}
+use Rattle.piper_ring.proofs.Kit.{Bool, nothing_stored, block_of, count_of, at_block, arith, ◌<◌, ◌^◌, ◌≡◌, ℕ, true, false, [], ◌∷◌, refl, ap, sym, lit<, named, Val, vptr, SProp, emp, ftrue, ‵, raw, ◌⊛◌, some, given, later, await, pick, at_ret, ◌$◌, ◌∵◌, !, qed, by, move, keep, drop, split, split3, join, fsplit, fsplit3, fjoin, fjoin3, fpick, fpack, learn, use0, use1, use2, use3, rewrite, stop, fld, init, lit, of_opd, bin, no_more, and_then, first, blocks, exec, assigns_last, returns, enter, alloc_all, pass_all, free_all, look_at, get, get_in, through, sets, is, env, agg, sub, whole, fact, fact_i, tables, yes, RattleType, owns, types_at, plain, Ptr, block_ptr, ptr_val, RefOf, nothing, alive, Stays, stay_dropped, walk_of, Goes-dropped, after as from_on, word-Good, span, proved, leaves, unset, Names, reader_owns, writer_owns, shr_vals, shr_Tells, pointer_val, ghost_val, ghost_told, GhostData, ghost_made, right, List, nine_val, nine_of, pointer_told, PointerData, pointer_made, did_owns, behind, size_of_block, space_of, token_of}
 use types.Run.{assigns}
 use Rattle.piper_ring.specs.Places as P
 use Rattle.piper_ring.specs.SlotValues.{IsUnused, LooksFirst}
 use Rattle.piper_ring.specs.Log.{IsNew}
-use Rattle.piper_ring.specs.Trace.{did_owns}
 use Rattle.piper_ring.specs.contracts.log.Log as Log
 use Rattle.piper_ring.specs.contracts.ring.slots.WaiterState as Waits
 use Rattle.piper_ring.specs.contracts.ring.slots.WakerState as Wakes
 use Rattle.piper_ring.proofs.Opening.{as_places, begins, Slotted, IsNamed}
 use Rattle.piper_cells.specs.Space.{lender}
 use Rattle.piper_cells.specs.contracts.lent_space.Lender as Lender
-use Rattle.piper_ring.specs.Block.{behind, size_of_block, space_of}
-use Rattle.piper_ring.specs.Parts.{token_of}
 use Rattle.piper_cells.specs.contracts.token_cell.Token as Token
 use Rattle.piper_ring.specs.contracts.ring.memory.Parts as Parts
 use Rattle.piper_ring.specs.contracts.ring.places.Blank as Blank

@@ -1,6 +1,5 @@
 -- The known bytes are as many as lie between the end's two indices.
-use Rattle.std.proofs.Common.{◌∙◌, length, ap}
-use Rattle.piper_ring.specs.ReadView.{ReadView}
+use Rattle.piper_ring.proofs.Kit.{◌∙◌, length, ap, ReadView}
 use Rattle.piper_ring.proofs.ReaderFacts.{known_apart}
 use Rattle.piper_ring.proofs.ends.reader.ReadEnd.known_len.Goals as goal
 

@@ -1,6 +1,5 @@
 -- No byte is known where the end's two indices are the same.
-use Rattle.std.proofs.Common.{◌∙◌, length, ap, sym, arith}
-use Rattle.piper_ring.specs.ReadView.{ReadView}
+use Rattle.piper_ring.proofs.Kit.{◌∙◌, length, ap, sym, arith, ReadView}
 use Rattle.piper_ring.proofs.ReaderFacts.{known_apart}
 use Rattle.piper_ring.proofs.ends.reader.ReadEnd.knows_none.Goals as goal
 

@@ -1,6 +1,5 @@
 -- What was checked lies between the known bytes and the capacity, and past what marks have said.
-use Rattle.piper_ring.proofs.Kit.{◌≡◌, ℕ, ◌+◌, ◌-◌, ◌≤◌, length, take, arith, ap, ◌∙◌, sym, subst, length-take-le, position_of, position_inside, ReadView}
-use Rattle.piper_ring.specs.Loads.{FoundPublished}
+use Rattle.piper_ring.proofs.Kit.{◌≡◌, ℕ, ◌+◌, ◌-◌, ◌≤◌, length, take, arith, ap, ◌∙◌, sym, subst, length-take-le, position_of, position_inside, ReadView, FoundPublished}
 use Rattle.piper_ring.specs.ReadView.{ReadEndMayHave}
 use Rattle.piper_ring.proofs.Indices.{apart}
 use Rattle.piper_ring.proofs.Reaching.{prefix_length}

@@ -1,6 +1,5 @@
 -- Each of the things that are known of the load, by itself.
-use Rattle.std.proofs.Common.{rules, arith}
-use Rattle.std.proofs.lemmas.Grind.{common_steps}
+use Rattle.piper_ring.proofs.Kit.{rules, arith, common_steps}
 use Rattle.piper_ring.proofs.ends.reader.ReadEnd.load_closed_knowing.Goals as goal
 
 pub returns-clause-end : goal.returns-clause-end

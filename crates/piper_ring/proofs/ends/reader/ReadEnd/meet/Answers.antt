@@ -1,11 +1,7 @@
 -- All that was published lies at most a turn past the head, and what is lent lies in the room that
 -- is left.
 -- Both ends keep their views as the one comes to know of all bytes, and the other of all room.
-use Rattle.piper_ring.proofs.Kit.{◌≡◌, ℕ, ◌+◌, ◌-◌, ◌^◌, ◌<◌, ◌≤◌, ◌++◌, List, length, take, arith, sym, subst, ap, ◌∙◌, length-append, IsPrefix, position_of, ReaderIndices, WriterIndices, Names, ring_of, Stream, reaches_trans, ReadView, WriteView}
-use Rattle.rtrb.specs.Fifo.{slot_of as offset_of}
-use Rattle.std.proofs.lemmas.Grind.{common_steps}
-use Rattle.piper_protocol.specs.Index.{distance}
-use Rattle.piper_ring.specs.Shared.{Ring}
+use Rattle.piper_ring.proofs.Kit.{◌≡◌, ℕ, ◌+◌, ◌-◌, ◌^◌, ◌<◌, ◌≤◌, ◌++◌, List, length, take, arith, sym, subst, ap, ◌∙◌, length-append, IsPrefix, position_of, ReaderIndices, WriterIndices, Names, ring_of, Stream, reaches_trans, ReadView, WriteView, slot_of as offset_of, common_steps, distance, Ring}
 use Rattle.piper_ring.specs.ReadView.{read_view, KnowsMore}
 use Rattle.piper_ring.proofs.Indices.{apart}
 use Rattle.piper_ring.proofs.WriterFacts.{sent_below}

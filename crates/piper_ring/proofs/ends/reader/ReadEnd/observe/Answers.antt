@@ -1,8 +1,6 @@
 -- What the end has heard of goes on as far as what it was told of.
-use Rattle.std.proofs.Common.{◌∙◌, rules, arith}
-use Rattle.std.proofs.lemmas.Grind.{common_steps}
+use Rattle.piper_ring.proofs.Kit.{◌∙◌, rules, arith, common_steps, Stream, reaches_trans}
 use base.Growing.{prefix_trans}
-use Rattle.piper_ring.specs.Streams.{Stream, reaches_trans}
 use Rattle.piper_ring.proofs.ends.reader.ReadEnd.observe.Goals as goal
 
 pub returns : goal.returns

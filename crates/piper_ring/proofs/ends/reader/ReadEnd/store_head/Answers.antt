@@ -1,9 +1,5 @@
 -- The end keeps its view as the front of the known bytes goes over to what was taken.
-use Rattle.piper_ring.proofs.Kit.{◌≡◌, ℕ, ◌+◌, ◌-◌, ◌≤◌, ◌<◌, ◌^◌, ◌++◌, List, length, take, arith, ap, ◌∙◌, sym, subst, length-take-le, length-drop, IsPrefix, position_of, ReaderIndices, Names, ReadView, read_view_of, in_one_piece, ring_of, drop_list}
-use Rattle.std.proofs.Common.{true}
-use Rattle.piper_protocol.specs.OneList.{stored_head}
-use Rattle.piper_ring.specs.Log.{IsLogOf, did}
-use Rattle.piper_ring.specs.ReadView.{read_view}
+use Rattle.piper_ring.proofs.Kit.{◌≡◌, ℕ, ◌+◌, ◌-◌, ◌≤◌, ◌<◌, ◌^◌, ◌++◌, List, length, take, arith, ap, ◌∙◌, sym, subst, length-take-le, length-drop, IsPrefix, position_of, ReaderIndices, Names, ReadView, read_view_of, in_one_piece, ring_of, drop_list, true, stored_head, IsLogOf, did, read_view}
 use Rattle.piper_ring.proofs.Indices.{further}
 use Rattle.piper_ring.proofs.ReaderFacts.{known_apart, within_known}
 use Rattle.piper_ring.proofs.Taking.{taken_more, whole_still, all_counted}

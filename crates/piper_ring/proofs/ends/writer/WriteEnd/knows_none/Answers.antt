@@ -1,6 +1,5 @@
 -- There is no room where the end's two indices leave none.
-use Rattle.std.proofs.Common.{◌∙◌, ap, subst, sym, arith}
-use Rattle.piper_ring.specs.WriteView.{IsBounded, WriteView}
+use Rattle.piper_ring.proofs.Kit.{◌∙◌, ap, subst, sym, arith, IsBounded, WriteView}
 use Rattle.piper_ring.proofs.WriterFacts.{bounded, room_apart}
 use Rattle.piper_ring.proofs.ends.writer.WriteEnd.knows_none.Goals as goal
 

@@ -1,6 +1,5 @@
 -- What was checked leaves the known room free, and the bytes consumed that were told of.
-use Rattle.piper_ring.proofs.Kit.{◌≡◌, ℕ, ◌+◌, ◌-◌, ◌≤◌, length, arith, ap, sym, subst, ◌∙◌, position_of, position_inside, WriteView}
-use Rattle.piper_ring.specs.Loads.{FoundConsumed}
+use Rattle.piper_ring.proofs.Kit.{◌≡◌, ℕ, ◌+◌, ◌-◌, ◌≤◌, length, arith, ap, sym, subst, ◌∙◌, position_of, position_inside, WriteView, FoundConsumed}
 use Rattle.piper_ring.specs.WriteView.{WriteEndMayHave}
 use Rattle.piper_ring.proofs.Indices.{apart}
 use Rattle.piper_ring.proofs.WriterFacts.{sent_below}

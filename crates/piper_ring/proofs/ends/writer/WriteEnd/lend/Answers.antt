@@ -1,9 +1,6 @@
 -- What is lent lies in the room and before the end of the memory.
-use Rattle.piper_ring.proofs.Kit.{◌≡◌, ℕ, ◌+◌, ◌-◌, ◌<◌, ◌≤◌, length, min, arith, sym, refl, ap, subst, ◌∙◌, slot_of as offset_of, slot_small, WriterIndices, room_in, left_in, ring_of, WriteView}
-use Rattle.std.proofs.Common.{rules}
+use Rattle.piper_ring.proofs.Kit.{◌≡◌, ℕ, ◌+◌, ◌-◌, ◌<◌, ◌≤◌, length, min, arith, sym, refl, ap, subst, ◌∙◌, slot_of as offset_of, slot_small, WriterIndices, room_in, left_in, ring_of, WriteView, rules, lend_bound, written}
 use Rattle.std.specs.List.{length_refill}
-use Rattle.piper_protocol.specs.LendBound.{lend_bound}
-use Rattle.piper_ring.specs.Lends.{written}
 use Rattle.piper_ring.specs.LendsBuffer.{with_lent}
 use Rattle.piper_ring.specs.WriteView.{Lendable, either, write_view, write_view_of}
 use Rattle.piper_ring.proofs.Indices.{offset_at}

@@ -1,6 +1,5 @@
 -- What is lent lies in the room, in one piece.
-use Rattle.std.proofs.Common.{ℕ, ◌≤◌, length, ◌∙◌, ap, sym, subst}
-use Rattle.piper_ring.specs.WriteView.{IsBounded, WriteView, lendable}
+use Rattle.piper_ring.proofs.Kit.{ℕ, ◌≤◌, length, ◌∙◌, ap, sym, subst, IsBounded, WriteView, lendable}
 use Rattle.piper_ring.proofs.WriterFacts.{bounded, lent_within}
 use Rattle.piper_ring.proofs.ends.writer.WriteEnd.lent.Goals as goal
 

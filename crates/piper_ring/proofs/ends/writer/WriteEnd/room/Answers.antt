@@ -1,6 +1,5 @@
 -- The room is what the end's two indices leave.
-use Rattle.std.proofs.Common.{◌∙◌, ap}
-use Rattle.piper_ring.specs.WriteView.{WriteView}
+use Rattle.piper_ring.proofs.Kit.{◌∙◌, ap, WriteView}
 use Rattle.piper_ring.proofs.WriterFacts.{room_apart}
 use Rattle.piper_ring.proofs.ends.writer.WriteEnd.room.Goals as goal
 

@@ -1,10 +1,6 @@
 -- The end keeps its view as the front of what is lent goes over to what was sent.
-use Rattle.piper_ring.proofs.Kit.{◌≡◌, ℕ, ◌+◌, ◌-◌, ◌^◌, ◌<◌, ◌≤◌, List, length, take, arith, ap, ◌∙◌, sym, subst, length-append, length-take-le, length-drop, position_of, WriterIndices, Names, WriteView, drop_list}
+use Rattle.piper_ring.proofs.Kit.{◌≡◌, ℕ, ◌+◌, ◌-◌, ◌^◌, ◌<◌, ◌≤◌, List, length, take, arith, ap, ◌∙◌, sym, subst, length-append, length-take-le, length-drop, position_of, WriterIndices, Names, WriteView, drop_list, false, stored_tail, IsLogOf, did, slot_of as offset_of}
 use Rattle.std.proofs.Math.Seq.{take-nil, drop-nil}
-use Rattle.std.proofs.Common.{false}
-use Rattle.piper_protocol.specs.OneList.{stored_tail}
-use Rattle.piper_ring.specs.Log.{IsLogOf, did}
-use Rattle.rtrb.specs.Fifo.{slot_of as offset_of}
 use Rattle.piper_ring.proofs.Indices.{further}
 use Rattle.piper_ring.proofs.WriterFacts.{rest_of_piece}
 use Rattle.piper_ring.proofs.ends.writer.WriteEnd.store_tail.Goals as goal

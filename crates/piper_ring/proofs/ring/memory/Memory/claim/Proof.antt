@@ -1,5 +1,5 @@
 -- `claim` asks the heap, and keeps what it hands over. Assumes `Logic`.
-use Rattle.piper_ring.proofs.Kit.{flt_i, feq_i, List, fsplit, ◌≡◌, ℕ, ◌<◌, ◌^◌, [], ◌∷◌, refl, lit<, w64, Ty, named, Val, vint, vptr, vstruct, vnil, of_list, WT, SProp, emp, Share, ftrue, flft, ‵, raw, ◌⊛◌, some, given, later, await, pick, at_ret, ◌$◌, ◌∵◌, !, qed, by, move, keep, drop, split, split3, join, fjoin, fpack, learn, use0, use1, use2, stop, fld, lit, of_opd, no_more, and_then, first, exec, returns, enter, alloc_all, pass_all, free_all, look_at, get, get_in, sets, sets_last, env, agg, whole, fact, fact_i, tables, RefOf, usize, yes, Is, RattleType, owns, Ptr, block_ptr, uint_vals, uint_Tells, shr_vals, shr_Tells, types_at, plain, nothing, Struct, Stays, stay_dropped, walk_of, Goes-dropped, after as from_on, block_if_ok, fm, proved, leaves, heap_token, pointer_val, PointerData, pointer_made}
+use Rattle.piper_ring.proofs.Kit.{flt_i, feq_i, List, fsplit, ◌≡◌, ℕ, ◌<◌, ◌^◌, [], ◌∷◌, refl, lit<, w64, Ty, named, Val, vint, vptr, vstruct, vnil, of_list, WT, SProp, emp, Share, ftrue, flft, ‵, raw, ◌⊛◌, some, given, later, await, pick, at_ret, ◌$◌, ◌∵◌, !, qed, by, move, keep, drop, split, split3, join, fjoin, fpack, learn, use0, use1, use2, stop, fld, lit, of_opd, no_more, and_then, first, exec, returns, enter, alloc_all, pass_all, free_all, look_at, get, get_in, sets, sets_last, env, agg, whole, fact, fact_i, tables, RefOf, usize, yes, Is, RattleType, owns, Ptr, block_ptr, uint_vals, uint_Tells, shr_vals, shr_Tells, types_at, plain, nothing, Struct, Stays, stay_dropped, walk_of, Goes-dropped, after as from_on, block_if_ok, fm, proved, leaves, heap_token, pointer_val, PointerData, pointer_made, Answer, IsClaim, purpose}
 use Rattle.std.proofs.Common.{IfOk, IfErr, Ok, Err}
 use mir.Syntax.{Body}
 use prog.Wp.{Wp, after_seq, at_return}
@@ -11,7 +11,6 @@ use denote.Steps.{owned}
 use denote.Struct.Declared as Declared
 use denote.Struct.Struct.{Struct-Makes}
 use denote.Triple.Call.{calls_at}
-use Rattle.core.proofs.alloc.Calls.{Answer}
 use Rattle.core.proofs.slots.Bodies.{head, arm_body}
 use Rattle.core.specs.contracts.result.Result as Either
 use Rattle.std_heap.specs.contracts.Global as Heap
@@ -19,7 +18,6 @@ use Rattle.std_heap.proofs.GlobalAllocator.allocate.Met as allocates
 use Rattle.rtrb.proofs.Values.{ok_of, err_of}
 use Rattle.piper_protocol.specs.Reported.{HasFailed, as_failed}
 use Rattle.piper_protocol.specs.contracts.memory.OutOfMemory as Want
-use Rattle.piper_ring.specs.Block.{IsClaim, purpose}
 use Rattle.piper_ring.proofs.Heap.{Asks, asking, may_ask, was_answered, answered}
 use Rattle.piper_ring.specs.contracts.ring.memory.Memory as Memory
 use Rattle.piper_ring.proofs.ring.memory.Memory.claim as own

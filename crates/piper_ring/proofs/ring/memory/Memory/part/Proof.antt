@@ -1,9 +1,6 @@
 -- `part` cuts the space out of the words of a block. Assumes `Logic`.
-use Rattle.piper_ring.proofs.Kit.{◌≡◌, ℕ, [], ◌∷◌, refl, sym, ap, w64, Val, vint, SProp, emp, ftrue, fst∗, never, fsep, fwand, ‵, raw, ◌⊛◌, given, at_ret, ◌$◌, ◌∵◌, !, qed, by, move, keep, drop, split, split3, join, fsplit, fjoin, fjoin3, fpick, fpack, learn, use0, use1, use2, rewrite, sem, stop, fld, lit, bin, of_opd, no_more, and_then, first, blocks, exec, returns, enter, alloc_all, pass_all, free_all, look_at, get, get_in, sets, sets_last, is, env, agg, sub, whole, fact, fact_i, tables, usize, yes, owns, types_at, plain, Ptr, block_ptr, null_ptr, ptr_val, in_a_block, uint_vals, uint_Tells, nothing, alive, Stays, stay_dropped, walk_of, Goes-dropped, word-Good, after as from_on, owned_block, pair_val, pair_of, proved, leaves, heap_token, all_rooms, word_room, slot_rooms, pointer_val, pointer_told, PointerData, pointer_made, Ty}
-use denote.RawPtr.{InBlock}
+use Rattle.piper_ring.proofs.Kit.{◌≡◌, ℕ, [], ◌∷◌, refl, sym, ap, w64, Val, vint, SProp, emp, ftrue, fst∗, never, fsep, fwand, ‵, raw, ◌⊛◌, given, at_ret, ◌$◌, ◌∵◌, !, qed, by, move, keep, drop, split, split3, join, fsplit, fjoin, fjoin3, fpick, fpack, learn, use0, use1, use2, rewrite, sem, stop, fld, lit, bin, of_opd, no_more, and_then, first, blocks, exec, returns, enter, alloc_all, pass_all, free_all, look_at, get, get_in, sets, sets_last, is, env, agg, sub, whole, fact, fact_i, tables, usize, yes, owns, types_at, plain, Ptr, block_ptr, null_ptr, ptr_val, in_a_block, uint_vals, uint_Tells, nothing, alive, Stays, stay_dropped, walk_of, Goes-dropped, word-Good, after as from_on, owned_block, pair_val, pair_of, proved, leaves, heap_token, all_rooms, word_room, slot_rooms, pointer_val, pointer_told, PointerData, pointer_made, Ty, InBlock, behind, purpose, size_of_block, space_of, space_room, unused, IsPlaced}
 use Rattle.piper_cells.specs.contracts.lent_space.Space as Space
-use Rattle.piper_ring.specs.Block.{behind, purpose, size_of_block, space_of, space_room, unused}
-use Rattle.piper_ring.specs.Parts.{IsPlaced}
 use Rattle.piper_ring.proofs.Block.{BlockRoom, BytesRoom, WordsRoom, block_cut, remakes}
 use Rattle.piper_ring.proofs.Opening.{words_out, Rejoin}
 use Rattle.piper_ring.specs.contracts.ring.memory.Parts as Parts

@@ -1,12 +1,11 @@
 -- `surrender` hands the bytes to the heap. Assumes `Logic`.
-use Rattle.piper_ring.proofs.Kit.{◌≡◌, ◌^◌, ℕ, lit<, lit, flt_i, List, [], ◌∷◌, sym, refl, ap, subst, w64, Ty, named, Val, vint, vptr, vunit, WT, SProp, fst∗, never, Share, ftrue, flft, sem, ‵, raw, ◌⊛◌, given, later, await, at_ret, ◌$◌, ◌∵◌, !, qed, by, move, keep, drop, split, join, fsplit, fjoin, feq_i, learn, rewrite, use1, use3, stop, fld, unit_lit, of_opd, no_more, and_then, first, blocks, exec, returns, enter, alloc_all, pass_all, free_all, look_at, get, get_in, sets, is, lands_last, env, sub, whole, tables, RefOf, usize, yes, owns, Ptr, block_ptr, null_ptr, ptr_val, in_a_block, uint_vals, uint_Tells, shr_vals, shr_Tells, types_at, plain, nothing, Stays, stay_dropped, walk_of, Goes-dropped, owned_block, after as from_on, word-Good, fm, proved, leaves, heap_token, pointer_val, pointer_told}
+use Rattle.piper_ring.proofs.Kit.{◌≡◌, ◌^◌, ℕ, lit<, lit, flt_i, List, [], ◌∷◌, sym, refl, ap, subst, w64, Ty, named, Val, vint, vptr, vunit, WT, SProp, fst∗, never, Share, ftrue, flft, sem, ‵, raw, ◌⊛◌, given, later, await, at_ret, ◌$◌, ◌∵◌, !, qed, by, move, keep, drop, split, join, fsplit, fjoin, feq_i, learn, rewrite, use1, use3, stop, fld, unit_lit, of_opd, no_more, and_then, first, blocks, exec, returns, enter, alloc_all, pass_all, free_all, look_at, get, get_in, sets, is, lands_last, env, sub, whole, tables, RefOf, usize, yes, owns, Ptr, block_ptr, null_ptr, ptr_val, in_a_block, uint_vals, uint_Tells, shr_vals, shr_Tells, types_at, plain, nothing, Stays, stay_dropped, walk_of, Goes-dropped, owned_block, after as from_on, word-Good, fm, proved, leaves, heap_token, pointer_val, pointer_told, IsClaim, purpose, unused}
 use Rattle.std.proofs.Common.{T}
 use mir.Syntax.{ty_unit}
 use mir.Val.{has_ty}
 use denote.Triple.Call.{calls_at_last}
 use Rattle.std_heap.specs.contracts.Global as Heap
 use Rattle.std_heap.proofs.GlobalAllocator.deallocate.Met as deallocates
-use Rattle.piper_ring.specs.Block.{IsClaim, purpose, unused}
 use Rattle.piper_ring.proofs.Heap.{Frees, freeing, may_free, was_freed}
 use Rattle.piper_ring.specs.contracts.ring.memory.Memory as Memory
 use Rattle.piper_ring.proofs.ring.memory.Memory.surrender as own

@@ -1,6 +1,5 @@
 -- A `&` to places that need not be set lends none of them. Assumes `Logic`.
-use Rattle.piper_ring.proofs.Kit.{said_shr_laws, of_Lends, Lends-first, Lends-said, span, unset, ghost_coded, ghost_shared}
-use denote.Sharing.{said}
+use Rattle.piper_ring.proofs.Kit.{said_shr_laws, of_Lends, Lends-first, Lends-said, span, unset, ghost_coded, ghost_shared, said}
 use Rattle.piper_ring.specs.Places.{fact, Placed}
 use Rattle.piper_ring.specs.contracts.ring.places.Blank as C
 use Rattle.piper_ring.proofs.ring.places.Blank.TheLaw.Statement.{statement}

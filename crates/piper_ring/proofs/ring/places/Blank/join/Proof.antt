@@ -1,6 +1,5 @@
 -- `join` glues two runs of places. Assumes `Logic`.
-use Rattle.piper_ring.proofs.Kit.{◌≡◌, ℕ, ◌+◌, List, [], ◌∷◌, refl, named, Val, vptr, vunit, SProp, emp, full_share, Fml, ftrue, flft, ‵, raw, ◌⊛◌, given, ◌$◌, ◌∵◌, !, qed, by, move, keep, split, join, fsplit, fsplit3, fjoin, fjoin3, fpick, fpack, learn, use0, use2, rewrite, feq_i, drop as forget, unit_lit, of_opd, returns, enter, alloc_all, pass_all, free_all, look_at, sets, env, fact, fact_i, tables, yes, RattleType, owns, types_at, plain, Ptr, Is, shows, cell_at, mut_vals, mut_Tells, nothing, peeks, opens, closes, Stays, stay_ref, stay_dropped, walk_of, Goes-ref, Goes-dropped, span, span_join, proved, leaves, unset, ghost_val, GhostData, ghost_told, ghost_made}
-use Rattle.piper_ring.specs.Places.{Placed}
+use Rattle.piper_ring.proofs.Kit.{◌≡◌, ℕ, ◌+◌, List, [], ◌∷◌, refl, named, Val, vptr, vunit, SProp, emp, full_share, Fml, ftrue, flft, ‵, raw, ◌⊛◌, given, ◌$◌, ◌∵◌, !, qed, by, move, keep, split, join, fsplit, fsplit3, fjoin, fjoin3, fpick, fpack, learn, use0, use2, rewrite, feq_i, drop as forget, unit_lit, of_opd, returns, enter, alloc_all, pass_all, free_all, look_at, sets, env, fact, fact_i, tables, yes, RattleType, owns, types_at, plain, Ptr, Is, shows, cell_at, mut_vals, mut_Tells, nothing, peeks, opens, closes, Stays, stay_ref, stay_dropped, walk_of, Goes-ref, Goes-dropped, span, span_join, proved, leaves, unset, ghost_val, GhostData, ghost_told, ghost_made, Placed}
 use Rattle.piper_ring.specs.contracts.ring.places.Blank as Blank
 use Rattle.piper_ring.proofs.ring.places.Blank.join as own
 

@@ -1,6 +1,5 @@
 -- `none` makes the owner of no places. Assumes `Logic`.
-use Rattle.piper_ring.proofs.Kit.{◌≡◌, ℕ, ◌+◌, List, [], ◌∷◌, refl, w64, named, Val, vint, vptr, SProp, emp, full_share, ftrue, flft, ‵, raw, ◌⊛◌, ◌$◌, ◌∵◌, !, qed, by, move, keep, split, join, fsplit, fsplit3, fjoin, fjoin3, fpick, fpack, use0, rewrite, feq_i, drop as forget, no_more, and_then, returns, enter, alloc_all, pass_all, free_all, look_at, get, sets, env, agg, fact, fact_i, tables, yes, RattleType, owns, types_at, plain, usize, Is, shows, cell_at, uint_vals, uint_Tells, mut_vals, mut_Tells, nothing, peeks, opens, closes, Stays, stay_ref, stay_dropped, walk_of, Goes-ref, Goes-dropped, proved, leaves, ghost_val, GhostData, ghost_made, ghost_told}
-use Rattle.piper_ring.specs.Places.{Placed}
+use Rattle.piper_ring.proofs.Kit.{◌≡◌, ℕ, ◌+◌, List, [], ◌∷◌, refl, w64, named, Val, vint, vptr, SProp, emp, full_share, ftrue, flft, ‵, raw, ◌⊛◌, ◌$◌, ◌∵◌, !, qed, by, move, keep, split, join, fsplit, fsplit3, fjoin, fjoin3, fpick, fpack, use0, rewrite, feq_i, drop as forget, no_more, and_then, returns, enter, alloc_all, pass_all, free_all, look_at, get, sets, env, agg, fact, fact_i, tables, yes, RattleType, owns, types_at, plain, usize, Is, shows, cell_at, uint_vals, uint_Tells, mut_vals, mut_Tells, nothing, peeks, opens, closes, Stays, stay_ref, stay_dropped, walk_of, Goes-ref, Goes-dropped, proved, leaves, ghost_val, GhostData, ghost_made, ghost_told, Placed}
 use Rattle.piper_ring.specs.contracts.ring.places.Places as Places
 use Rattle.piper_ring.specs.contracts.ring.places.Blank as Blank
 use Rattle.piper_ring.proofs.ring.places.Blank.none as own

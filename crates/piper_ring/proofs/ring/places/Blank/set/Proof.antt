@@ -1,9 +1,8 @@
 -- `set` writes one byte through the pointer. Assumes `Logic`.
-use Rattle.piper_ring.proofs.Kit.{◌≡◌, ℕ, suc, ◌+◌, ◌-◌, ◌<◌, List, [], ◌∷◌, sym, refl, ◌∙◌, arith, lit<, w8, w64, named, ty_int, Val, vint, vptr, SProp, emp, full_share, ftrue, flft, fat, froom, ‵, raw, ◌⊛◌, given, at_ret, ◌$◌, ◌∵◌, !, qed, by, move, keep, split, join, fsplit, fsplit3, fjoin, fjoin3, fpick, fpack, learn, use0, use1, rewrite, feq_i, drop as forget, stop, fld, init, lit, of_opd, bin, no_more, and_then, first, blocks, exec, assigns_last, returns, enter, alloc_all, pass_all, free_all, look_at, get, get_in, through, sets, take_at, give_at, env, agg, sub, whole, fact, fact_i, tables, yes, RattleType, owns, types_at, plain, Ptr, block_ptr, block_of, count_of, at_block, layout, u8, usize, Is, shows, cell_at, part_at, uint_vals, uint_Tells, mut_vals, mut_Tells, nothing, peeks, opens, closes, Stays, stay_ref, stay_dropped, walk_of, Goes-ref, Goes-dropped, word-Good, tail, slot_of as offset_of, span, proved, leaves, unset, place, ghost_val, GhostData, ghost_made, ghost_told}
+use Rattle.piper_ring.proofs.Kit.{◌≡◌, ℕ, suc, ◌+◌, ◌-◌, ◌<◌, List, [], ◌∷◌, sym, refl, ◌∙◌, arith, lit<, w8, w64, named, ty_int, Val, vint, vptr, SProp, emp, full_share, ftrue, flft, fat, froom, ‵, raw, ◌⊛◌, given, at_ret, ◌$◌, ◌∵◌, !, qed, by, move, keep, split, join, fsplit, fsplit3, fjoin, fjoin3, fpick, fpack, learn, use0, use1, rewrite, feq_i, drop as forget, stop, fld, init, lit, of_opd, bin, no_more, and_then, first, blocks, exec, assigns_last, returns, enter, alloc_all, pass_all, free_all, look_at, get, get_in, through, sets, take_at, give_at, env, agg, sub, whole, fact, fact_i, tables, yes, RattleType, owns, types_at, plain, Ptr, block_ptr, block_of, count_of, at_block, layout, u8, usize, Is, shows, cell_at, part_at, uint_vals, uint_Tells, mut_vals, mut_Tells, nothing, peeks, opens, closes, Stays, stay_ref, stay_dropped, walk_of, Goes-ref, Goes-dropped, word-Good, tail, slot_of as offset_of, span, proved, leaves, unset, place, ghost_val, GhostData, ghost_made, ghost_told, Placed}
 use denote.Plain.{uint_in}
 use Rattle.std_alloc.proofs.RcSteps.{word}
 use Rattle.rtrb.proofs.Spans.{span_first}
-use Rattle.piper_ring.specs.Places.{Placed}
 use Rattle.piper_ring.specs.contracts.ring.places.Places as Places
 use Rattle.piper_ring.specs.contracts.ring.places.Blank as Blank
 use Rattle.piper_ring.specs.contracts.ring.places.Base as Base

@@ -1,7 +1,6 @@
 -- `slice` shows the front of the places that a `&` lends. Assumes `Logic`.
-use Rattle.piper_ring.proofs.Kit.{◌≡◌, ℕ, ◌+◌, ◌*◌, ◌^◌, ◌<◌, ◌≤◌, List, [], ◌∷◌, length, take, sym, refl, ap, ◌∙◌, arith, w64, named, Val, vint, vptr, SProp, emp, ftrue, flft, fhide, fat, full_share, ‵, raw, ◌⊛◌, given, at_ret, ◌$◌, ◌∵◌, !, qed, by, move, keep, drop, split, join, fsplit, fjoin, fpick, learn, use0, use1, rewrite, feq_i, flt_i, stop, fld, of_opd, and_then, no_more, bin, first, blocks, exec, returns, enter, alloc_all, pass_all, free_all, look_at, get, get_in, sets, sets_last, take_at, give_at, env, agg, sub, whole, fact, fact_i, tables, yes, owns, types_at, plain, Ptr, block_ptr, block_of, count_of, at_block, u8, usize, RefOf, uint_vals, uint_Tells, shr_vals, shr_Tells, hidden_shr, hide, unhide, nothing, lent_out, layout, word-Good, Stays, stay_dropped, walk_of, Goes-dropped, tail, proved, leaves, places_lent, slot_of as offset_of, GhostData, ghost_coded}
+use Rattle.piper_ring.proofs.Kit.{◌≡◌, ℕ, ◌+◌, ◌*◌, ◌^◌, ◌<◌, ◌≤◌, List, [], ◌∷◌, length, take, sym, refl, ap, ◌∙◌, arith, w64, named, Val, vint, vptr, SProp, emp, ftrue, flft, fhide, fat, full_share, ‵, raw, ◌⊛◌, given, at_ret, ◌$◌, ◌∵◌, !, qed, by, move, keep, drop, split, join, fsplit, fjoin, fpick, learn, use0, use1, rewrite, feq_i, flt_i, stop, fld, of_opd, and_then, no_more, bin, first, blocks, exec, returns, enter, alloc_all, pass_all, free_all, look_at, get, get_in, sets, sets_last, take_at, give_at, env, agg, sub, whole, fact, fact_i, tables, yes, owns, types_at, plain, Ptr, block_ptr, block_of, count_of, at_block, u8, usize, RefOf, uint_vals, uint_Tells, shr_vals, shr_Tells, hidden_shr, hide, unhide, nothing, lent_out, layout, word-Good, Stays, stay_dropped, walk_of, Goes-dropped, tail, proved, leaves, places_lent, slot_of as offset_of, GhostData, ghost_coded, slice_val, elements_shared}
 use Rattle.std.proofs.Common.{length-take}
-use denote.Slice.{slice_val, elements_shared}
 use Rattle.std_alloc.proofs.RcSteps.{word}
 use Rattle.piper_ring.specs.contracts.ring.places.Places as Places
 use Rattle.piper_ring.specs.contracts.ring.places.Base as Base

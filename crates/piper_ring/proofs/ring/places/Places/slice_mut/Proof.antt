@@ -1,7 +1,5 @@
 -- `slice_mut` lends the bytes, and their owner follows what is written. Assumes `Logic`.
-use Rattle.piper_ring.proofs.Kit.{◌≡◌, ℕ, ◌+◌, ◌*◌, ◌^◌, ◌<◌, ◌≤◌, List, [], ◌∷◌, length, sym, refl, ◌∙◌, arith, w64, named, Val, vint, vptr, Ura, SProp, ent, sep, id⊢, Fml, GName, ftrue, fsep, flft, fat, full_share, Logic, sem, ‵, raw, ◌⊛◌, some, given, later, await, pick, split3, at_ret, ◌$◌, ◌∵◌, !, qed, move, keep, split, join, fsplit, fsplit3, fjoin, fpick, fpack, learn, use1, rewrite, frame, suffices, done, drop as forget, stop, fld, of_opd, and_then, no_more, bin, first, blocks, exec, returns, enter, alloc_all, pass_all, free_all, look_at, get, get_in, sets, sets_last, is, take_at, give_at, env, agg, sub, whole, tables, yes, RattleType, owns, types_at, plain, Ptr, block_ptr, block_of, count_of, at_block, u8, usize, uint_vals, uint_Tells, mut_vals, mut_Tells, mem, cell_at, nothing, opens, layout, Stays, stay_dropped, walk_of, Goes-dropped, tail, word-Good, proved, slot_of as offset_of, run, byte, GhostData, drop_list, no}
-use types.SemTy.{cells}
-use types.Kit.{group}
+use Rattle.piper_ring.proofs.Kit.{◌≡◌, ℕ, ◌+◌, ◌*◌, ◌^◌, ◌<◌, ◌≤◌, List, [], ◌∷◌, length, sym, refl, ◌∙◌, arith, w64, named, Val, vint, vptr, Ura, SProp, ent, sep, id⊢, Fml, GName, ftrue, fsep, flft, fat, full_share, Logic, sem, ‵, raw, ◌⊛◌, some, given, later, await, pick, split3, at_ret, ◌$◌, ◌∵◌, !, qed, move, keep, split, join, fsplit, fsplit3, fjoin, fpick, fpack, learn, use1, rewrite, frame, suffices, done, drop as forget, stop, fld, of_opd, and_then, no_more, bin, first, blocks, exec, returns, enter, alloc_all, pass_all, free_all, look_at, get, get_in, sets, sets_last, is, take_at, give_at, env, agg, sub, whole, tables, yes, RattleType, owns, types_at, plain, Ptr, block_ptr, block_of, count_of, at_block, u8, usize, uint_vals, uint_Tells, mut_vals, mut_Tells, mem, cell_at, nothing, opens, layout, Stays, stay_dropped, walk_of, Goes-dropped, tail, word-Good, proved, slot_of as offset_of, run, byte, GhostData, drop_list, no, cells, group, Placed}
 use denote.Signature.{mut_ref_to}
 use denote.Ref.{MutBor}
 use denote.Array.{Array}
@@ -11,7 +9,6 @@ use denote.Slice.{slice_val, MutSlice}
 use denote.Triple.Walked.{says, ends_at, Goes-spent_ref}
 use lib.Seq.{take_at as take_front}
 use Rattle.std_alloc.proofs.RcSteps.{word}
-use Rattle.piper_ring.specs.Places.{Placed}
 use Rattle.piper_ring.specs.Lends.{with_bytes, written}
 use Rattle.piper_ring.specs.contracts.ring.places.Places as Places
 use Rattle.piper_ring.specs.contracts.ring.places.Base as Base

@@ -1,6 +1,5 @@
 -- `take` hands the whole run over, and keeps none. Assumes `Logic`.
-use Rattle.piper_ring.proofs.Kit.{◌≡◌, ℕ, ◌+◌, List, [], ◌∷◌, length, refl, named, Val, vptr, SProp, emp, full_share, Fml, ftrue, flft, ‵, raw, ◌⊛◌, ◌$◌, ◌∵◌, !, qed, by, move, keep, split, join, fsplit, fsplit3, fjoin, fjoin3, fpick, fpack, use0, rewrite, feq_i, drop as forget, no_more, and_then, returns, enter, alloc_all, pass_all, free_all, look_at, get, sets, env, agg, fact, fact_i, tables, RattleType, owns, types_at, plain, Is, shows, cell_at, mut_vals, mut_Tells, nothing, peeks, opens, closes, Stays, stay_ref, walk_of, Goes-ref, proved, leaves, byte, ghost_val, GhostData, ghost_told, ghost_made}
-use Rattle.piper_ring.specs.Places.{Placed}
+use Rattle.piper_ring.proofs.Kit.{◌≡◌, ℕ, ◌+◌, List, [], ◌∷◌, length, refl, named, Val, vptr, SProp, emp, full_share, Fml, ftrue, flft, ‵, raw, ◌⊛◌, ◌$◌, ◌∵◌, !, qed, by, move, keep, split, join, fsplit, fsplit3, fjoin, fjoin3, fpick, fpack, use0, rewrite, feq_i, drop as forget, no_more, and_then, returns, enter, alloc_all, pass_all, free_all, look_at, get, sets, env, agg, fact, fact_i, tables, RattleType, owns, types_at, plain, Is, shows, cell_at, mut_vals, mut_Tells, nothing, peeks, opens, closes, Stays, stay_ref, walk_of, Goes-ref, proved, leaves, byte, ghost_val, GhostData, ghost_told, ghost_made, Placed}
 use Rattle.piper_ring.specs.contracts.ring.places.Places as Places
 use Rattle.piper_ring.proofs.ring.places.Places.take as own
 

@@ -1,18 +1,12 @@
 -- `into_parts` takes apart what both ends left. Assumes `Logic`.
-use Rattle.piper_ring.proofs.Kit.{◌+◌, arith, load, through, look, u64, vint, w64, flt_i, feq_i, List, fwand, Filled, number, use2, fsplit3, word_room, GhostData, ghost_made, ghost_val, false, join, first, blocks, bin, lit, sets_last, exec, at_ret, use1, after as from_on, ◌≡◌, ℕ, ◌<◌, ◌^◌, Bool, true, [], ◌∷◌, refl, ap, Val, SProp, emp, ftrue, ‵, raw, ◌⊛◌, given, ◌$◌, ◌∵◌, !, qed, by, move, keep, drop, split, fsplit, fjoin, fpick, fpack, learn, use0, rewrite, stop, fld, of_opd, no_more, and_then, returns, enter, alloc_all, pass_all, free_all, look_at, get, get_in, sets, is, env, agg, sub, whole, fact, fact_i, tables, yes, owns, types_at, plain, Ptr, block_ptr, ptr_val, block_of, count_of, at_block, nothing, alive, Stays, stay_dropped, walk_of, Goes-dropped, word-Good, proved, leaves, Names, heap_token, where_gone, pointer_val, pointer_told, PointerData, pointer_made, eight_val, eight_of, Ty, ty_int}
-use types.Kit.{group}
+use Rattle.piper_ring.proofs.Kit.{◌+◌, arith, load, through, look, u64, vint, w64, flt_i, feq_i, List, fwand, Filled, number, use2, fsplit3, word_room, GhostData, ghost_made, ghost_val, false, join, first, blocks, bin, lit, sets_last, exec, at_ret, use1, after as from_on, ◌≡◌, ℕ, ◌<◌, ◌^◌, Bool, true, [], ◌∷◌, refl, ap, Val, SProp, emp, ftrue, ‵, raw, ◌⊛◌, given, ◌$◌, ◌∵◌, !, qed, by, move, keep, drop, split, fsplit, fjoin, fpick, fpack, learn, use0, rewrite, stop, fld, of_opd, no_more, and_then, returns, enter, alloc_all, pass_all, free_all, look_at, get, get_in, sets, is, env, agg, sub, whole, fact, fact_i, tables, yes, owns, types_at, plain, Ptr, block_ptr, ptr_val, block_of, count_of, at_block, nothing, alive, Stays, stay_dropped, walk_of, Goes-dropped, word-Good, proved, leaves, Names, heap_token, where_gone, pointer_val, pointer_told, PointerData, pointer_made, eight_val, eight_of, Ty, ty_int, group, purpose, size_of_block, space_of, IsPlaced, slice_index, block_room, space_room}
 use Rattle.piper_cells.specs.contracts.lent_space.Lease as Lease
 use Rattle.piper_cells.specs.contracts.lent_space.Lender as Lender
-use Rattle.piper_ring.specs.Block.{purpose, size_of_block, space_of}
-use Rattle.piper_ring.specs.Parts.{IsPlaced}
 use Rattle.piper_ring.specs.Shared as shared
 use Rattle.piper_ring.proofs.Leaving.{frame_rejoins}
 use Rattle.piper_ring.proofs.Steps.{flag_small}
 use Rattle.piper_ring.specs.Loads.{as_lying}
 use Rattle.piper_ring.specs.SlotValues.{IsLeft, IsTokenAt}
-use Rattle.std.proofs.Common.{slice_index}
-use Rattle.piper_ring.specs.Shared.{block_room}
-use Rattle.piper_ring.specs.Block.{space_room}
 use Rattle.piper_cells.specs.contracts.token_cell.Token as Token
 use Rattle.piper_ring.specs.contracts.ring.memory.Frame as Frame
 use Rattle.piper_ring.specs.contracts.ring.remains.Remains as Remains

@@ -1,7 +1,6 @@
 -- A `&` to the reader's side lends the invariant and a share of what the reader knows. Assumes
 -- `Logic`.
-use Rattle.piper_ring.proofs.Kit.{copy_shared, RawPtr-copy, of_Lends}
-use denote.Struct.Field.{RawPtr-field}
+use Rattle.piper_ring.proofs.Kit.{copy_shared, RawPtr-copy, of_Lends, RawPtr-field}
 use Rattle.piper_ring.specs.contracts.ring.seats.ReadSeat as C
 use Rattle.piper_ring.proofs.ring.seats.ReadSeat.TheLaw.Statement.{statement}
 use Rattle.piper_ring.proofs.Rights.{reader_laws, lends_reader}

@@ -1,6 +1,5 @@
 -- `base` is where the bytes lie behind the words. Assumes `Logic`.
-use Rattle.piper_ring.proofs.Kit.{◌≡◌, ℕ, ◌+◌, [], ◌∷◌, sym, refl, named, Val, vptr, SProp, emp, Share, ftrue, flft, fhide, ‵, raw, ◌⊛◌, at_ret, ◌$◌, ◌∵◌, !, qed, by, move, keep, drop, split, join, fsplit, fjoin, fpick, use0, use1, stop, fld, load, look, lit, of_opd, bin, no_more, and_then, first, blocks, exec, returns, enter, alloc_all, pass_all, free_all, look_at, get, through, sets, sets_last, env, agg, fact, fact_i, tables, yes, owns, types_at, plain, Ptr, block_ptr, block_of, count_of, at_block, RefOf, shr_vals, shr_Tells, hidden_shr, hide, unhide, nothing, lent_out, Stays, stay_dropped, walk_of, Goes-dropped, tail, pointer_in, pointer_out, proved, leaves, Names, reader_lends, PointerData, pointer_val, pointer_made}
-use Rattle.piper_ring.specs.Block.{behind}
+use Rattle.piper_ring.proofs.Kit.{◌≡◌, ℕ, ◌+◌, [], ◌∷◌, sym, refl, named, Val, vptr, SProp, emp, Share, ftrue, flft, fhide, ‵, raw, ◌⊛◌, at_ret, ◌$◌, ◌∵◌, !, qed, by, move, keep, drop, split, join, fsplit, fjoin, fpick, use0, use1, stop, fld, load, look, lit, of_opd, bin, no_more, and_then, first, blocks, exec, returns, enter, alloc_all, pass_all, free_all, look_at, get, through, sets, sets_last, env, agg, fact, fact_i, tables, yes, owns, types_at, plain, Ptr, block_ptr, block_of, count_of, at_block, RefOf, shr_vals, shr_Tells, hidden_shr, hide, unhide, nothing, lent_out, Stays, stay_dropped, walk_of, Goes-dropped, tail, pointer_in, pointer_out, proved, leaves, Names, reader_lends, PointerData, pointer_val, pointer_made, behind}
 use Rattle.piper_ring.specs.contracts.ring.seats.ReadSeat as Seat
 use Rattle.piper_ring.proofs.ring.seats.ReadSeat.base as own
 

@@ -1,7 +1,6 @@
 -- A `&` to the writer's side lends the invariant and a share of what the writer knows. Assumes
 -- `Logic`.
-use Rattle.piper_ring.proofs.Kit.{copy_shared, RawPtr-copy, of_Lends}
-use denote.Struct.Field.{RawPtr-field}
+use Rattle.piper_ring.proofs.Kit.{copy_shared, RawPtr-copy, of_Lends, RawPtr-field}
 use Rattle.piper_ring.specs.contracts.ring.seats.WriteSeat as C
 use Rattle.piper_ring.proofs.ring.seats.WriteSeat.TheLaw.Statement.{statement}
 use Rattle.piper_ring.proofs.Rights.{writer_laws, lends_writer}

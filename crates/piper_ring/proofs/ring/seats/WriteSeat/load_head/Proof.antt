@@ -1,11 +1,9 @@
 -- `load_head` is one load of the head, beside a share of what the writer knows, and is noted. Assumes
 -- `Logic`.
-use Rattle.piper_ring.proofs.Kit.{lit<, ◌≡◌, ℕ, ◌+◌, ◌≤◌, ◌^◌, List, [], ◌∷◌, false, length, refl, w64, named, Val, vint, vptr, SProp, emp, via, Share, Fml, ftrue, flft, fhide, ‵, raw, ◌⊛◌, given, learn, split3, rewrite, use3, mean, at_ret, ◌$◌, ◌∵◌, !, qed, by, move, keep, drop, split, join, fsplit, fjoin, fpick, fpack, use0, use1, use2, feq_i, flt_i, stop, fld, load, look, lit, of_opd, bin, no_more, and_then, first, blocks, exec, Calls-last, returns, enter, alloc_all, pass_all, free_all, look_at, get, through, sets, lands_last, env, agg, shr_bor-open, obor_close, fact, fact_i, tables, yes, owns, types_at, plain, Ptr, block_ptr, block_of, count_of, at_block, RefOf, u64, shr_vals, shr_Tells, hidden_shr, hide, unhide, nothing, lent_out, Stays, stay_dropped, walk_of, Goes-dropped, tail, pointer_in, pointer_out, position_of, proved, leaves, pair_val, pair_of, seq_cst, fm, found, finds, loads, took, Names, RingIsPlaced, common, writer_knows, writer_lends, PointerData, ghost_val, GhostData, ghost_made, ghost_coded, fjoin3, fsplit3, RattleType, mut_vals, mut_Tells, opens, closes, stay_ref, Goes-ref}
+use Rattle.piper_ring.proofs.Kit.{lit<, ◌≡◌, ℕ, ◌+◌, ◌≤◌, ◌^◌, List, [], ◌∷◌, false, length, refl, w64, named, Val, vint, vptr, SProp, emp, via, Share, Fml, ftrue, flft, fhide, ‵, raw, ◌⊛◌, given, learn, split3, rewrite, use3, mean, at_ret, ◌$◌, ◌∵◌, !, qed, by, move, keep, drop, split, join, fsplit, fjoin, fpick, fpack, use0, use1, use2, feq_i, flt_i, stop, fld, load, look, lit, of_opd, bin, no_more, and_then, first, blocks, exec, Calls-last, returns, enter, alloc_all, pass_all, free_all, look_at, get, through, sets, lands_last, env, agg, shr_bor-open, obor_close, fact, fact_i, tables, yes, owns, types_at, plain, Ptr, block_ptr, block_of, count_of, at_block, RefOf, u64, shr_vals, shr_Tells, hidden_shr, hide, unhide, nothing, lent_out, Stays, stay_dropped, walk_of, Goes-dropped, tail, pointer_in, pointer_out, position_of, proved, leaves, pair_val, pair_of, seq_cst, fm, found, finds, loads, took, Names, RingIsPlaced, common, writer_knows, writer_lends, PointerData, ghost_val, GhostData, ghost_made, ghost_coded, fjoin3, fsplit3, RattleType, mut_vals, mut_Tells, opens, closes, stay_ref, Goes-ref, loaded_head, MayNote, did}
 use Rattle.piper_ring.specs.Loads.{FoundConsumed, as_consumed}
 use Rattle.piper_ring.specs.contracts.ring.marks.ReadMark as Mark
 use Rattle.piper_ring.proofs.Rights.{writer_halves}
-use Rattle.piper_protocol.specs.OneList.{loaded_head}
-use Rattle.piper_ring.specs.Log.{MayNote, did}
 use Rattle.piper_ring.specs.contracts.log.Log as Log
 use Rattle.piper_ring.proofs.Steps.{flag_small, AfterPeek, looks_head}
 use Rattle.piper_ring.specs.contracts.ring.seats.WriteSeat as Seat

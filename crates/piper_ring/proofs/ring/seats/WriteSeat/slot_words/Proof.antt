@@ -1,8 +1,6 @@
 -- `slot_words` copies evidence out of a share of what the writer knows, and hands the share on. Assumes
 -- `Logic`.
-use Rattle.piper_ring.proofs.Kit.{true, ◌≡◌, ℕ, ◌+◌, [], ◌∷◌, refl, named, Val, vptr, SProp, emp, Share, Fml, ftrue, flft, fhide, ‵, raw, ◌⊛◌, ◌$◌, ◌∵◌, !, qed, by, move, keep, drop, split, join, fsplit, fjoin, fjoin3, fpick, fpack, use0, use1, rewrite, stop, fld, load, look, of_opd, no_more, and_then, returns, enter, alloc_all, pass_all, free_all, look_at, get, through, sets, env, agg, shr_bor-open, obor_close, fact, fact_i, tables, yes, owns, types_at, plain, named_lft, Ptr, block_ptr, block_of, count_of, at_block, RefOf, shr_vals, shr_Tells, hidden_shr, hide, unhide, nothing, lent_out, Stays, stay_dropped, walk_of, Goes-dropped, pointer_in, pointer_out, guard_good, proved, leaves, Names, RingIsPlaced, common, Known, lent_by, evidence, Stored, as_stored, by_writer, writer_knows, writer_lends, PointerData, lent_val, LentData, lent_made}
-use base.Fml.{fshr_bor}
-use denote.SharingLaws.{one_shr_laws}
+use Rattle.piper_ring.proofs.Kit.{true, ◌≡◌, ℕ, ◌+◌, [], ◌∷◌, refl, named, Val, vptr, SProp, emp, Share, Fml, ftrue, flft, fhide, ‵, raw, ◌⊛◌, ◌$◌, ◌∵◌, !, qed, by, move, keep, drop, split, join, fsplit, fjoin, fjoin3, fpick, fpack, use0, use1, rewrite, stop, fld, load, look, of_opd, no_more, and_then, returns, enter, alloc_all, pass_all, free_all, look_at, get, through, sets, env, agg, shr_bor-open, obor_close, fact, fact_i, tables, yes, owns, types_at, plain, named_lft, Ptr, block_ptr, block_of, count_of, at_block, RefOf, shr_vals, shr_Tells, hidden_shr, hide, unhide, nothing, lent_out, Stays, stay_dropped, walk_of, Goes-dropped, pointer_in, pointer_out, guard_good, proved, leaves, Names, RingIsPlaced, common, Known, lent_by, evidence, Stored, as_stored, by_writer, writer_knows, writer_lends, PointerData, lent_val, LentData, lent_made, fshr_bor, one_shr_laws}
 use Rattle.piper_ring.proofs.Rights.{writer_halves}
 use Rattle.piper_ring.proofs.Slots.{writer_stored}
 use Rattle.piper_ring.specs.contracts.ring.seats.WriteSeat as Seat

@@ -1,10 +1,7 @@
 -- `store_shut` is one store. Assumes `Logic`.
 use Rattle.piper_ring.proofs.Kit.{use3, false, lit<, ◌≡◌, ℕ, ◌+◌, true, List, [], ◌∷◌, refl, ap, w64, named, Val, vint, vptr, vunit, SProp, emp, full_share, Fml, ftrue, flft, ‵, raw, ◌⊛◌, mean, at_ret, ◌$◌, ◌∵◌, !, qed, by, move, keep, drop, split, join, fsplit, fsplit3, fjoin, fjoin3, fpick, fpack, use0, use1, rewrite, feq_i, stop, fld, load, lit, unit_lit, of_opd, bin, no_more, and_then, first, blocks, exec, Calls-last, returns, enter, alloc_all, pass_all, free_all, look_at, get, through, sets, lands_last, is, env, agg, sub, whole, look_in, fact, fact_i, tables, RattleType, owns, types_at, plain, Ptr, block_ptr, ptr_val, block_of, count_of, at_block, Is, shows, cell_at, mut_vals, mut_Tells, nothing, peeks, opens, closes, Stays, stay_ref, walk_of, Goes-ref, tail, asks, always, proved, leaves, seq_cst, fm, stored, has_stored, stores, Names, RingIsPlaced, common, half, writer_knows, pointer_val, PointerData, pointer_told, pointer_made}
-use Rattle.piper_protocol.specs.OneList.{stored_closed}
-use Rattle.piper_ring.specs.Log.{did}
 use Rattle.piper_ring.specs.contracts.log.Log as Log
-use types.Kit.{given, learn, split3}
-use Rattle.piper_ring.proofs.Kit.{false}
+use Rattle.piper_ring.proofs.Kit.{false, stored_closed, did, given, learn, split3}
 use Rattle.piper_ring.proofs.Rights.{common_twice}
 use Rattle.piper_ring.proofs.Steps.{Closed, flag_small, shuts}
 use Rattle.piper_ring.specs.contracts.ring.seats.WriteSeat.{the_row}

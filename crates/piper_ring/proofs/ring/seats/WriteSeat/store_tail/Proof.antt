@@ -1,9 +1,6 @@
 -- `store_tail` is one store, which hands places over and is noted. Assumes `Logic`.
-use Rattle.piper_ring.proofs.Kit.{true, false, lit<, ◌≡◌, ℕ, ◌+◌, ◌≤◌, List, [], ◌∷◌, ◌++◌, length, refl, ap, w64, named, Val, vint, vptr, vunit, SProp, emp, full_share, Fml, ftrue, flft, ‵, raw, ◌⊛◌, given, mean, at_ret, ◌$◌, ◌∵◌, !, qed, by, move, keep, drop, split, join, fsplit, fsplit3, fjoin, fjoin3, fpick, fpack, learn, use0, use1, use3, rewrite, feq_i, stop, fld, load, lit, unit_lit, of_opd, bin, no_more, and_then, first, blocks, exec, Calls-last, returns, enter, alloc_all, pass_all, free_all, look_at, get, through, sets, lands_last, is, env, agg, sub, whole, look_in, fact, fact_i, tables, yes, RattleType, owns, types_at, plain, Ptr, block_ptr, ptr_val, block_of, count_of, at_block, u64, Is, shows, cell_at, mut_vals, mut_Tells, uint_vals, uint_Tells, nothing, peeks, opens, closes, Stays, stay_ref, stay_dropped, walk_of, Goes-ref, Goes-dropped, tail, asks, always, position_of, run, proved, leaves, seq_cst, fm, stored, has_stored, stores, byte, Names, RingIsPlaced, common, pointer_val, ghost_val, PointerData, pointer_told, pointer_made, ghost_told}
+use Rattle.piper_ring.proofs.Kit.{true, false, lit<, ◌≡◌, ℕ, ◌+◌, ◌≤◌, List, [], ◌∷◌, ◌++◌, length, refl, ap, w64, named, Val, vint, vptr, vunit, SProp, emp, full_share, Fml, ftrue, flft, ‵, raw, ◌⊛◌, given, mean, at_ret, ◌$◌, ◌∵◌, !, qed, by, move, keep, drop, split, join, fsplit, fsplit3, fjoin, fjoin3, fpick, fpack, learn, use0, use1, use3, rewrite, feq_i, stop, fld, load, lit, unit_lit, of_opd, bin, no_more, and_then, first, blocks, exec, Calls-last, returns, enter, alloc_all, pass_all, free_all, look_at, get, through, sets, lands_last, is, env, agg, sub, whole, look_in, fact, fact_i, tables, yes, RattleType, owns, types_at, plain, Ptr, block_ptr, ptr_val, block_of, count_of, at_block, u64, Is, shows, cell_at, mut_vals, mut_Tells, uint_vals, uint_Tells, nothing, peeks, opens, closes, Stays, stay_ref, stay_dropped, walk_of, Goes-ref, Goes-dropped, tail, asks, always, position_of, run, proved, leaves, seq_cst, fm, stored, has_stored, stores, byte, Names, RingIsPlaced, common, pointer_val, ghost_val, PointerData, pointer_told, pointer_made, ghost_told, split3, stored_tail, did}
 use Rattle.piper_ring.proofs.Rights.{common_twice}
-use types.Kit.{split3}
-use Rattle.piper_protocol.specs.OneList.{stored_tail}
-use Rattle.piper_ring.specs.Log.{did}
 use Rattle.piper_ring.proofs.Steps.{flag_small, Published, publishes}
 use Rattle.piper_ring.specs.contracts.log.Log as Log
 use Rattle.piper_ring.specs.contracts.ring.places.Places as Places

@@ -1,18 +1,10 @@
 -- `exchange_own` is one swap, beside a share of what the end knows that lends the words: the own right goes
 -- in, and the one of the cell that lay there comes out. Assumes `Logic`.
-use Rattle.piper_protocol.specs.Lines.{accesses_in}
-use Rattle.piper_ring.proofs.Kit.{◌≡◌, ℕ, ◌+◌, ◌*◌, ◌<◌, ◌^◌, List, [], ◌∷◌, sym, refl, ap, subst, w64, lit<, named, Val, vint, vptr, SProp, emp, via, Share, Fml, ftrue, flft, ‵, raw, ◌⊛◌, given, mean, at_ret, ◌$◌, ◌∵◌, !, qed, by, move, keep, drop, split, split3, join, fsplit, fsplit3, fjoin, fjoin3, fpick, fpack, learn, use0, use3, rewrite, feq_i, flt_i, stop, fld, lit, of_opd, bin, no_more, and_then, first, blocks, exec, Calls-last, returns, enter, alloc_all, pass_all, free_all, look_at, get, get_in, sub, whole, is, sets, lands_last, env, agg, shr_bor-open, obor_close, fact, fact_i, tables, yes, no, RattleType, owns, types_at, plain, named_lft, Ptr, block_ptr, ptr_val, block_of, count_of, at_block, usize, uint_vals, uint_Tells, mut_vals, mut_Tells, nothing, opens, closes, Stays, stay_dropped, stay_ref, walk_of, Goes-dropped, Goes-ref, after as from_on, guard_good, proved, leaves, seq_cst, fm, Names, RingIsPlaced, Bool, true, Stored, slot_word, found, finds, lent_val, lent_told, u64, swaps, right, Waits, Exchanges, waits_in, of_waits}
-use Rattle.std.proofs.Common.{slice_index}
-use Rattle.piper_protocol.specs.OneList.{swapped}
-use Rattle.piper_ring.specs.Log.{IsLogOf, did}
-use Rattle.piper_ring.specs.Slot.{Filled, ticket_if}
-use Rattle.piper_ring.specs.Trace.{side_of}
+use Rattle.piper_ring.proofs.Kit.{◌≡◌, ℕ, ◌+◌, ◌*◌, ◌<◌, ◌^◌, List, [], ◌∷◌, sym, refl, ap, subst, w64, lit<, named, Val, vint, vptr, SProp, emp, via, Share, Fml, ftrue, flft, ‵, raw, ◌⊛◌, given, mean, at_ret, ◌$◌, ◌∵◌, !, qed, by, move, keep, drop, split, split3, join, fsplit, fsplit3, fjoin, fjoin3, fpick, fpack, learn, use0, use3, rewrite, feq_i, flt_i, stop, fld, lit, of_opd, bin, no_more, and_then, first, blocks, exec, Calls-last, returns, enter, alloc_all, pass_all, free_all, look_at, get, get_in, sub, whole, is, sets, lands_last, env, agg, shr_bor-open, obor_close, fact, fact_i, tables, yes, no, RattleType, owns, types_at, plain, named_lft, Ptr, block_ptr, ptr_val, block_of, count_of, at_block, usize, uint_vals, uint_Tells, mut_vals, mut_Tells, nothing, opens, closes, Stays, stay_dropped, stay_ref, walk_of, Goes-dropped, Goes-ref, after as from_on, guard_good, proved, leaves, seq_cst, fm, Names, RingIsPlaced, Bool, true, Stored, slot_word, found, finds, lent_val, lent_told, u64, swaps, right, Waits, Exchanges, waits_in, of_waits, accesses_in, slice_index, swapped, IsLogOf, did, Filled, ticket_if, side_of, is_some, Option, IsTokenOf, IsTokenAt}
 use Rattle.piper_ring.specs.contracts.log.Log as Log
-use Rattle.std.proofs.Common.{is_some, Option}
 use Rattle.piper_ring.proofs.Steps.{Kept}
 use Rattle.piper_ring.proofs.Rights.{known_halves}
 use Rattle.piper_ring.proofs.Slots.{word_fits, SwapsOwn, exchange_own, put_in, put_ticket}
-use Rattle.piper_ring.specs.SlotValues.{IsTokenOf, IsTokenAt}
 use Rattle.piper_cells.specs.contracts.token_cell.Token as Token
 use Rattle.piper_ring.specs.contracts.ring.slots.WaiterState as Slot
 use Rattle.piper_ring.specs.contracts.ring.slots.SlotWords as SlotWords

@@ -1,13 +1,7 @@
 -- `load_own` is one load, beside a share of what the end knows that lends the words. Assumes
 -- `Logic`.
-use Rattle.piper_protocol.specs.Lines.{accesses_in}
-use Rattle.piper_ring.proofs.Kit.{flt_i, lit<, ◌≡◌, ℕ, ◌+◌, ◌*◌, ◌<◌, ◌^◌, List, [], ◌∷◌, sym, refl, ap, subst, w64, named, Val, vint, vptr, SProp, emp, via, Share, Fml, ftrue, flft, ‵, raw, ◌⊛◌, given, mean, at_ret, ◌$◌, ◌∵◌, !, qed, by, move, keep, drop, split, split3, join, fsplit, fsplit3, fjoin, fjoin3, fpick, fpack, learn, use0, rewrite, feq_i, stop, fld, lit, of_opd, bin, no_more, and_then, first, blocks, exec, Calls-last, returns, enter, alloc_all, pass_all, free_all, look_at, get, get_in, sub, whole, is, sets, lands_last, env, agg, shr_bor-open, obor_close, fact, fact_i, tables, yes, no, RattleType, owns, types_at, plain, named_lft, Ptr, block_ptr, ptr_val, block_of, count_of, at_block, usize, uint_vals, uint_Tells, mut_vals, mut_Tells, nothing, opens, closes, Stays, stay_dropped, stay_ref, walk_of, Goes-dropped, Goes-ref, after as from_on, guard_good, proved, leaves, seq_cst, fm, Names, RingIsPlaced, Bool, true, false, Stored, slot_word, is_odd, ◌∙◌, use3, found, finds, loads, Waits, waits_in, of_waits, lent_val, lent_told}
-use Rattle.piper_protocol.specs.OneList.{loaded_slot}
-use Rattle.piper_ring.specs.Log.{MayNote, did}
-use Rattle.piper_ring.specs.Slot.{filled}
-use Rattle.piper_ring.specs.Trace.{side_of}
+use Rattle.piper_ring.proofs.Kit.{flt_i, lit<, ◌≡◌, ℕ, ◌+◌, ◌*◌, ◌<◌, ◌^◌, List, [], ◌∷◌, sym, refl, ap, subst, w64, named, Val, vint, vptr, SProp, emp, via, Share, Fml, ftrue, flft, ‵, raw, ◌⊛◌, given, mean, at_ret, ◌$◌, ◌∵◌, !, qed, by, move, keep, drop, split, split3, join, fsplit, fsplit3, fjoin, fjoin3, fpick, fpack, learn, use0, rewrite, feq_i, stop, fld, lit, of_opd, bin, no_more, and_then, first, blocks, exec, Calls-last, returns, enter, alloc_all, pass_all, free_all, look_at, get, get_in, sub, whole, is, sets, lands_last, env, agg, shr_bor-open, obor_close, fact, fact_i, tables, yes, no, RattleType, owns, types_at, plain, named_lft, Ptr, block_ptr, ptr_val, block_of, count_of, at_block, usize, uint_vals, uint_Tells, mut_vals, mut_Tells, nothing, opens, closes, Stays, stay_dropped, stay_ref, walk_of, Goes-dropped, Goes-ref, after as from_on, guard_good, proved, leaves, seq_cst, fm, Names, RingIsPlaced, Bool, true, false, Stored, slot_word, is_odd, ◌∙◌, use3, found, finds, loads, Waits, waits_in, of_waits, lent_val, lent_told, accesses_in, loaded_slot, MayNote, did, filled, side_of, is_some}
 use Rattle.piper_ring.specs.contracts.log.Log as Log
-use Rattle.std.proofs.Common.{is_some}
 use Rattle.piper_ring.proofs.Steps.{Kept}
 use Rattle.piper_ring.proofs.Rights.{known_halves}
 use Rattle.piper_ring.proofs.Slots.{word_fits, odd_number, own_stays, own_gone, LoadsOwn, load_own}

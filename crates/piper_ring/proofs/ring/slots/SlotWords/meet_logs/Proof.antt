@@ -1,8 +1,5 @@
 -- `meet_logs` is no step of the program. Assumes `Logic`.
-use Rattle.piper_protocol.specs.Lines.{accesses_in}
-use Rattle.piper_ring.proofs.Kit.{use3, ◌≡◌, ℕ, List, [], ◌∷◌, refl, named, Val, vptr, vunit, SProp, emp, Share, ftrue, flft, ‵, raw, ◌⊛◌, given, ◌$◌, ◌∵◌, !, qed, by, move, keep, drop, split, split3, join, fsplit, fsplit3, fjoin, fjoin3, fpick, fpack, learn, use0, feq_i, unit_lit, of_opd, returns, enter, alloc_all, pass_all, free_all, look_at, sets, env, fact, fact_i, tables, no, RattleType, owns, types_at, plain, named_lft, Ptr, mut_vals, mut_Tells, nothing, opens, closes, Stays, stay_dropped, stay_ref, walk_of, Goes-dropped, Goes-ref, guard_good, proved, leaves, later, await, Bool, Names, RingIsPlaced, lent_val, lent_told}
-use Rattle.std.proofs.Common.{not}
-use Rattle.piper_ring.specs.Log.{accesses_of, AreSides, IsLogOf}
+use Rattle.piper_ring.proofs.Kit.{use3, ◌≡◌, ℕ, List, [], ◌∷◌, refl, named, Val, vptr, vunit, SProp, emp, Share, ftrue, flft, ‵, raw, ◌⊛◌, given, ◌$◌, ◌∵◌, !, qed, by, move, keep, drop, split, split3, join, fsplit, fsplit3, fjoin, fjoin3, fpick, fpack, learn, use0, feq_i, unit_lit, of_opd, returns, enter, alloc_all, pass_all, free_all, look_at, sets, env, fact, fact_i, tables, no, RattleType, owns, types_at, plain, named_lft, Ptr, mut_vals, mut_Tells, nothing, opens, closes, Stays, stay_dropped, stay_ref, walk_of, Goes-dropped, Goes-ref, guard_good, proved, leaves, later, await, Bool, Names, RingIsPlaced, lent_val, lent_told, accesses_in, not, accesses_of, AreSides, IsLogOf}
 use Rattle.piper_ring.proofs.Steps.{Kept, logs_meet}
 use Rattle.piper_ring.specs.contracts.log.Log as One
 use Rattle.piper_ring.specs.contracts.ring.slots.SlotWords as SlotWords

@@ -1,10 +1,6 @@
 -- What both sides have of their logs is said together.
-use Rattle.std.proofs.Common.{◌≡◌, ℕ, ◌≤◌, Bool, true, rules, ap, sym, subst, ◌∙◌, arith}
-use Rattle.piper_protocol.specs.Told.{are_told}
-use Rattle.piper_protocol.specs.declared.table.Side.TheVariants.{Reader, Writer}
+use Rattle.piper_ring.proofs.Kit.{◌≡◌, ℕ, Bool, true, rules, ap, sym, subst, ◌∙◌, arith, are_told, Reader, Writer, Names, Ring, side_of}
 use Rattle.piper_ring.specs.Log.{accesses_of, is_at_rest}
-use Rattle.piper_ring.specs.Shared.{Names, Ring}
-use Rattle.piper_ring.specs.Trace.{side_of}
 use Rattle.piper_ring.proofs.Told.{rests_settled}
 use Rattle.piper_ring.proofs.ends.slots.reader.Side+ReadEnd+T.meet.Goals as goal
 

@@ -1,10 +1,7 @@
 -- The log has it that so many bytes were shown.
-use Rattle.std.proofs.Common.{ℕ, ◌≤◌, ◌∙◌, Result, IfOk, min, ap, sym, subst, arith}
-use Rattle.piper_protocol.specs.declared.table.TheConstants.{MOST_A_ROUND}
-use Rattle.piper_ring.specs.Shared.{Names}
+use Rattle.piper_ring.proofs.Kit.{ℕ, ◌≤◌, ◌∙◌, Result, IfOk, min, ap, sym, subst, arith, MOST_A_ROUND, Names, in_one_piece}
 use Rattle.piper_ring.proofs.Told.{is_within, shown_is}
 use Rattle.piper_ring.proofs.ends.slots.reader.Side+ReadEnd+T.note_taken.Goals as goal
-use Rattle.piper_ring.specs.ReadView.{in_one_piece}
 
 pub note-requires : goal.note-requires
 note-requires g c =

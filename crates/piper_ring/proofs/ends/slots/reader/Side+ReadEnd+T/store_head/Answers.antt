@@ -1,6 +1,5 @@
 -- The store and its note leave the calls of the log, and whether it is true.
-use Rattle.std.proofs.Common.{◌∙◌}
-use Rattle.piper_protocol.specs.Told.{are_calls, are_told}
+use Rattle.piper_ring.proofs.Kit.{◌∙◌, are_calls, are_told}
 use Rattle.piper_ring.proofs.ends.slots.reader.Side+ReadEnd+T.store_head.Goals as goal
 
 pub invariant_of-self-clause-calls : goal.invariant_of-self-clause-calls

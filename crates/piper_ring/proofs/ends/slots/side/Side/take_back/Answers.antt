@@ -1,6 +1,5 @@
 -- What was taken back is what this function says.
-use Rattle.std.proofs.Common.{rules}
-use Rattle.piper_ring.specs.Loads.{as_taken_back}
+use Rattle.piper_ring.proofs.Kit.{rules, as_taken_back}
 use Rattle.piper_ring.proofs.ends.slots.side.Side.take_back.Goals as goal
 
 pub returns-clause-out : goal.returns-clause-out

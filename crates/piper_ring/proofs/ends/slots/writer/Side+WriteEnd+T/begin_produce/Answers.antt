@@ -1,6 +1,5 @@
 -- The log has it that so many places may be lent in one piece.
-use Rattle.std.proofs.Common.{ℕ, ◌≤◌, ◌∙◌, ap, sym, arith}
-use Rattle.piper_ring.specs.Shared.{Names}
+use Rattle.piper_ring.proofs.Kit.{◌∙◌, ap, sym, arith, Names}
 use Rattle.piper_ring.proofs.Told.{is_within, lent_is}
 use Rattle.piper_ring.proofs.ends.slots.writer.Side+WriteEnd+T.begin_produce.Goals as goal
 

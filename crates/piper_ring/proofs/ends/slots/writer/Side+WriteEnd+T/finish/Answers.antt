@@ -1,7 +1,5 @@
 -- What was taken, and that the side left, is what this function says.
-use Rattle.std.proofs.Common.{◌≡◌, ℕ, Bool, true, false, is_some, ◌∙◌, refl, sym, rules}
-use Rattle.piper_ring.specs.Loads.{as_taken}
-use Rattle.piper_ring.specs.Slot.{ticket_if}
+use Rattle.piper_ring.proofs.Kit.{◌≡◌, ℕ, Bool, true, false, is_some, ◌∙◌, refl, sym, rules, as_taken, ticket_if}
 use Rattle.piper_ring.proofs.ends.slots.writer.Side+WriteEnd+T.finish.Goals as goal
 
 ticket_is : (full : Bool) (ticket : ℕ) → is_some (ticket_if full ticket) ≡ full

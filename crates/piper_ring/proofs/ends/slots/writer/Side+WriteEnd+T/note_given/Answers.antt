@@ -1,7 +1,5 @@
 -- The log has it that so many places were lent.
-use Rattle.std.proofs.Common.{ℕ, ◌≤◌, ◌∙◌, length, Result, IfOk, min, ap, sym, subst, arith}
-use Rattle.piper_protocol.specs.declared.table.TheConstants.{MOST_A_ROUND}
-use Rattle.piper_ring.specs.Shared.{Names}
+use Rattle.piper_ring.proofs.Kit.{ℕ, ◌≤◌, ◌∙◌, length, Result, IfOk, min, ap, sym, subst, arith, MOST_A_ROUND, Names}
 use Rattle.piper_ring.proofs.Told.{is_within, lent_is}
 use Rattle.piper_ring.proofs.ends.slots.writer.Side+WriteEnd+T.note_given.Goals as goal
 

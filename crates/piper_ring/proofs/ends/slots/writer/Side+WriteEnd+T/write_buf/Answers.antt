@@ -1,11 +1,9 @@
 -- A side whose writer was lent from is that side, whichever the evidence that its parts belong together.
-use Rattle.std.proofs.Common.{◌≡◌, ℕ, ◌+◌, ◌-◌, Bool, List, length, true, false, refl}
+use Rattle.piper_ring.proofs.Kit.{◌≡◌, ℕ, ◌+◌, ◌-◌, Bool, List, length, true, false, refl, Names, WriteView}
 use Rattle.std.proofs.Props.{props}
 use Rattle.piper_cells.specs.declared.lent_space.Placed.{Placed}
 use Rattle.piper_ring.specs.Cells.{AreCellsOf}
-use Rattle.piper_ring.specs.Shared.{Names}
 use Rattle.piper_ring.specs.SlotsView.{SlotsView}
-use Rattle.piper_ring.specs.WriteView.{WriteView}
 use Rattle.piper_ring.specs.declared.ends.cells.WakerCells.{WakerCells}
 use Rattle.piper_ring.specs.declared.ends.slots.side.Side.{Side}
 use Rattle.piper_protocol.specs.Told.{are_calls, moved_in, seen_in, shut_in, tickets_in, waits_in}
