@@ -1,14 +1,13 @@
 -- A note that is true keeps the log true.
-use Rattle.std.proofs.Common.{◌≡◌, ◌↔◌, IsTrue, ℕ, ◌+◌, ◌-◌, ◌≤◌, ◌==◌, ◌%◌, true≢false, sym, min, nat_le, if◌then◌else◌, ap, Bool, true, false, not, List, [], ◌∷◌, length, Option, None, refl, arith}
+use Rattle.std.proofs.Common.{◌≡◌, ℕ, ◌+◌, ◌-◌, ◌≤◌, ◌%◌, true≢false, sym, min, nat_le, if◌then◌else◌, ap, Bool, true, false, not, List, [], ◌∷◌, length, Option, None, refl, arith}
 use Rattle.std.proofs.lemmas.Bool.Decides.{nat_tests}
 use Rattle.piper_protocol.specs.Lines.{Line, access, action, comes_to, met, note}
-use Rattle.piper_protocol.specs.OneList.{Access, is_same, loaded_head, loaded_slot, loaded_tail, swapped}
-use Rattle.piper_protocol.specs.Told.{alike, are_told, begins, both, fits, is_made, is_settled, lendable_in, may_draw, moved_in, rests, seen_in, shut_in, waits_in}
+use Rattle.piper_protocol.specs.OneList.{Access, is_same, loaded_slot, swapped}
+use Rattle.piper_protocol.specs.Told.{are_told, begins, both, is_made, is_settled, lendable_in, may_draw, moved_in, rests, seen_in, shut_in, waits_in}
 use Rattle.piper_protocol.specs.declared.table.Action.{Action}
-use Rattle.piper_protocol.specs.declared.table.Action.TheVariants.{LoadIndex}
-use Rattle.piper_ring.proofs.Kit.{Found, IndexLoaded, Point, Reader, Writer, slot_of as offset_of, ReadView, in_one_piece, IsBounded, WriteView, lendable, side_of}
+use Rattle.piper_ring.proofs.Kit.{Found, Point, Reader, Writer, slot_of as offset_of, ReadView, in_one_piece, IsBounded, WriteView, lendable, side_of}
 use Rattle.piper_protocol.specs.declared.table.Side.{Side}
-use Rattle.piper_ring.specs.Log.{IsLoadedIn, IsOutside, IsToldIn, MayPassIn, as_is}
+use Rattle.piper_ring.specs.Log.{IsLoadedIn, IsToldIn, MayPassIn, as_is}
 use Rattle.piper_protocol.specs.declared.log.Note.{Note}
 use Rattle.piper_protocol.specs.declared.log.Note.TheVariants.{Began, ClosedLoaded, Drew, Made, Passed, Told}
 
@@ -99,29 +98,6 @@ pub access_told : (capacity : ℕ) (own : Side) (a : Access) (lines : List Line)
     → are_told capacity own (access a ∷ lines) ≡ are_told capacity own lines
 unfolding are_told
 access_told capacity own a lines = refl
-
--- whether nothing is known is whether the count is 0 that the log has of it
-pub tells_none : (none : Bool) (known count : ℕ) → (IsTrue none ↔ (known ≡ 0)) → count ≡ known
-    → alike none (count == 0) ≡ true
-tells_none none known count same is = grind (arith, nat_tests)
-
--- a load of the other side's index
-module _ (capacity : ℕ) (before : List Line) (count : ℕ) (none : Bool) where
-  pub fits_tail : (reads : Bool) → reads ≡ true
-      → alike none (count - length (moved_in before) == 0) ≡ true
-      → fits capacity (side_of reads) before LoadIndex (loaded_tail count) (IndexLoaded none) ≡ true
-  fits_tail true is fit = fit
-  fits_tail false is fit = absurd (true≢false (sym is))
-
-  pub fits_head : (reads : Bool) → reads ≡ false
-      → alike none (capacity - (length (moved_in before) - count) == 0) ≡ true
-      → fits capacity (side_of reads) before LoadIndex (loaded_head count) (IndexLoaded none) ≡ true
-  fits_head true is fit = absurd (true≢false is)
-  fits_head false is fit = fit
-
-pub outside_made : (capacity : ℕ) (own : Side) (it : Action) (said : Found) (lines : List Line)
-    → IsOutside it said → is_made capacity own lines it said ≡ true
-outside_made capacity own it said lines is = grind arith
 
 -- how much may be shown or lent, as the log has it and as the end's view has it
 

@@ -1,18 +1,14 @@
 -- What the parts of a writer's end say of its indices.
-use Rattle.std.proofs.Common.{◌≡◌, ℕ, ◌+◌, ◌-◌, ◌≤◌, ◌⊎◌, inl, inr, ⊎_elim, eq-or-lt_of_le, Bool, true, false, if◌then◌else◌, length, min, arith, refl, ◌<◌, sym, subst, ap, ◌∙◌}
+use Rattle.std.proofs.Common.{◌≡◌, ℕ, ◌+◌, ◌-◌, ◌≤◌, ◌⊎◌, inl, inr, ⊎_elim, eq-or-lt_of_le, Bool, true, false, if◌then◌else◌, length, min, arith, ◌<◌, sym, subst, ap, ◌∙◌}
 use Rattle.piper_ring.proofs.Kit.{slot_add, slot_small, slot_turn, slot_of as offset_of, distance, lend_bound}
 use Rattle.piper_protocol.specs.WriterIndices.{WriterIndices, room_in, left_in, lendable_in}
-use Rattle.piper_ring.specs.WriteView.{IsBounded, IsWriteEnd, lendable, write_view_of}
+use Rattle.piper_ring.specs.WriteView.{IsBounded, IsWriteEnd, write_view_of}
 use Rattle.piper_ring.specs.declared.ends.writer.WriteParts.{WriteParts}
 use Rattle.piper_ring.proofs.Indices.{apart}
 
 at_most : (b : Bool) (n : ℕ) → (if b then 0 else n) ≤ n
 at_most false n = omega arith
 at_most true n = omega arith
-
-unless_shut : (shut : Bool) (n most : ℕ) → (shut ≡ true → n ≡ 0) → n ≤ most → n ≤ (if shut then 0 else most)
-unless_shut true n most none le = omega (arith, none refl)
-unless_shut false n most none le = le
 
 -- after n bytes of a piece, the rest of it is still in one piece
 pub rest_of_piece : (c s n l : ℕ) → 0 < c → offset_of c s + l ≤ c → n ≤ l → offset_of c (s + n) + (l - n) ≤ c
@@ -60,10 +56,3 @@ module _ (e : WriteParts) (i : IsWriteEnd e) where
   -- the capacity is the ring's, and the room ends at most a turn after what was published
   pub bounded : IsBounded (write_view_of e)
   bounded = let below : length e.seat.sent ≤ e.seat.limit = sent_below in let low = i.freed.0 in let near = i.freed.1 in (i.fits.0, omega (arith, below, low, near), omega (arith, below, low, near))
-
-  -- what is lent lies in one piece, and there is none of it once the writer closed the pipe
-  pub lent_within : length e.room.lent.bytes ≤ lendable (write_view_of e)
-  lent_within =
-      let r = e.room in let a : r.lent.first ≡ length e.seat.sent = i.placed.2 in let b : r.ready.first ≡ r.lent.first + length r.lent.bytes = i.room.0.chain.0 in
-      let c : r.ready.first + length r.ready.bytes + r.blank.count ≡ r.later.first = i.room.0.chain.1 in let d : r.later.first + length r.later.bytes ≡ e.seat.limit = i.placed.3 in
-      unless_shut e.seat.shut _ _ (λ shut. ap length (i.lends_none shut)) (omega (arith, a, b, c, d, i.piece))

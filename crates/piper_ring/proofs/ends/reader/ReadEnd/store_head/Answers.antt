@@ -1,5 +1,5 @@
 -- The end keeps its view as the front of the known bytes goes over to what was taken.
-use Rattle.piper_ring.proofs.Kit.{◌≡◌, ℕ, ◌+◌, ◌-◌, ◌≤◌, ◌<◌, ◌^◌, ◌++◌, List, length, take, arith, ap, ◌∙◌, sym, subst, length-take-le, length-drop, IsPrefix, position_of, ReaderIndices, Names, ReadView, read_view_of, in_one_piece, ring_of, drop_list, true, stored_head, IsLogOf, did, read_view}
+use Rattle.piper_ring.proofs.Kit.{◌≡◌, ℕ, ◌+◌, ◌-◌, ◌≤◌, ◌<◌, ◌^◌, ◌++◌, List, length, take, arith, ap, ◌∙◌, sym, subst, length-take-le, length-drop, IsPrefix, position_of, ReaderIndices, Names, ReadView, read_view_of, in_one_piece, ring_of, drop_list, read_view}
 use Rattle.piper_ring.proofs.Indices.{further}
 use Rattle.piper_ring.proofs.ReaderFacts.{known_apart, within_known}
 use Rattle.piper_ring.proofs.Taking.{taken_more, whole_still, all_counted}
@@ -15,9 +15,6 @@ store_head-requires-clause-back c = let e = c.self.inside.parts in let i = c.sel
     let sum : e.seat.seen ≡ e.seat.head + length K = i.counts.0 in let more : e.seat.head + length c.split-back.result.bytes ≤ e.seat.seen = omega arith in
     let cap = i.fits.0 in let there = c.consume-head.ensures.index ∙ further e.indices.capacity _ e.seat.head n _ c.consume-head.ensures.remainder i.cached.0 in
     (((λ j. (d.front j).at) ∙ i.placed.0, (λ j. (d.front j).capacity) ∙ i.placed.1, (λ j. (d.front j).first) ∙ i.placed.2), more, there ∙ sym (λ j. position_of (sym cap j) (e.seat.head + back j)))
-
-pub store_head-requires-clause-log : goal.store_head-requires-clause-log
-store_head-requires-clause-log c = subst (λ (r : ReadView). IsLogOf r.ring.names true c.args.log.now) (sym c.self.view_is) c.requires.log
 
 pub invariant_of-self : goal.invariant_of-self
 invariant_of-self c = let e = c.self.inside.parts in let i = c.self.invariant in let s = c.store_head.ensures.seat in let d = c.split-back.ensures in let n : ℕ = c.args.n in let K : List ℕ = e.known.bytes in let head : ℕ = e.seat.head in
@@ -48,7 +45,3 @@ returns-clause-end c = let e = c.self.inside.parts in let i = c.self.invariant i
     let cap : c.consume-head.new.self.capacity ≡ e.indices.capacity = ap (λ (r : ReaderIndices). r.capacity) c.consume-head.ensures.after in
     (λ j. read_view (ring_of (s j).words (s j).at (s j).names) (cap j) (taken j) ((d.rest j).bytes) (length e.observed.bytes) e.observed.shut e.saw.shut e.heard.bytes)
     ∙ ap (λ (r : ReadView). record r { taken = r.taken ++ take n r.known; known = drop_list n r.known }) c.self.view_is
-
-pub returns-clause-noted : goal.returns-clause-noted
-returns-clause-noted c = let d = c.split-back.ensures in let n : ℕ = c.args.n in
-    c.store_head.ensures.noted ∙ (λ j. did (stored_head ((d.front j).bytes)) c.args.log.now) ∙ ap (λ (r : ReadView). did (stored_head (take n r.known)) c.args.log.now) c.self.view_is

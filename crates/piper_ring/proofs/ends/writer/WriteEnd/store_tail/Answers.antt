@@ -1,5 +1,5 @@
 -- The end keeps its view as the front of what is lent goes over to what was sent.
-use Rattle.piper_ring.proofs.Kit.{◌≡◌, ℕ, ◌+◌, ◌-◌, ◌^◌, ◌<◌, ◌≤◌, List, length, take, arith, ap, ◌∙◌, sym, subst, length-append, length-take-le, length-drop, position_of, WriterIndices, Names, WriteView, drop_list, false, stored_tail, IsLogOf, did, slot_of as offset_of}
+use Rattle.piper_ring.proofs.Kit.{◌≡◌, ℕ, ◌+◌, ◌-◌, ◌^◌, ◌<◌, ◌≤◌, List, length, take, arith, ap, ◌∙◌, sym, subst, length-append, length-take-le, length-drop, position_of, WriterIndices, Names, WriteView, drop_list, slot_of as offset_of}
 use Rattle.std.proofs.Math.Seq.{take-nil, drop-nil}
 use Rattle.piper_ring.proofs.Indices.{further}
 use Rattle.piper_ring.proofs.WriterFacts.{rest_of_piece}
@@ -12,9 +12,6 @@ store_tail-requires-clause-bytes c = let e = c.self.inside.parts in let i = c.se
     let more : s + length c.split-gift.result.bytes ≤ e.seat.limit = omega arith in
     let cap = i.fits.0 in let there = c.publish-tail.ensures.index ∙ further e.indices.capacity _ s n _ c.publish-tail.ensures.remainder i.cached.0 in
     (((λ j. (d.front j).at) ∙ i.placed.0, (λ j. (d.front j).capacity) ∙ i.placed.1, (λ j. (d.front j).first) ∙ i.placed.2), more, (λ shut. (λ j. (d.front j).bytes) ∙ ap (take n) (i.lends_none shut) ∙ take-nil n), there ∙ sym (λ j. position_of (sym cap j) (s + gift j)))
-
-pub store_tail-requires-clause-log : goal.store_tail-requires-clause-log
-store_tail-requires-clause-log c = subst (λ (w : WriteView). IsLogOf w.ring.names false c.args.log.now) (sym c.self.view_is) c.requires.log
 
 pub invariant_of-self : goal.invariant_of-self
 invariant_of-self c = let e = c.self.inside.parts in let i = c.self.invariant in let d = c.split-gift.ensures in let t = c.store_tail.ensures.seat in let n : ℕ = c.args.n in let L : List ℕ = e.room.lent.bytes in let s : ℕ = length e.seat.sent in let r = e.room in
@@ -47,7 +44,3 @@ invariant_of-self c = let e = c.self.inside.parts in let i = c.self.invariant in
       closed = ap (λ (w : WriterIndices). w.is_shut) after ∙ i.closed ∙ sym (λ j. (t j).shut);
       lends_none = λ shut. (λ j. (d.rest j).bytes) ∙ ap (drop_list n) (i.lends_none (sym (λ j. (t j).shut) ∙ shut)) ∙ drop-nil n;
     }
-
-pub returns-clause-noted : goal.returns-clause-noted
-returns-clause-noted c = let d = c.split-gift.ensures in let n : ℕ = c.args.n in
-    c.store_tail.ensures.noted ∙ (λ j. did (stored_tail ((d.front j).bytes)) c.args.log.now) ∙ ap (λ (w : WriteView). did (stored_tail (take n w.lent)) c.args.log.now) c.self.view_is
