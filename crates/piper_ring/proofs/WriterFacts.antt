@@ -1,6 +1,6 @@
 -- What the parts of a writer's end say of its indices.
 use Rattle.std.proofs.Common.{◌≡◌, ℕ, ◌+◌, ◌-◌, ◌≤◌, ◌⊎◌, inl, inr, ⊎_elim, eq-or-lt_of_le, Bool, true, false, if◌then◌else◌, length, min, arith, ◌<◌, sym, subst, ap, ◌∙◌}
-use Rattle.piper_ring.proofs.Kit.{slot_add, slot_small, slot_turn, slot_of as offset_of, distance, lend_bound}
+use Rattle.piper_ring.proofs.Kit.{slot_add, slot_small, slot_turn, slot_of as offset_of, position_of, distance, lend_bound}
 use Rattle.piper_protocol.specs.WriterIndices.{WriterIndices, room_in, left_in, lendable_in}
 use Rattle.piper_ring.specs.WriteView.{IsBounded, IsWriteEnd, write_view_of}
 use Rattle.piper_ring.specs.declared.ends.writer.WriteParts.{WriteParts}
@@ -40,6 +40,12 @@ module _ (e : WriteParts) (i : IsWriteEnd e) where
   pub room_apart : room_in e.indices ≡ e.seat.limit - length e.seat.sent
   room_apart = let cap : ℕ = e.indices.capacity in let s : ℕ = length e.seat.sent in let below : s ≤ e.seat.limit = sent_below in let low : cap ≤ e.seat.limit = i.freed.0 in let near : e.seat.limit ≤ s + cap = i.freed.1 in
       let far : distance cap e.indices.head e.indices.tail ≡ s - (e.seat.limit - cap) = apart cap _ _ (e.seat.limit - cap) s (omega arith) (omega arith) i.cached.1 i.cached.0 in omega arith
+
+  -- the distance to its tail of a head that was loaded is that of their counts
+  pub head_apart : (h head : ℕ) → h ≤ length e.seat.sent → e.seat.limit ≤ h + e.seat.names.capacity
+      → head ≡ position_of e.seat.names.capacity h → distance e.indices.capacity head e.indices.tail ≡ length e.seat.sent - h
+  head_apart h head sent room is = let below : length e.seat.sent ≤ e.seat.limit = sent_below in
+      apart _ _ _ h (length e.seat.sent) sent (omega (arith, i.fits.0, room, below)) (is ∙ ap (λ (n : ℕ). position_of n h) (sym i.fits.0)) i.cached.0
 
   -- all that was published or is lent is set, or all places are
   all_set : (length e.seat.sent + length e.room.lent.bytes ≤ e.indices.zeroed) ⊎ (e.indices.zeroed ≡ e.indices.capacity)
