@@ -1,7 +1,8 @@
 -- The known bytes that are contiguous lie from the head's offset on.
-use Rattle.piper_ring.proofs.Kit.{◌≡◌, ℕ, ◌-◌, ◌≤◌, ◌<◌, length, take, min, arith, sym, ap, ◌∙◌, length-take-le, slot_of as offset_of, ReadView, in_one_piece}
+use Rattle.piper_ring.proofs.Kit.{◌≡◌, ℕ, ◌-◌, ◌<◌, length, take, min, arith, sym, ap, ◌∙◌, length-take-le, slot_of as offset_of, ReadView, in_one_piece}
 use Rattle.piper_ring.proofs.Indices.{offset_at}
-use Rattle.piper_ring.proofs.ReaderFacts.{known_apart}
+use Rattle.piper_ring.proofs.ReaderFacts.{known_apart, within_known}
+use Rattle.rtrb.proofs.Positions.{slot_lt}
 use Rattle.piper_ring.proofs.ends.reader.ReadEnd.peek_buf.Goals as goal
 
 pub slice-requires : goal.slice-requires
@@ -17,13 +18,8 @@ returns-clause-bytes c = let e = c.self.inside.parts in let i = c.self.invariant
     c.slice.ensures ∙ ap (λ (n : ℕ). take n e.known.bytes) (is ∙ ap (λ (s : ℕ). min many (cap - s)) offset) ∙ ap (λ (r : ReadView). take (in_one_piece r) r.known) c.self.view_is
 
 pub returns-clause-length : goal.returns-clause-length
-returns-clause-length c = let e = c.self.inside.parts in let i = c.self.invariant in let cap : ℕ = e.indices.capacity in let from : ℕ = c.piece-piece.result.from in let many : ℕ = length e.known.bytes in
-    let is : c.piece-piece.result.len ≡ min many (cap - from) = c.piece-piece.ensures.len ∙ (λ j. min (known_apart e i j) (cap - sym c.piece-piece.ensures.from j)) in let few : c.piece-piece.result.len ≤ many = omega arith in
-    let offset : from ≡ offset_of cap (length (take e.seat.head e.seat.have)) = offset_at cap _ e.seat.head _ i.cached.0 c.piece-piece.ensures.remainder ∙ ap (λ (n : ℕ). offset_of cap n) (sym (length-take-le e.seat.head e.seat.have i.whole.0)) in
-    ap length c.slice.ensures ∙ length-take-le c.piece-piece.result.len e.known.bytes few ∙ is ∙ ap (λ (s : ℕ). min many (cap - s)) offset ∙ ap (λ (r : ReadView). in_one_piece r) c.self.view_is
+returns-clause-length c = ap length (returns-clause-bytes c) ∙ length-take-le _ _ (within_known c.args.self.now _ (omega arith))
 
 pub returns-clause-some : goal.returns-clause-some
-returns-clause-some c = λ any. let e = c.self.inside.parts in let i = c.self.invariant in let cap : ℕ = e.indices.capacity in let from : ℕ = c.piece-piece.result.from in let many : ℕ = length e.known.bytes in
-    let is : c.piece-piece.result.len ≡ min many (cap - from) = c.piece-piece.ensures.len ∙ (λ j. min (known_apart e i j) (cap - sym c.piece-piece.ensures.from j)) in let below : from < cap = c.piece-piece.ensures.below in let few : c.piece-piece.result.len ≤ many = omega arith in
-    let same : many ≡ length c.args.self.now.known = ap (λ (r : ReadView). length r.known) c.self.view_is in
-    let got : length c.slice.result.now ≡ c.piece-piece.result.len = ap length c.slice.ensures ∙ length-take-le c.piece-piece.result.len e.known.bytes few in omega arith
+returns-clause-some c = λ any. let i = c.self.invariant in let v = c.args.self.now in
+    let inside = slot_lt v.capacity (length v.taken) (omega (arith, i.fits.1, ap (λ (r : ReadView). r.capacity) c.self.view_is)) in omega (arith, returns-clause-length c, any, inside)

@@ -1,5 +1,5 @@
 -- A side whose writer was lent from is that side, whichever the evidence that its parts belong together.
-use Rattle.piper_ring.proofs.Kit.{◌≡◌, ℕ, ◌+◌, ◌-◌, Bool, List, length, true, false, refl, Names, WriteView}
+use Rattle.piper_ring.proofs.Kit.{◌≡◌, ◌+◌, ◌-◌, length, true, false, refl, ap, WriteView}
 use Rattle.std.proofs.Props.{props}
 use Rattle.piper_cells.specs.declared.lent_space.Placed.{Placed}
 use Rattle.piper_ring.specs.Cells.{AreCellsOf}
@@ -12,58 +12,23 @@ use Rattle.piper_ring.specs.contracts.ends.slots.writer.ReadStored.{the_row as s
 use Rattle.piper_ring.specs.contracts.ends.slots.writer.WriteEndSlotEnd.TheImpl.{ghosts}
 use Rattle.piper_ring.proofs.ends.slots.writer.Side+WriteEnd+T.write_buf.Goals as goal
 
-same_names : (a b : Names) → IsProp (a ≡ b)
-same_names a b = Prim.hlevel props
-
-same_places : {T : Type 0} (z : Names) (p : Placed (WakerCells T)) → IsProp (AreCellsOf z p)
-same_places z p = Prim.hlevel props
-
-same_truth : (l : Log) → IsProp (tells_true l ≡ true)
-same_truth l = Prim.hlevel props
-
-same_moved : (xs ys : List ℕ) → IsProp (xs ≡ ys)
-same_moved xs ys = Prim.hlevel props
-
-same_logs : (z : Names) (l : Log) → IsProp (IsLogOf z false l)
-same_logs z l = Prim.hlevel props
-
-same_count : (a b : ℕ) → IsProp (a ≡ b)
-same_count a b = Prim.hlevel props
-
-same_flag : (a b : Bool) → IsProp (a ≡ b)
-same_flag a b = Prim.hlevel props
-
 -- the evidence that the parts belong together
-record Together {T : Type 0} (e : WriteView) (s : SlotsView) (p : Placed (WakerCells T)) (l : Log) : Type 0 where
-  names : s.names ≡ e.ring.names
-  places : AreCellsOf s.names p
-  log : IsLogOf s.names false l
-  right : tells_true l ≡ true
-  calls : are_calls l.lines ≡ true
-  moved : moved_in l.lines ≡ e.sent
-  seen : seen_in l.lines ≡ as_is (length e.sent + e.room - e.capacity)
-  shut : shut_in l.lines ≡ as_is e.shut
-  waits : waits_in (own false) l.lines ≡ as_is s.waits
-  tickets : tickets_in l.lines ≡ as_is s.tickets
+abbrev Together : {T : Type 0} → WriteView → SlotsView → Placed (WakerCells T) → Log → Type 0
+Together e s p l =
+    (s.names ≡ e.ring.names) × AreCellsOf s.names p × IsLogOf s.names false l × (tells_true l ≡ true)
+    × (are_calls l.lines ≡ true) × (moved_in l.lines ≡ e.sent)
+    × (seen_in l.lines ≡ as_is (length e.sent + e.room - e.capacity)) × (shut_in l.lines ≡ as_is e.shut)
+    × (waits_in (own false) l.lines ≡ as_is s.waits) × (tickets_in l.lines ≡ as_is s.tickets)
+
+is_one : {T : Type 0} (e : WriteView) (s : SlotsView) (p : Placed (WakerCells T)) (l : Log) → IsProp (Together e s p l)
+is_one e s p l = Prim.hlevel props
 
 module _ {T : Type 0} (e : WriteView) (s : SlotsView) (p : Placed (WakerCells T)) (l : Log) where
   abbrev side : Together e s p l → Side WriteView T stored_row.Denot ghosts
-  side t = record { end = e; slots = s; cells = p; log = l; of_one_ring = t.names; places = t.places; own_log = t.log; right = t.right; calls = t.calls; moved = t.moved; seen = t.seen; shut = t.shut; waits = t.waits; tickets = t.tickets }
+  side t = record { end = e; slots = s; cells = p; log = l; of_one_ring = t.0; places = t.1; own_log = t.2; right = t.3; calls = t.4; moved = t.5; seen = t.6; shut = t.7; waits = t.8; tickets = t.9 }
 
   same_side : (a b : Together e s p l) → side a ≡ side b
-  same_side a b j =
-      side (record {
-        names = same_names _ _ a.names b.names j;
-        places = same_places s.names p a.places b.places j;
-        log = same_logs s.names l a.log b.log j;
-        right = same_truth l a.right b.right j;
-        calls = same_flag _ _ a.calls b.calls j;
-        moved = same_moved _ _ a.moved b.moved j;
-        seen = same_count _ _ a.seen b.seen j;
-        shut = same_flag _ _ a.shut b.shut j;
-        waits = same_flag _ _ a.waits b.waits j;
-        tickets = same_count _ _ a.tickets b.tickets j;
-      })
+  same_side a b = ap side (is_one e s p l a b)
 
 pub returns : goal.returns
 returns g c = ((refl, λ w. same_side _ _ _ _ _ _), c.write_buf.ensures)
