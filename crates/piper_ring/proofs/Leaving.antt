@@ -1,6 +1,7 @@
 -- An end leaves: it closes the ring, and then gives up its places; the second one to leave gets all
 -- of the memory. Assumes `Logic`.
-use Rattle.piper_ring.proofs.Kit.{position_of, fwand, ◌<◌, Filled, filled, slot_word, slot_rooms, ◌≡◌, ℕ, zero, suc, ◌+◌, ◌-◌, ◌*◌, ◌≤◌, Bool, true, false, List, [], ◌∷◌, length, sym, refl, ap, ◌∙◌, subst, arith, Ura, numbers, latest, upd, ex, via, upd_i, Share, Fml, ftrue, fsep, Logic, latest_grows, latest_shows, ‵, raw, ◌⊛◌, some, given, ◌$◌, ◌∵◌, !, qed, by, move, keep, split, split3, fsplit, fsplit3, fjoin, fjoin3, fpick, fpack, pick, learn, show, frame, assume, settle, suffices, rewrite, use1, use2, use3, done, drop as forget, Ptr, block_ptr, block_of, count_of, nothing, asks, always, Lies, length-drop, span_join, span_map, span, array_of, Ty, w64, ty_int, lone, apply∗, id⊢, froom, fex, unset, full_share, u8, slot_of as offset_of, Names, State, Holds, half, other, flag, gone, until_both, where_gone, word, word_room, all_rooms, slots, blanks, memory, writer_knows, reader_knows, ends, raised, state_holds, Inner, common, drop_list, accesses_in, Coded, coded_ℕ, coded_bool, closed_is, mirrored, bytes_code, closed_name, head_name, tail_name, Log, lease, space_room, signs}
+use Rattle.piper_ring.proofs.Kit.{position_of, fwand, ◌<◌, Filled, filled, slot_word, slot_rooms, ◌≡◌, ℕ, zero, suc, ◌+◌, ◌-◌, ◌*◌, ◌≤◌, Bool, true, false, List, [], ◌∷◌, length, sym, refl, ap, ◌∙◌, subst, arith, Ura, numbers, latest, upd, ex, via, upd_i, Fml, ftrue, fsep, Logic, latest_grows, latest_shows, ‵, raw, ◌⊛◌, some, given, ◌$◌, ◌∵◌, !, qed, by, move, keep, split, split3, fsplit, fsplit3, fjoin, fjoin3, fpick, fpack, pick, learn, show, frame, assume, settle, suffices, rewrite, use1, use2, use3, done, drop as forget, Ptr, block_of, count_of, nothing, Lies, length-drop, span_join, span_map, span, array_of, Ty, w64, ty_int, lone, apply∗, id⊢, froom, fex, unset, full_share, u8, slot_of as offset_of, Names, State, Holds, half, other, flag, gone, until_both, where_gone, word, word_room, all_rooms, slots, blanks, memory, ends, raised, state_holds, drop_list, accesses_in, Coded, coded_ℕ, coded_bool, closed_is, mirrored, bytes_code, closed_name, head_name, tail_name, Log, lease, space_room, signs}
+use Rattle.piper_ring.proofs.Terms.{terms}
 use Rattle.rtrb.proofs.Spans.{ring_in}
 use Rattle.piper_ring.proofs.PlacesParts.{forgets}
 use mir.Raw.{raw as bare}
@@ -24,28 +25,10 @@ one_true true = refl
 module _ {M : Type 1} {𝓤 : Ura M} (𝓛 : Logic 𝓤) (w p : Ptr) (z : Names) where
   open 𝓛 use {H, A}
   open signs 𝓛 use {Pr, ◌⊢◌, ◌∗◌, ⟦◌⟧}
+  open terms 𝓛 w p z use {I, C, cap, RK, WK, access}
 
   infix 26 ◌⊢◌
   infixr 35 ◌∗◌
-  abbrev I : Fml
-  I = Inner w p z
-
-  abbrev C : Fml
-  C = common w p z
-
-  abbrev cap : ℕ
-  cap = z.capacity
-
-  abbrev RK : Share → ℕ → ℕ → ℕ → Fml
-  RK = reader_knows w p z
-
-  abbrev WK : Share → List ℕ → ℕ → Bool → ℕ → Fml
-  WK = writer_knows w p z
-
-  -- an access of the word d bytes on
-  abbrev access : (d : ℕ) (f : ℕ → ℕ) (after : ℕ → Fml) → Pr
-  access d f after = let spot : Ptr = block_ptr (block_of w) (d + count_of w) in asks 𝓛 spot f always after
-
   -- the word d bytes on, under the invariant
   abbrev Holding : (d : ℕ) (f : ℕ → ℕ) (after : ℕ → Fml) (n : ℕ) → Pr
   Holding d f after n = Lies 𝓛 (block_of w) (d + count_of w) f after I n

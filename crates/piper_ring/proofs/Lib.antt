@@ -10,6 +10,7 @@ pub mod Reaching
 pub mod Evidence
 pub mod Crosses
 pub mod Trace
+pub mod Terms
 pub mod Steps
 pub mod LoadIfNone
 pub mod Reclaim

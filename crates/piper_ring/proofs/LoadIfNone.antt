@@ -1,6 +1,7 @@
 -- The places of the bytes that the reader saw published come to it, with no step of the program.
 -- Assumes `Logic`.
-use Rattle.piper_ring.proofs.Kit.{◌≡◌, ℕ, ◌+◌, ◌-◌, ◌≤◌, Bool, false, List, [], ◌∷◌, ◌++◌, length, take, sym, refl, ap, ◌∙◌, length-append, append_assoc, arith, take-append_seam, Ura, Order, numbers, latest, SProp, ent, ex, guard, upd, upd_i, Share, Fml, Logic, latest_bounds, latest_shows, ‵, raw, ◌⊛◌, some, given, ◌$◌, ◌∵◌, !, qed, move, keep, split, split3, fsplit, fsplit3, fjoin, fjoin3, pick, learn, check, show, frame, settle, suffices, rewrite, use1, use2, use3, done, drop as forget, Ptr, run, byte, Names, State, Holds, half, other, flag, gone, where_gone, blanks, announced, began, writer_knows, reader_knows, Inner, common, Stream, Reaches, streams, open_reaches, drop_list, signs}
+use Rattle.piper_ring.proofs.Kit.{◌≡◌, ℕ, ◌+◌, ◌-◌, ◌≤◌, Bool, false, List, [], ◌∷◌, ◌++◌, length, take, sym, refl, ap, ◌∙◌, length-append, append_assoc, arith, take-append_seam, Ura, Order, numbers, latest, SProp, ent, ex, guard, upd, upd_i, Fml, Logic, latest_bounds, latest_shows, ‵, raw, ◌⊛◌, some, given, ◌$◌, ◌∵◌, !, qed, move, keep, split, split3, fsplit, fsplit3, fjoin, fjoin3, pick, learn, check, show, frame, settle, suffices, rewrite, use1, use2, use3, done, drop as forget, Ptr, run, byte, Names, State, Holds, half, other, flag, gone, where_gone, blanks, announced, began, writer_knows, Inner, common, Stream, Reaches, streams, open_reaches, drop_list, signs}
+use Rattle.piper_ring.proofs.Terms.{terms}
 use Rattle.std.proofs.Math.Seq.{drop-append_seam}
 use Rattle.piper_ring.proofs.Reaching.{begins}
 use Rattle.piper_ring.proofs.PlacesParts.{run_cut}
@@ -12,11 +13,9 @@ pending_is have xs sent seen k lh e pre = (λ i. drop_list (sym (lh ∙ e) i) (s
 module _ {M : Type 1} {𝓤 : Ura M} (𝓛 : Logic 𝓤) (w p : Ptr) (z : Names) (head seen : ℕ) (have published : List ℕ) (left ended : Bool) where
   open 𝓛 use {H}
   open signs 𝓛 use {◌∗◌, ⟦◌⟧}
+  open terms 𝓛 w p z use {cap, RK}
 
   infixr 35 ◌∗◌
-  abbrev cap : ℕ
-  cap = z.capacity
-
   abbrev O : Order Stream
   O = streams
 
@@ -28,9 +27,6 @@ module _ {M : Type 1} {𝓤 : Ura M} (𝓛 : Logic 𝓤) (w p : Ptr) (z : Names)
 
   abbrev P : Fml
   P = announced z published ended
-
-  abbrev RK : Share → ℕ → ℕ → ℕ → Fml
-  RK = reader_knows w p z
 
   abbrev pub Gained : List ℕ → Type 0
   Gained xs = (have ++ xs ≡ published) × (length published ≡ seen + length xs)

@@ -1,5 +1,6 @@
 -- The steps of both sides on a slot. Assumes `Logic`.
-use Rattle.piper_ring.proofs.Kit.{◌*◌, ◌^◌, ◌<◌, lit<, flag, ◌≡◌, ℕ, ◌+◌, ◌≤◌, ◌⊎◌, inl, inr, Bool, true, false, List, [], ◌∷◌, sym, refl, subst, arith, Ura, upd, ex, guard, upd_i, apply∗, Share, Fml, ftrue, fsep, fex, fwand, fobs, Logic, ‵, raw, ◌⊛◌, some, given, ◌$◌, ◌∵◌, !, qed, by, move, keep, split, split3, fsplit, fsplit3, fjoin, fjoin3, fpick, fpack, pick, learn, check, show, frame, assume, settle, suffices, rewrite, use1, use2, done, drop as forget, Ptr, block_ptr, block_of, count_of, nothing, asks, always, Filled, filled, Lying, number, ticket_if, mirrored, is_odd, Waits, Wakes, AreAt, Exchanges, IsTicket, waits_code, wakes_code, both_at, both, cell, slot_at, slot, IsRemembered, Names, State, Holds, other, reader_knows, writer_knows, slots, Inner, common, Order, numbers, latest, latest_shows, Stream, streams, reaches_same, took, raised, Stored, as_stored, stored_code, Known, by_reader, by_writer, knows, evidence, slot_word, waits_in, wakes_in, accesses_in, ◌%◌, ◌==◌, ◌∙◌, Option, Some, None, is_some, ap, false≢true, fauth, name_agree, Coded, Access, FindsWords, Words, loaded_slot, slot_in, swapped, with_slot, words_after, side_of, slot_name, ticket_code, Log, signs}
+use Rattle.piper_ring.proofs.Kit.{◌*◌, ◌^◌, ◌<◌, lit<, flag, ◌≡◌, ℕ, ◌+◌, ◌≤◌, ◌⊎◌, inl, inr, Bool, true, false, List, [], ◌∷◌, sym, refl, subst, arith, Ura, upd, ex, guard, upd_i, apply∗, Share, Fml, ftrue, fsep, fex, fwand, fobs, Logic, ‵, raw, ◌⊛◌, some, given, ◌$◌, ◌∵◌, !, qed, by, move, keep, split, split3, fsplit, fsplit3, fjoin, fjoin3, fpick, fpack, pick, learn, check, show, frame, assume, settle, suffices, rewrite, use1, use2, done, drop as forget, Ptr, nothing, Filled, filled, Lying, number, ticket_if, mirrored, is_odd, Waits, Wakes, AreAt, Exchanges, IsTicket, waits_code, wakes_code, both_at, both, cell, slot_at, slot, IsRemembered, Names, State, Holds, other, slots, Order, numbers, latest, latest_shows, Stream, streams, reaches_same, took, raised, Stored, as_stored, stored_code, Known, by_reader, by_writer, knows, evidence, slot_word, waits_in, wakes_in, accesses_in, ◌%◌, ◌==◌, ◌∙◌, Option, Some, None, is_some, ap, false≢true, fauth, name_agree, Coded, Access, FindsWords, Words, loaded_slot, slot_in, swapped, with_slot, words_after, side_of, slot_name, ticket_code, Log, signs}
+use Rattle.piper_ring.proofs.Terms.{terms}
 use Rattle.piper_ring.specs.Places.{fact}
 use Rattle.piper_ring.specs.Shared.{slot_of, waiter, waker}
 use Rattle.piper_ring.proofs.Evidence.{evidence_twice}
@@ -93,25 +94,10 @@ module _ {X : Type 0} where
 module _ {M : Type 1} {𝓤 : Ura M} (𝓛 : Logic 𝓤) (w p : Ptr) (z : Names) where
   open 𝓛 use {H, A}
   open signs 𝓛 use {Pr, ◌⊢◌, ◌∗◌, ⟦◌⟧}
+  open terms 𝓛 w p z use {I, C, RK, WK, access}
 
   infix 26 ◌⊢◌
   infixr 35 ◌∗◌
-  abbrev I : Fml
-  I = Inner w p z
-
-  abbrev C : Fml
-  C = common w p z
-
-  -- an access of the word d bytes on
-  abbrev access : (d : ℕ) (f : ℕ → ℕ) (after : ℕ → Fml) → Pr
-  access d f after = let spot : Ptr = block_ptr (block_of w) (d + count_of w) in asks 𝓛 spot f always after
-
-  abbrev RK : Share → ℕ → ℕ → ℕ → Fml
-  RK = reader_knows w p z
-
-  abbrev WK : Share → List ℕ → ℕ → Bool → ℕ → Fml
-  WK = writer_knows w p z
-
   -- beside what K knows, the invariant lends F
   abbrev pub Lent : Fml → Fml → Type 1
   Lent K F = ⟦ I ⟧ ∗ ⟦ K ⟧ ⊢ ⟦ K ⟧ ∗ ⟦ F ⟧ ∗ ⟦ fwand F I ⟧

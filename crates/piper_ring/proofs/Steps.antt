@@ -1,6 +1,7 @@
 -- The invariant is taken apart by what one end knows and put together again; and the steps on the
 -- tail, on the head and on closed. Assumes `Logic`.
-use Rattle.piper_ring.proofs.Kit.{◌≡◌, ℕ, zero, suc, ◌+◌, ◌-◌, ◌≤◌, Bool, true, false, List, [], ◌∷◌, ◌++◌, length, sym, refl, ap, ◌∙◌, length-append, arith, Ura, full_share, Order, numbers, latest, prefix_refl, upd, guard, ex, upd_i, Share, Fml, GName, ftrue, fsep, Logic, latest_grows, latest_bounds, latest_shows, ‵, raw, ◌⊛◌, some, given, ◌$◌, ◌∵◌, !, qed, by, move, split, split3, fsplit, fsplit3, fjoin, fjoin3, fpick, fpack, pick, learn, check, show, frame, assume, settle, suffices, rewrite, use1, use2, use3, done, drop as forget, Ptr, block_ptr, block_of, count_of, nothing, asks, always, position_of, run, Lies, length-drop, run_join, byte, Stream, Reaches, streams, open_reaches, Names, State, Holds, half, other, flag, gone, until_both, where_gone, blanks, deeds, memory, announced, began, took, writer_knows, reader_knows, ends, state_holds, Inner, common, keep, reaches_same, raised, u8, part_at, slot_of as offset_of, idle, drop_list, accesses_in, slot_turn, Coded, coded_ℕ, coded_bool, Access, AreOneList, FindsWords, Words, loaded_closed, loaded_head, loaded_tail, stored_closed, stored_head, stored_tail, words_after, bytes_code, closed_name, did_owns, head_name, tail_name, AreSides, IsLogOf, not, await, later, now, updating, subst, Log, signs}
+use Rattle.piper_ring.proofs.Kit.{◌≡◌, ℕ, zero, suc, ◌+◌, ◌-◌, ◌≤◌, Bool, true, false, List, [], ◌∷◌, ◌++◌, length, sym, refl, ap, ◌∙◌, length-append, arith, Ura, full_share, Order, numbers, latest, prefix_refl, upd, guard, ex, upd_i, Share, Fml, GName, ftrue, fsep, Logic, latest_grows, latest_bounds, latest_shows, ‵, raw, ◌⊛◌, some, given, ◌$◌, ◌∵◌, !, qed, by, move, split, split3, fsplit, fsplit3, fjoin, fjoin3, fpick, fpack, pick, learn, check, show, frame, assume, settle, suffices, rewrite, use1, use2, use3, done, drop as forget, Ptr, block_of, count_of, nothing, position_of, run, Lies, length-drop, run_join, byte, Stream, Reaches, streams, open_reaches, Names, State, Holds, half, other, flag, gone, until_both, where_gone, blanks, deeds, memory, announced, began, took, ends, state_holds, keep, reaches_same, raised, u8, part_at, slot_of as offset_of, idle, drop_list, accesses_in, slot_turn, Coded, coded_ℕ, coded_bool, Access, AreOneList, FindsWords, Words, loaded_closed, loaded_head, loaded_tail, stored_closed, stored_head, stored_tail, words_after, bytes_code, closed_name, did_owns, head_name, tail_name, AreSides, IsLogOf, not, await, later, now, updating, subst, Log, signs}
+use Rattle.piper_ring.proofs.Terms.{terms}
 use Rattle.std.proofs.Common.{append-nil}
 use types.Growing.{latest_agrees}
 use Rattle.std.proofs.lemmas.List.{drop-append-le}
@@ -30,28 +31,10 @@ run_turn p cap (x ∷ xs) k j e = let same : offset_of cap k + count_of p ≡ of
 module _ {M : Type 1} {𝓤 : Ura M} (𝓛 : Logic 𝓤) (w p : Ptr) (z : Names) where
   open 𝓛 use {H, A}
   open signs 𝓛 use {Pr, ◌⊢◌, ◌∗◌, ⟦◌⟧}
+  open terms 𝓛 w p z use {I, C, cap, RK, WK, access}
 
   infix 26 ◌⊢◌
   infixr 35 ◌∗◌
-  abbrev I : Fml
-  I = Inner w p z
-
-  abbrev C : Fml
-  C = common w p z
-
-  abbrev cap : ℕ
-  cap = z.capacity
-
-  abbrev RK : Share → ℕ → ℕ → ℕ → Fml
-  RK = reader_knows w p z
-
-  abbrev WK : Share → List ℕ → ℕ → Bool → ℕ → Fml
-  WK = writer_knows w p z
-
-  -- an access of the word d bytes on
-  abbrev access : (d : ℕ) (f : ℕ → ℕ) (after : ℕ → Fml) → Pr
-  access d f after = let spot : Ptr = block_ptr (block_of w) (d + count_of w) in asks 𝓛 spot f always after
-
   -- a step beside the invariant on a word that the list of accesses doesn't have
   pub inside : (d : ℕ) (f : ℕ → ℕ) (after : ℕ → Fml) (X : Pr) → ⟦ I ⟧ ∗ X ⊢ upd 𝓤 (ex 𝓤 (Lies 𝓛 (block_of w) (d + count_of w) f after I)) → ⟦ C ⟧ ∗ X ⊢ access d f after
   inside d f after X h = qed 𝓛 (‵ C ∷ raw X ∷ []) ∵ fsplit ! $ forget ! $ by ! (beside 𝓛 w z.traced I d f after X h)

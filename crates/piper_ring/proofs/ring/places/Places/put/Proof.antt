@@ -1,15 +1,14 @@
 -- `put` hands a whole run over. Assumes `Logic`.
 use Rattle.piper_ring.proofs.Kit.{◌≡◌, ℕ, List, [], ◌∷◌, refl, named, Val, vptr, vunit, SProp, emp, full_share, Fml, ftrue, flft, ‵, raw, ◌⊛◌, given, ◌$◌, ◌∵◌, !, qed, by, move, keep, split, join, fsplit, fsplit3, fjoin, fjoin3, learn, use0, rewrite, feq_i, drop as forget, unit_lit, of_opd, returns, enter, alloc_all, pass_all, free_all, look_at, sets, env, fact, fact_i, tables, yes, RattleType, owns, types_at, plain, Is, shows, cell_at, mut_vals, mut_Tells, nothing, peeks, opens, closes, Stays, stay_ref, stay_dropped, walk_of, Goes-ref, Goes-dropped, proved, leaves, ghost_val, GhostData, ghost_told, ghost_made}
-use Rattle.piper_ring.specs.contracts.ring.places.Places.{the_row}
-use Rattle.piper_ring.specs.contracts.ring.places.Places.put as called
+use Rattle.piper_ring.specs.contracts.ring.places.Places as Own
 use Rattle.piper_ring.proofs.ring.places.Places.put as own
 
 pub put_spec : {M : Type 1} → own.Statement.statement M
 put_spec 𝓤 𝓛 𝓜 𝓡 wired =
-    let H = 𝓛.H in let 𝓣 = tables 𝓤 H 𝓜 𝓡 𝓡.env in let En = called.ended in let fn = own.Code.function in let c = called.clauses 𝓛 𝓜.mem 𝓡.returns in
-    let Row : RattleType = the_row in let self = plain (λ _. Row) in
+    let H = 𝓛.H in let 𝓣 = tables 𝓤 H 𝓜 𝓡 𝓡.env in let En = Own.put.ended in let fn = own.Code.function in let c = Own.put.clauses 𝓛 𝓜.mem 𝓡.returns in
+    let Row : RattleType = Own.the_row in let self = plain (λ _. Row) in
     let hs : Stays En.signature.params En.kept = (stay_ref (0 ∷ []) tt self, (stay_dropped (plain (λ _. Row)) yes, tt)) in
-    proved 𝓛 En hs c 𝓜 𝓡 (Goes-ref 𝓛 1 0 tt self, (Goes-dropped 𝓛 1 (plain (λ _. Row)) yes (λ κs x f. refl), tt)) called.Key.name fn (own.Code.unfolded 𝓤 H 𝓜 𝓡 wired)
+    proved 𝓛 En hs c 𝓜 𝓡 (Goes-ref 𝓛 1 0 tt self, (Goes-dropped 𝓛 1 (plain (λ _. Row)) yes (λ κs x f. refl), tt)) Own.put.Key.name fn (own.Code.unfolded 𝓤 H 𝓜 𝓡 wired)
     (λ κs. (mut_vals, ((λ x. ghost_val ∷ []), tt))) (λ κs. (mut_Tells (named 0) κs.0 Row, ((λ x vs is. ghost_told vs is.0), tt))) (λ κs qs bounds a gh are.
     let b : ℕ = a.0.ref_ptr.0 in let o : ℕ = a.0.ref_ptr.1 in let h = a.0.now in let g = a.1.0 in let κ = κs.0 in let us : List Val = ghost_val ∷ [] in let Data : Fml = GhostData.own_val (record {}, tt) us in
     let y : (walk_of 𝓛 En hs c).Ghost = ((κs, qs, bounds, a, (vptr b o ∷ [], (ghost_val ∷ [], tt))), gh) in let Post : Val → SProp 𝓤 = (walk_of 𝓛 En hs c).post y in

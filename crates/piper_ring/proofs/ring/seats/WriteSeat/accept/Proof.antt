@@ -6,16 +6,15 @@ use Rattle.piper_ring.specs.Stretches.{WriteGains}
 use Rattle.piper_ring.proofs.Reclaim.{accepts}
 use Rattle.piper_ring.specs.contracts.ring.places.Places as Places
 use Rattle.piper_ring.specs.contracts.ring.marks.ReadMark as Mark
-use Rattle.piper_ring.specs.contracts.ring.seats.WriteSeat.{the_row}
-use Rattle.piper_ring.specs.contracts.ring.seats.WriteSeat.accept as called
+use Rattle.piper_ring.specs.contracts.ring.seats.WriteSeat as Own
 use Rattle.piper_ring.proofs.ring.seats.WriteSeat.accept as own
 
 pub accept_spec : {M : Type 1} → own.Statement.statement M
 accept_spec 𝓤 𝓛 𝓜 𝓡 wired =
-    let H = 𝓛.H in let 𝓣 = tables 𝓤 H 𝓜 𝓡 𝓡.env in let En = called.ended in let fn = own.Code.function in let c = called.clauses 𝓛 𝓜.mem 𝓡.returns in
-    let Row : RattleType = the_row in let self = plain (λ _. Row) in let KRow : RattleType = Places.the_row in let known = plain (λ _. KRow) in
+    let H = 𝓛.H in let 𝓣 = tables 𝓤 H 𝓜 𝓡 𝓡.env in let En = Own.accept.ended in let fn = own.Code.function in let c = Own.accept.clauses 𝓛 𝓜.mem 𝓡.returns in
+    let Row : RattleType = Own.the_row in let self = plain (λ _. Row) in let KRow : RattleType = Places.the_row in let known = plain (λ _. KRow) in
     let observed = RefOf (2 ∷ []) tt (plain (λ _. Mark.the_row)) (λ _. tt) in let hs : Stays En.signature.params En.kept = (stay_ref (0 ∷ []) tt self, (stay_ref (1 ∷ []) tt known, (stay_dropped observed yes, tt))) in
-    proved 𝓛 En hs c 𝓜 𝓡 (Goes-ref 𝓛 3 0 tt self, (Goes-ref 𝓛 3 1 tt known, (Goes-dropped 𝓛 3 observed yes (λ κs x f. refl), tt))) called.Key.name fn (own.Code.unfolded 𝓤 H 𝓜 𝓡 wired)
+    proved 𝓛 En hs c 𝓜 𝓡 (Goes-ref 𝓛 3 0 tt self, (Goes-ref 𝓛 3 1 tt known, (Goes-dropped 𝓛 3 observed yes (λ κs x f. refl), tt))) Own.accept.Key.name fn (own.Code.unfolded 𝓤 H 𝓜 𝓡 wired)
     (λ κs. (mut_vals, (mut_vals, (shr_vals, tt)))) (λ κs. (mut_Tells (named 0) κs.0 Row, (mut_Tells (named 1) κs.1.0 KRow, (shr_Tells (named 2) κs.1.1.0 Mark.the_row, tt)))) (λ κs qs bounds a gh are.
     let b : ℕ = a.0.ref_ptr.0 in let o : ℕ = a.0.ref_ptr.1 in let h = a.0.now in let b' : ℕ = a.1.0.ref_ptr.0 in let o' : ℕ = a.1.0.ref_ptr.1 in let k = a.1.0.now in let t = a.1.1.0.now in let b2 : ℕ = a.1.1.0.ref_ptr.0 in let o2 : ℕ = a.1.1.0.ref_ptr.1 in let w : Ptr = h.words in let p : Ptr = h.at in let z : Names = h.names in
     let us : List Val = pointer_val w ∷ [] in let Data : Fml = PointerData.own_val (w, tt) us in let C : Fml = common w p z in let full : ℕ = t.count + z.capacity in let WK' : Fml = writer_knows w p z half h.sent full h.shut 0 in let B = byte p z.capacity in

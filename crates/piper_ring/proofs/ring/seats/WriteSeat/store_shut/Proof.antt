@@ -4,17 +4,16 @@ use Rattle.piper_ring.specs.contracts.log.Log as Log
 use Rattle.piper_ring.proofs.Kit.{false, stored_closed, did, given, learn, split3}
 use Rattle.piper_ring.proofs.Rights.{common_twice}
 use Rattle.piper_ring.proofs.Steps.{Closed, flag_small, shuts}
-use Rattle.piper_ring.specs.contracts.ring.seats.WriteSeat.{the_row}
-use Rattle.piper_ring.specs.contracts.ring.seats.WriteSeat.store_shut as called
+use Rattle.piper_ring.specs.contracts.ring.seats.WriteSeat as Own
 use Rattle.piper_ring.proofs.ring.seats.WriteSeat.store_shut as own
 
 pub store_shut_spec : {M : Type 1} → own.Statement.statement M
 store_shut_spec 𝓤 𝓛 𝓜 𝓡 wired =
-    let H = 𝓛.H in let 𝓣 = tables 𝓤 H 𝓜 𝓡 𝓡.env in let En = called.ended in let fn = own.Code.function in let c = called.clauses 𝓛 𝓜.mem 𝓡.returns in
-    let Row : RattleType = the_row in let self = plain (λ _. Row) in
+    let H = 𝓛.H in let 𝓣 = tables 𝓤 H 𝓜 𝓡 𝓡.env in let En = Own.store_shut.ended in let fn = own.Code.function in let c = Own.store_shut.clauses 𝓛 𝓜.mem 𝓡.returns in
+    let Row : RattleType = Own.the_row in let self = plain (λ _. Row) in
     let TRow : RattleType = Log.the_row in let noting = plain (λ _. TRow) in
     let hs : Stays En.signature.params En.kept = (stay_ref (0 ∷ []) tt self, (stay_ref (1 ∷ []) tt noting, tt)) in
-    proved 𝓛 En hs c 𝓜 𝓡 (Goes-ref 𝓛 2 0 tt self, (Goes-ref 𝓛 2 1 tt noting, tt)) called.Key.name fn (own.Code.unfolded 𝓤 H 𝓜 𝓡 wired)
+    proved 𝓛 En hs c 𝓜 𝓡 (Goes-ref 𝓛 2 0 tt self, (Goes-ref 𝓛 2 1 tt noting, tt)) Own.store_shut.Key.name fn (own.Code.unfolded 𝓤 H 𝓜 𝓡 wired)
     (λ κs. (mut_vals, (mut_vals, tt))) (λ κs. (mut_Tells (named 0) κs.0 Row, (mut_Tells (named 1) κs.1.0 TRow, tt))) (λ κs qs bounds a gh are.
     let b : ℕ = a.0.ref_ptr.0 in let o : ℕ = a.0.ref_ptr.1 in let h = a.0.now in let w : Ptr = h.words in let p : Ptr = h.at in let z : Names = h.names in let b' : ℕ = a.1.0.ref_ptr.0 in let o' : ℕ = a.1.0.ref_ptr.1 in let t = a.1.0.now in
     let bw : ℕ = block_of w in let e : ℕ = 136 + count_of w in let us : List Val = pointer_val w ∷ [] in let C : Fml = common w p z in

@@ -4,16 +4,15 @@ use Rattle.piper_ring.proofs.Rights.{common_twice}
 use Rattle.piper_ring.proofs.Steps.{flag_small, Published, publishes}
 use Rattle.piper_ring.specs.contracts.log.Log as Log
 use Rattle.piper_ring.specs.contracts.ring.places.Places as Places
-use Rattle.piper_ring.specs.contracts.ring.seats.WriteSeat.{the_row}
-use Rattle.piper_ring.specs.contracts.ring.seats.WriteSeat.store_tail as called
+use Rattle.piper_ring.specs.contracts.ring.seats.WriteSeat as Own
 use Rattle.piper_ring.proofs.ring.seats.WriteSeat.store_tail as own
 
 pub store_tail_spec : {M : Type 1} → own.Statement.statement M
 store_tail_spec 𝓤 𝓛 𝓜 𝓡 wired =
-    let H = 𝓛.H in let 𝓣 = tables 𝓤 H 𝓜 𝓡 𝓡.env in let En = called.ended in let fn = own.Code.function in let c = called.clauses 𝓛 𝓜.mem 𝓡.returns in
-    let Row : RattleType = the_row in let self = plain (λ _. Row) in let TRow : RattleType = Log.the_row in let noting = plain (λ _. TRow) in
+    let H = 𝓛.H in let 𝓣 = tables 𝓤 H 𝓜 𝓡 𝓡.env in let En = Own.store_tail.ended in let fn = own.Code.function in let c = Own.store_tail.clauses 𝓛 𝓜.mem 𝓡.returns in
+    let Row : RattleType = Own.the_row in let self = plain (λ _. Row) in let TRow : RattleType = Log.the_row in let noting = plain (λ _. TRow) in
     let hs : Stays En.signature.params En.kept = (stay_ref (0 ∷ []) tt self, (stay_ref (1 ∷ []) tt noting, (stay_dropped (plain (λ _. Places.the_row)) yes, (stay_dropped (plain (λ _. u64)) yes, tt)))) in
-    proved 𝓛 En hs c 𝓜 𝓡 (Goes-ref 𝓛 2 0 tt self, (Goes-ref 𝓛 2 1 tt noting, (Goes-dropped 𝓛 2 (plain (λ _. Places.the_row)) yes (λ κs x f. refl), (Goes-dropped 𝓛 2 (plain (λ _. u64)) yes (λ κs x f. refl), tt)))) called.Key.name fn (own.Code.unfolded 𝓤 H 𝓜 𝓡 wired)
+    proved 𝓛 En hs c 𝓜 𝓡 (Goes-ref 𝓛 2 0 tt self, (Goes-ref 𝓛 2 1 tt noting, (Goes-dropped 𝓛 2 (plain (λ _. Places.the_row)) yes (λ κs x f. refl), (Goes-dropped 𝓛 2 (plain (λ _. u64)) yes (λ κs x f. refl), tt)))) Own.store_tail.Key.name fn (own.Code.unfolded 𝓤 H 𝓜 𝓡 wired)
     (λ κs. (mut_vals, (mut_vals, ((λ x. ghost_val ∷ []), (uint_vals w64, tt))))) (λ κs. (mut_Tells (named 0) κs.0 Row, (mut_Tells (named 1) κs.1.0 TRow, ((λ x vs is. ghost_told vs is.0), (uint_Tells w64, tt))))) (λ κs qs bounds a gh are.
     let b : ℕ = a.0.ref_ptr.0 in let o : ℕ = a.0.ref_ptr.1 in let h = a.0.now in let b' : ℕ = a.1.0.ref_ptr.0 in let o' : ℕ = a.1.0.ref_ptr.1 in let t = a.1.0.now in let g = a.1.1.0 in let new : ℕ = a.1.1.1.0 in let w : Ptr = h.words in let p : Ptr = h.at in let z : Names = h.names in let xs : List ℕ = g.bytes in
     let bw : ℕ = block_of w in let e : ℕ = 208 + count_of w in let us : List Val = pointer_val w ∷ [] in let C : Fml = common w p z in
