@@ -1,7 +1,6 @@
 pub mod CellCrosses
-pub mod CellFields
 pub mod CellSteps
 pub mod Signs
-pub mod SpaceFields
+pub mod Fields
 pub mod SpaceKit
 pub mod SpaceSteps

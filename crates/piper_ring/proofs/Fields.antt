@@ -1,6 +1,4 @@
--- What the machine keeps of the ring's own types. A formula says no struct's name, and so one lemma
--- serves each struct of one pointer, and one each owner of places and each mark, which take no space.
--- Assumes `Logic`.
+-- What the machine keeps of the ring's own types. Assumes `Logic`.
 use Rattle.std.proofs.Common.{◌≡◌, List, [], ◌∷◌, ◌++◌, refl, ap, ◌∙◌}
 use seplogic.Ra.Ura.{Ura}
 use mir.Val.{Val, vstruct, vnil, vcons, of_list}
@@ -22,20 +20,7 @@ use denote.Struct.Owning.{shape}
 use denote.Struct.Struct.{Struct, within}
 use denote.Struct.Tuple.{Tuple, tuple_type}
 use Rattle.core.specs.contracts.marker.PhantomData as marker
-use Rattle.piper_ring.specs.contracts.ring.seats.ReadSeat as ReadSeat
 use Rattle.piper_ring.specs.contracts.ring.slots.SlotWords as SlotWords
-
-abbrev pub pointer_val : Ptr → Val
-pointer_val w = vstruct (vcons (ptr_val w) vnil)
-
-abbrev pub PointerData : RattleType
-PointerData = Struct (shape ReadSeat.the_type)
-
-pub pointer_told : (w : Ptr) (vs : List Val) → Is PointerData (w, tt) vs → vs ≡ pointer_val w ∷ []
-pointer_told w vs is = is.1.0 ∙ ap (λ (ws : List Val). vstruct (of_list (ws ++ [])) ∷ []) is.1.1.0
-
-pub pointer_made : {M : Type 1} {𝓤 : Ura M} (𝓛 : Logic 𝓤) (w : Ptr) → ent 𝓤 (emp 𝓤) (sem 𝓛 (PointerData.own_val (w, tt) (pointer_val w ∷ [])))
-pointer_made 𝓛 w = makes_shadow 𝓛 (PointerData.own_val (w, tt) (pointer_val w ∷ [])) (λ vss. (tt, (tt, tt))) ((ptr_val w ∷ [], tt), (refl, (refl, tt)))
 
 -- the code of a field that takes no space
 abbrev pub ghost_coded : Coded ((marker.the_row RawPtr).Denot)

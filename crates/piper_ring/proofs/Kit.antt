@@ -50,7 +50,7 @@ pub use Rattle.core.specs.Sync.RawAtomic.{asks, always}
 pub use Rattle.logbook.proofs.Fields.{lends_twice}
 pub use Rattle.piper_protocol.specs.ReaderIndices.{ReaderIndices}
 pub use Rattle.piper_protocol.specs.WriterIndices.{WriterIndices, room_in, left_in}
-pub use Rattle.piper_ring.proofs.Fields.{pointer_val, pointer_told, PointerData, pointer_made, ghost_coded, ghost_shared, lent_val, lent_told, lent_made, LentData, nine_val, nine_of, eight_val, eight_of}
+pub use Rattle.piper_ring.proofs.Fields.{ghost_coded, ghost_shared, lent_val, lent_told, lent_made, LentData, nine_val, nine_of, eight_val, eight_of}
 pub use Rattle.piper_ring.specs.Block.{heap_token, words_type, IsClaim, behind, purpose, size_of_block, space_of, space_room, unused}
 pub use Rattle.piper_ring.specs.Places.{byte, unset, place, run_lent, places_lent, Placed}
 pub use Rattle.piper_ring.specs.ReadView.{ReadView, read_view_of, in_one_piece, read_view}
@@ -68,7 +68,7 @@ pub use Rattle.rtrb.proofs.Walks.{proved, leaves}
 unfoldable pub use Rattle.rtrb.specs.Fifo.{position_of, slot_of}
 pub use Rattle.rtrb.specs.Shared.{run, span}
 pub use Rattle.std_alloc.proofs.RcSteps.{word-Good}
-pub use Rattle.piper_cells.proofs.CellFields.{right_val as ghost_val, RightData as GhostData, right_made as ghost_made, right_told as ghost_told}
+pub use Rattle.piper_cells.proofs.Fields.{GhostData, PointerData, ghost_made, ghost_told, ghost_val, pointer_made, pointer_told, pointer_val}
 pub use Rattle.piper_cells.specs.TokenCell.{right}
 pub use Rattle.piper_protocol.specs.declared.table.Found.{Found}
 pub use Rattle.piper_protocol.specs.declared.table.Point.{Point}

@@ -2,7 +2,7 @@
 use Rattle.piper_cells.proofs.SpaceKit.{◌≡◌, ℕ, ◌+◌, List, [], ◌∷◌, refl, a_type, named, inst_fn, Val, vptr, SProp, emp, Share, ftrue, flft, fhide, ◌⊑◌, meet_⊑_left, fact, fact_i, tables, ‵, raw, ◌⊛◌, at_ret, ◌$◌, ◌∵◌, !, qed, by, move, keep, drop, split, join, fsplit, fsplit3, fjoin, rewrite, feq_i, use0, use1, use2, stop, fld, hop, look, addr, of_opd, first, blocks, exec, returns, enter, alloc_all, pass_all, free_all, look_at, get, through, sets, sets_last, env, yes, RefOf, RawPtr, hidden_shr, hide, unhide, moves_from, param, layouts, param_laws, RattleType, owns, Ptr, block_ptr, InBlock, block_of, count_of, at_block, shr_vals, shr_Tells, plain, types_at, nothing, heard, lent_at, lent_at_shr_laws, lent_out, in_block_says, Stays, stay_dropped, walk_of, Goes-dropped, after, pointer_in, pointer_out, proved, leaves}
 use Rattle.core.specs.contracts.marker.PhantomData as marker
 use Rattle.piper_cells.specs.Space.{leased, placed}
-use Rattle.piper_cells.proofs.SpaceFields.{PlacedData, LeaseData}
+use Rattle.piper_cells.proofs.Fields.{PointerData, GhostData}
 use Rattle.piper_cells.specs.contracts.lent_space.Lease as Lease
 use Rattle.piper_cells.specs.contracts.lent_space.Placed as Placed
 use Rattle.piper_cells.specs.contracts.lent_space.Placed.get.{ended, clauses}
@@ -22,9 +22,9 @@ get_spec 𝓤 𝓛 𝓜 𝓡 wired X L =
     let y : (walk_of 𝓛 En hs c).Ghost = ((κs, qs, bounds, a, (vptr b o ∷ [], (vptr b' o' ∷ [], tt))), gh) in let Post : Val → SProp 𝓤 = (walk_of 𝓛 En hs c).post y in let Told : Type 0 = x ≡ x in
     qed 𝓛 (((‵ (flft κ q) ⊛ ‵ (flft κs.1.0 qs.1.0) ⊛ ‵ ftrue) ⊛ ‵ (owns (types_at En.signature.params κs) a y.0.4)) ∷ raw (fact 𝓤 (κs.1.0 ⊑ X.lives)) ∷ raw (fact 𝓤 (k.life ≡ life)) ∷ []) ∵
     move ! (2 ∷ []) $ heard ! _ (λ same. keep ! (0 ∷ []) $ split ! $ split ! $ move ! (2 ∷ []) $ fsplit3 ! $ fsplit ! $ drop ! $
-    use1 𝓛 (‵ (hidden_shr (PlacedData R) κ (p, tt) b o) ⊛ ‵ (fhide (placed R p x life))) (lent_out 𝓛 (Placed.struct R) (Placed.the_codes R.Denot R.coded) (Placed.the_heap R) (Placed.the_lent R) κ h b o) $
+    use1 𝓛 (‵ (hidden_shr PointerData κ (p, tt) b o) ⊛ ‵ (fhide (placed R p x life))) (lent_out 𝓛 (Placed.struct R) (Placed.the_codes R.Denot R.coded) (Placed.the_heap R) (Placed.the_lent R) κ h b o) $
     split ! $ unhide ! $ fsplit ! $ fsplit ! $ keep ! (0 ∷ 3 ∷ 4 ∷ 6 ∷ 7 ∷ []) $ hide ! $ move ! (2 ∷ []) $ fsplit ! $ drop ! $
-    use1 𝓛 (‵ (hidden_shr LeaseData κ (record {}, tt) b' o') ⊛ ‵ (fhide (leased k.life κ))) (lent_out 𝓛 Lease.struct (Lease.the_codes (marker.the_row RawPtr).coded) Lease.the_heap Lease.the_lent κ k b' o') $
+    use1 𝓛 (‵ (hidden_shr GhostData κ (record {}, tt) b' o') ⊛ ‵ (fhide (leased k.life κ))) (lent_out 𝓛 Lease.struct (Lease.the_codes (marker.the_row RawPtr).coded) Lease.the_heap Lease.the_lent κ k b' o') $
     split ! $ drop ! $ unhide ! $ rewrite ! 0 (λ (l : ℕ). ‵ (leased l κ)) {x = life} {y = k.life} same refl $ move ! (2 ∷ []) $ unhide ! $ move ! (1 ∷ 0 ∷ []) $
     use2 𝓛 (‵ (lent_at R p x κ)) (moves_from 𝓛 (lent_at R p x) laws κ (life ∷ []) (life ∷ []) (meet_⊑_left (life ∷ []) κ)) $
     fsplit ! $ use1 𝓛 (raw (fact 𝓤 (InBlock p))) (in_block_says 𝓛 p) $ heard ! _ (λ inb. let is_p : p ≡ block_ptr pb po = at_block p inb in hide ! $ move ! (1 ∷ 2 ∷ []) $

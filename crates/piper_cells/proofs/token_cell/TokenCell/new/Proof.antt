@@ -7,7 +7,7 @@ use base.Fml.{ftrue, fsep, feq}
 use types.Growing.{latest_new, latest_cut}
 use types.Owned.{basic}
 use denote.Laws.{Typed}
-use Rattle.piper_cells.proofs.CellFields.{right_val, RightData, right_made}
+use Rattle.piper_cells.proofs.Fields.{ghost_val, GhostData, ghost_made}
 use Rattle.piper_cells.proofs.CellSteps.{shows}
 use Rattle.piper_cells.specs.contracts.token_cell.TokenCell as place
 use Rattle.piper_cells.specs.contracts.token_cell.TokenCell.TheInside as inside
@@ -26,7 +26,7 @@ new_spec 𝓤 𝓛 𝓜 𝓡 wired X L g d _ =
     proved_at 𝓛 En hs c 𝓜 𝓡 (Goes-dropped 𝓛 1 item no (λ κs x f. refl), tt) (#self inst) fn closed (λ z are.
     let x : X.Denot = z.0.3.0 in let full : X.Denot → Bool = g.is_full in let got = one E z.0.4.0 ((lawful E 𝓛).typed x z.0.4.0 are.0) in let vy : Val = got.0 in let fy : Good E vy = got.2 in let v : Val = vstruct (vcons vy vnil) in
     let Post : Val → SProp 𝓤 = (walk_of 𝓛 En hs c).post z in let Run : List Val → SProp 𝓤 = λ ws. WpFn 𝓤 H 𝓣.C 𝓣.Λ fn ws Post in let next = shows 0 (full x) in let m : ℕ = next.0 in
-    let typed : T (has_ty (layout X) vy && true) × WT v = (fine vy fy, (fy.1, tt)) in let r : Val = vstruct (vcons v (vcons right_val vnil)) in
+    let typed : T (has_ty (layout X) vy && true) × WT v = (fine vy fy, (fy.1, tt)) in let r : Val = vstruct (vcons v (vcons ghost_val vnil)) in
     qed 𝓛 ((raw (alive 𝓛 En.signature z.0.0 z.0.1) ⊛ ‵ (fsep (R.own_val z.0.3.0 z.0.4.0) ftrue)) ∷ raw ((c z.0.0 z.0.3).requires z.1) ∷ []) ∵ keep ! (0 ∷ []) $ split ! $ move ! (1 ∷ []) $ fsplit ! $
     rewrite ! 0 (λ (ws : List Val). ‵ (R.own_val x ws)) got.1 refl $
     suffices ! (Run (vy ∷ [])) (subst (λ (ws : List Val). ent 𝓤 (Run (vy ∷ [])) (Run ws)) (sym (λ i. got.1 i ++ [])) (id⊢ 𝓤 (Run (vy ∷ [])))) $
@@ -42,8 +42,8 @@ new_spec 𝓤 𝓛 𝓜 𝓡 wired X L g d _ =
     fpack ! (ℕ × X.Denot) (λ s. fsep (F.own_val (record { content = s.1 }) (v ∷ [])) (known R full γ s)) (m, x) $ nothing ! $ fpack ! (Typed F.mir (v ∷ [])) (λ _. ftrue) (typed, tt) $ fjoin ! $
     -- [the place; the right's part of the number; nothing; the tokens]
     move ! (1 ∷ []) $ nothing ! $ fpack ! (odd m ≡ full x) (λ _. ftrue) next.2 $ fjoin ! $ fpack ! ℕ (counted three_quarters γ (full x)) m $
-    use0 𝓛 (‵ (RightData.own_val (record {}, tt) (right_val ∷ []))) (right_made 𝓛) $ fjoin ! $ nothing ! $ move ! (1 ∷ 0 ∷ []) $ fjoin ! $ move ! (1 ∷ 0 ∷ []) $ fjoin ! $
+    use0 𝓛 (‵ (GhostData.own_val (record {}, tt) (ghost_val ∷ []))) (ghost_made 𝓛) $ fjoin ! $ nothing ! $ move ! (1 ∷ 0 ∷ []) $ fjoin ! $ move ! (1 ∷ 0 ∷ []) $ fjoin ! $
     feq_i ! (List Val) (r ∷ []) (r ∷ []) refl $ fjoin ! $
-    fpack ! (Valss (Row ∷ KRow ∷ [])) (λ uss. fsep (feq (List Val) (r ∷ []) (vstruct (of_list (uss.0 ++ (uss.1.0 ++ []))) ∷ [])) (owns (Row ∷ KRow ∷ []) (γ, (token, tt)) uss)) (v ∷ [], (right_val ∷ [], tt)) $
+    fpack ! (Valss (Row ∷ KRow ∷ [])) (λ uss. fsep (feq (List Val) (r ∷ []) (vstruct (of_list (uss.0 ++ (uss.1.0 ++ []))) ∷ [])) (owns (Row ∷ KRow ∷ []) (γ, (token, tt)) uss)) (v ∷ [], (ghost_val ∷ [], tt)) $
     use0 𝓛 (raw (fact 𝓤 Shown)) (fact_i 𝓤 Shown (emp 𝓤) (refl, refl, refl)) $ nothing ! $ nothing ! $ fjoin ! $
     returns ! (look_at ! 0 refl) $ free_all ! refl $ keep ! (4 ∷ 0 ∷ 2 ∷ 1 ∷ []) $ by ! (leaves 𝓛 En hs c z r (γ, token) (tt, tt) (tt, tt)))))
