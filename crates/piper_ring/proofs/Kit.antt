@@ -83,7 +83,7 @@ pub use Rattle.piper_ring.specs.Trace.{access_code, bytes_code, closed_name, did
 pub use Rattle.std.proofs.lemmas.Bool.{false≢true}
 pub use denote.RawPtr.Room.{past, room_cut, room_glue}
 pub use Rattle.piper_protocol.specs.declared.table.Found.TheVariants.{IndexLoaded}
-pub use Rattle.piper_ring.specs.Loads.{FoundClosed, FoundConsumed, FoundGone, FoundPublished, as_closed, as_gone, as_taken, as_taken_back}
+pub use Rattle.piper_ring.specs.Loads.{FoundClosed, FoundConsumed, FoundGone, FoundPublished}
 pub use base.Shift.{Keyless}
 pub use Rattle.piper_cells.specs.Space.{lease}
 pub use Rattle.std.proofs.lemmas.Bool.Decides.{leb_tells}

@@ -1,6 +1,7 @@
 -- `leave` is one swap: it gives the end's places to the invariant, and takes all of the memory out
 -- where the other end is gone. Assumes `Logic`.
-use Rattle.piper_ring.proofs.Kit.{Bool, false, true, ◌≡◌, ℕ, ◌+◌, ◌-◌, ◌^◌, List, [], ◌∷◌, length, sym, refl, ap, arith, lit<, w64, Val, vint, vptr, SProp, emp, Fml, ftrue, ‵, raw, ◌⊛◌, given, mean, at_ret, ◌$◌, ◌∵◌, !, qed, by, move, keep, drop, join, split, fsplit, fsplit3, fjoin, fpick, fpack, learn, use0, use1, use2, rewrite, feq_i, flt_i, stop, fld, lit, of_opd, bin, no_more, and_then, first, blocks, exec, Calls-last, returns, enter, alloc_all, pass_all, free_all, look_at, get, get_in, sets, lands_last, is, env, agg, sub, whole as shape_all, fact, fact_i, tables, yes, owns, types_at, plain, Ptr, block_ptr, ptr_val, block_of, count_of, at_block, u64, nothing, alive, Stays, stay_dropped, walk_of, Goes-dropped, word-Good, after as from_on, asks, always, span, pair_val, pair_of, proved, leaves, seq_cst, fm, found, finds, swaps, unset, Names, RingIsPlaced, flag, common, half, blanks, writer_knows, where_gone, pointer_val, ghost_val, pointer_told, ghost_told, PointerData, pointer_made, group, FoundGone, as_gone, lease}
+use Rattle.piper_ring.proofs.Kit.{Bool, false, true, ◌≡◌, ℕ, ◌+◌, ◌-◌, ◌^◌, List, [], ◌∷◌, length, sym, refl, ap, arith, lit<, w64, Val, vint, vptr, SProp, emp, Fml, ftrue, ‵, raw, ◌⊛◌, given, mean, at_ret, ◌$◌, ◌∵◌, !, qed, by, move, keep, drop, join, split, fsplit, fsplit3, fjoin, fpick, fpack, learn, use0, use1, use2, rewrite, feq_i, flt_i, stop, fld, lit, of_opd, bin, no_more, and_then, first, blocks, exec, Calls-last, returns, enter, alloc_all, pass_all, free_all, look_at, get, get_in, sets, lands_last, is, env, agg, sub, whole as shape_all, fact, fact_i, tables, yes, owns, types_at, plain, Ptr, block_ptr, ptr_val, block_of, count_of, at_block, u64, nothing, alive, Stays, stay_dropped, walk_of, Goes-dropped, word-Good, after as from_on, asks, always, span, pair_val, pair_of, proved, leaves, seq_cst, fm, found, finds, swaps, unset, Names, RingIsPlaced, flag, common, half, blanks, writer_knows, where_gone, pointer_val, ghost_val, pointer_told, ghost_told, PointerData, pointer_made, group, lease}
+use Rattle.piper_ring.specs.Loads.{FoundGone, as_gone}
 use Rattle.piper_ring.specs.Shared as shared
 use Rattle.piper_ring.proofs.Rights.{common_twice}
 use Rattle.piper_ring.proofs.Steps.{flag_small}

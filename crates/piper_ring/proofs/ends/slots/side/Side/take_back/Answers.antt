@@ -1,5 +1,6 @@
 -- What was taken back is what this function says.
-use Rattle.piper_ring.proofs.Kit.{rules, as_taken_back}
+use Rattle.piper_ring.proofs.Kit.{rules}
+use Rattle.piper_ring.specs.Loads.{as_taken_back}
 use Rattle.piper_ring.proofs.ends.slots.side.Side.take_back.Goals as goal
 
 pub returns-clause-out : goal.returns-clause-out

@@ -1,5 +1,6 @@
 -- What was taken, and that the side left, is what this function says.
-use Rattle.piper_ring.proofs.Kit.{rules, as_taken}
+use Rattle.piper_ring.proofs.Kit.{rules}
+use Rattle.piper_ring.specs.Loads.{as_taken}
 use Rattle.piper_ring.proofs.ends.slots.writer.Side+WriteEnd+T.finish.Goals as goal
 
 pub returns-clause-ticket : goal.returns-clause-ticket
