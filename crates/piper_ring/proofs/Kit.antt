@@ -29,7 +29,7 @@ pub use denote.Param.Send.{IsSend, Common, part_keyless, sendable, IsSync}
 pub use denote.Param.Shared.{copy_shared}
 pub use denote.Plain.{uint_vals, uint_Tells}
 pub use denote.RattleType.{RattleType, owns}
-pub use denote.RawPtr.{Ptr, block_ptr, block_of, count_of, ptr_val, null_ptr, in_a_block, RawPtr, at_block, InBlock}
+pub use denote.RawPtr.{Ptr, block_ptr, block_of, count_of, ptr_val, null_ptr, in_a_block, at_block, InBlock}
 pub use denote.Ref.{shr_vals, shr_Tells, mut_vals, mut_Tells}
 pub use denote.SharingLaws.{beside_shr_laws, nothing_shr_laws, said_shr_laws, one_shr_laws}
 pub use denote.Signature.{plain, types_at, named_lft}
@@ -61,7 +61,7 @@ pub use Rattle.piper_ring.specs.Streams.{Stream, Reaches, streams, reaches_same,
 pub use Rattle.piper_ring.specs.WriteView.{WriteView, IsBounded, lendable}
 pub use Rattle.rtrb.proofs.Asks.{Lies}
 pub use Rattle.rtrb.proofs.Calls.{fm, seq_cst, found, finds, swaps, stored, has_stored, stores, loads}
-pub use Rattle.rtrb.proofs.Positions.{slot_small, position_inside, slot_add, slot_turn}
+pub use Rattle.rtrb.proofs.Positions.{slot_small, slot_add, slot_turn}
 pub use Rattle.rtrb.proofs.Spans.{run_join, span_join, span_map}
 pub use Rattle.rtrb.proofs.Values.{pair_val, pair_of}
 pub use Rattle.rtrb.proofs.Walks.{proved, leaves}
@@ -73,7 +73,7 @@ pub use Rattle.piper_cells.specs.TokenCell.{right}
 pub use Rattle.piper_protocol.specs.declared.table.Found.{Found}
 pub use Rattle.piper_protocol.specs.declared.table.Point.{Point}
 pub use Rattle.piper_protocol.specs.OneList.{Access, AreInOrder, AreOneList, By, FindsWords, Words, loaded_closed, loaded_head, loaded_slot, loaded_tail, slot_in, stored_closed, stored_head, stored_tail, swapped, with_slot, words_after}
-unfoldable pub use Rattle.piper_protocol.specs.Told.{are_calls, are_told, moved_in, seen_in}
+unfoldable pub use Rattle.piper_protocol.specs.Told.{are_told, moved_in, seen_in}
 pub use Rattle.piper_protocol.specs.declared.log.Note.TheVariants.{Began, ClosedLoaded, Made, Told}
 pub use Rattle.piper_protocol.specs.Index.{distance}
 pub use Rattle.piper_protocol.specs.LendBound.{lend_bound}
@@ -82,8 +82,7 @@ pub use Rattle.piper_protocol.specs.declared.table.Side.TheVariants.{Reader, Wri
 pub use Rattle.piper_ring.specs.Trace.{access_code, bytes_code, closed_name, did_owns, head_name, side_of, slot_name, tail_name, ticket_code, trace, traced}
 pub use Rattle.std.proofs.lemmas.Bool.{false≢true}
 pub use denote.RawPtr.Room.{past, room_cut, room_glue}
-pub use Rattle.piper_protocol.specs.declared.table.Found.TheVariants.{IndexLoaded}
-pub use Rattle.piper_ring.specs.Loads.{FoundClosed, FoundConsumed, FoundGone, FoundPublished}
+pub use Rattle.piper_ring.specs.Loads.{FoundConsumed, FoundPublished}
 pub use base.Shift.{Keyless}
 pub use Rattle.piper_cells.specs.Space.{lease}
 pub use Rattle.std.proofs.lemmas.Bool.Decides.{leb_tells}
@@ -91,7 +90,7 @@ pub use denote.Slice.{elements_shared, slice_val}
 pub use types.SemTy.{cells}
 pub use Rattle.piper_protocol.specs.Lines.{accesses_in}
 pub use Rattle.piper_ring.specs.Log.{AreSides, IsLogOf, MayNote, did}
-unfoldable pub use Rattle.piper_ring.specs.Log.{accesses_of, as_is}
+unfoldable pub use Rattle.piper_ring.specs.Log.{accesses_of}
 pub use Rattle.piper_ring.specs.declared.log.Log.{Log}
 pub use denote.Sharing.{ShrLaws, said}
 pub use types.Match.{live}
