@@ -1,12 +1,11 @@
 -- What the machine keeps of this crate's types: a pointer, or nothing of a lease and of a right. A
 -- formula says no struct's name, and so one lemma serves each struct of one pointer, and one each that
 -- takes no space. Assumes `Logic`.
-use Rattle.piper_cells.proofs.SpaceKit.{◌≡◌, [], ◌∷◌, ◌++◌, List, T, WT, sep, ‵, ◌$◌, ◌∵◌, !, qed, move, fjoin, fpack, feq_i, done, nothing, Valss, word-Good, refl, ap, ◌∙◌, Ura, Ty, Val, vstruct, vcons, vnil, of_list, ent, emp, Logic, sem, RattleType, Is, Ptr, ptr_val, Struct, shape, makes_shadow}
+use Rattle.piper_cells.proofs.SpaceKit.{◌≡◌, [], ◌∷◌, ◌++◌, List, T, WT, SProp, sep, id⊢, ‵, raw, ◌$◌, ◌∵◌, !, qed, move, fjoin, done, nothing, use1, owns, Valss, word-Good, refl, ap, ◌∙◌, Ura, Ty, Val, vstruct, vcons, vnil, of_list, ent, emp, Logic, sem, RattleType, Is, Ptr, ptr_val, Struct, shape, makes_shadow}
 use mir.Syntax.{tcons, tnil, ty_struct, ty_ptr}
 use mir.Val.{has_tys}
-use denote.Struct.Declared as Declared
-use denote.Struct.Struct.{within, as_fields}
-use denote.Struct.Tuple.{Tuple, tuple_type}
+use denote.Struct.Struct.{as_fields}
+use denote.RattleType.{Denots}
 use Rattle.piper_cells.specs.contracts.lent_space.Space as Space
 use Rattle.piper_cells.specs.contracts.lent_space.Lease as Lease
 
@@ -37,21 +36,18 @@ module _ {M : Type 1} {𝓤 : Ura M} (𝓛 : Logic 𝓤) where
   pub ghost_made : ent 𝓤 (emp 𝓤) (sem 𝓛 (GhostData.own_val (record {}, tt) (ghost_val ∷ [])))
   ghost_made = makes_shadow 𝓛 (GhostData.own_val (record {}, tt) (ghost_val ∷ [])) (λ vss. (tt, ((λ uss. (tt, tt)), tt))) ((vstruct vnil ∷ [], tt), (refl, ((tt, (refl, tt)), tt)))
 
--- a tuple of four
-abbrev pub four_val : Val → Val → Val → Val → Val
-four_val u v w z = vstruct (vcons u (vcons v (vcons w (vcons z vnil))))
+-- the parts of a tuple, one after the other
+module _ {M : Type 1} {𝓤 : Ura M} (𝓛 : Logic 𝓤) where
+  abbrev pub parts : (Rs : List RattleType) → Denots Rs → Valss Rs → SProp 𝓤
+  parts [] xs vss = emp 𝓤
+  parts (R ∷ []) xs vss = sem 𝓛 (R.own_val xs.0 vss.0)
+  parts (R ∷ S ∷ Rs) xs vss = sep 𝓤 (sem 𝓛 (R.own_val xs.0 vss.0)) (parts (S ∷ Rs) xs.1 vss.1)
 
-module _ {M : Type 1} {𝓤 : Ura M} (𝓛 : Logic 𝓤) (A B C D : RattleType) where
-  abbrev Rows : List RattleType
-  Rows = A ∷ B ∷ C ∷ D ∷ []
-
-  pub four_of : (a : A.Denot) (b : B.Denot) (c : C.Denot) (d : D.Denot) (u v w z : Val)
-      → ent 𝓤 (sep 𝓤 (sem 𝓛 (A.own_val a (u ∷ []))) (sep 𝓤 (sem 𝓛 (B.own_val b (v ∷ []))) (sep 𝓤 (sem 𝓛 (C.own_val c (w ∷ []))) (sem 𝓛 (D.own_val d (z ∷ []))))))
-      (sem 𝓛 ((Tuple Rows).own_val (a, b, c, d) (four_val u v w z ∷ [])))
-  four_of a b c d u v w z = let whole : List Val = four_val u v w z ∷ [] in
-      qed 𝓛 (‵ (A.own_val a (u ∷ [])) ∷ ‵ (B.own_val b (v ∷ [])) ∷ ‵ (C.own_val c (w ∷ [])) ∷ ‵ (D.own_val d (z ∷ [])) ∷ []) ∵
-      nothing ! $ move ! (4 ∷ 0 ∷ []) $ fjoin ! $ move ! (3 ∷ 0 ∷ []) $ fjoin ! $ move ! (2 ∷ 0 ∷ []) $ fjoin ! $ move ! (1 ∷ 0 ∷ []) $ fjoin ! $ feq_i ! (List Val) whole whole refl $ fjoin ! $
-      fpack ! (Valss Rows) (within (Declared.shape (tuple_type Rows)) (a, (b, (c, (d, tt)))) whole) (u ∷ [], (v ∷ [], (w ∷ [], (z ∷ [], tt)))) $ done !
+  pub owns_of : (Rs : List RattleType) (xs : Denots Rs) (vss : Valss Rs) → ent 𝓤 (parts Rs xs vss) (sem 𝓛 (owns Rs xs vss))
+  owns_of [] xs vss = id⊢ 𝓤 (emp 𝓤)
+  owns_of (R ∷ []) xs vss = qed 𝓛 (‵ (R.own_val xs.0 vss.0) ∷ []) ∵ nothing ! $ move ! (1 ∷ 0 ∷ []) $ fjoin ! $ done !
+  owns_of (R ∷ S ∷ Rs) xs vss = qed 𝓛 (‵ (R.own_val xs.0 vss.0) ∷ raw (parts (S ∷ Rs) xs.1 vss.1) ∷ []) ∵ move ! (1 ∷ []) $
+      use1 𝓛 (‵ (owns (S ∷ Rs) xs.1 vss.1)) (owns_of (S ∷ Rs) xs.1 vss.1) $ move ! (1 ∷ 0 ∷ []) $ fjoin ! $ done !
 
 abbrev word_type : Ty
 word_type = ty_struct [] (tcons ty_ptr tnil)
@@ -59,5 +55,5 @@ word_type = ty_struct [] (tcons ty_ptr tnil)
 abbrev mark_type : Ty
 mark_type = ty_struct [] (tcons (ty_struct [] tnil) tnil)
 
-pub four_Good : (p : Ptr) → T (has_tys (tcons word_type (tcons word_type (tcons mark_type (tcons mark_type tnil)))) (vcons (pointer_val p) (vcons (pointer_val p) (vcons ghost_val (vcons ghost_val vnil))))) × WT (four_val (pointer_val p) (pointer_val p) ghost_val ghost_val)
+pub four_Good : (p : Ptr) → T (has_tys (tcons word_type (tcons word_type (tcons mark_type (tcons mark_type tnil)))) (vcons (pointer_val p) (vcons (pointer_val p) (vcons ghost_val (vcons ghost_val vnil))))) × WT (vstruct (vcons (pointer_val p) (vcons (pointer_val p) (vcons ghost_val (vcons ghost_val vnil)))))
 four_Good p = as_fields (word_type ∷ word_type ∷ mark_type ∷ mark_type ∷ []) (pointer_val p ∷ pointer_val p ∷ ghost_val ∷ ghost_val ∷ []) (word-Good [] p, (word-Good [] p, ((tt, (tt, tt)), ((tt, (tt, tt)), tt))))

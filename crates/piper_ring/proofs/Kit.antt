@@ -28,7 +28,7 @@ pub use denote.Param.{layout}
 pub use denote.Param.Send.{IsSend, Common, part_keyless, sendable, IsSync}
 pub use denote.Param.Shared.{copy_shared}
 pub use denote.Plain.{uint_vals, uint_Tells}
-pub use denote.RattleType.{RattleType, owns}
+pub use denote.RattleType.{Denots, RattleType, Valss, owns}
 pub use denote.RawPtr.{Ptr, block_ptr, block_of, count_of, ptr_val, null_ptr, in_a_block, at_block, InBlock}
 pub use denote.Ref.{shr_vals, shr_Tells, mut_vals, mut_Tells}
 pub use denote.SharingLaws.{beside_shr_laws, nothing_shr_laws, said_shr_laws, one_shr_laws}
@@ -36,8 +36,10 @@ pub use denote.Signature.{plain, types_at, named_lft}
 pub use denote.Steps.{nothing, peeks, opens, closes}
 pub use denote.Struct.Laws.{RawPtr-copy}
 pub use denote.Struct.Lending.{Lends, Lends-both, Lends-nothing, Lends-said, Lends-first, of_Lends, lent_out}
+pub use denote.Struct.Declared.{shape as declared}
 pub use denote.Struct.Owning.{shape}
-pub use denote.Struct.Struct.{Struct}
+pub use denote.Struct.Struct.{Struct, within}
+pub use denote.Struct.Tuple.{tuple_type}
 pub use denote.Triple.Entry.{alive}
 pub use denote.Triple.Walked.{Stays, stay_dropped, walk_of, Goes-dropped, stay_ref, Goes-ref}
 pub use contract.Monad.{fact, fact_i}
@@ -50,7 +52,7 @@ pub use Rattle.core.specs.Sync.RawAtomic.{asks, always}
 pub use Rattle.logbook.proofs.Fields.{lends_twice}
 pub use Rattle.piper_protocol.specs.ReaderIndices.{ReaderIndices}
 pub use Rattle.piper_protocol.specs.WriterIndices.{WriterIndices, room_in, left_in}
-pub use Rattle.piper_ring.proofs.Fields.{ghost_coded, ghost_shared, lent_val, lent_told, lent_made, LentData, nine_val, nine_of, eight_val, eight_of}
+pub use Rattle.piper_ring.proofs.Fields.{ghost_coded, ghost_shared, lent_val, lent_told, lent_made, LentData}
 pub use Rattle.piper_ring.specs.Block.{heap_token, words_type, IsClaim, behind, purpose, size_of_block, space_of, space_room, unused}
 pub use Rattle.piper_ring.specs.Places.{byte, unset, place, run_lent, places_lent, Placed}
 pub use Rattle.piper_ring.specs.ReadView.{ReadView, read_view_of, in_one_piece, read_view}
@@ -68,7 +70,7 @@ pub use Rattle.rtrb.proofs.Walks.{proved, leaves}
 unfoldable pub use Rattle.rtrb.specs.Fifo.{position_of, slot_of}
 pub use Rattle.rtrb.specs.Shared.{run, span}
 pub use Rattle.std_alloc.proofs.RcSteps.{word-Good}
-pub use Rattle.piper_cells.proofs.Fields.{GhostData, PointerData, ghost_made, ghost_told, ghost_val, pointer_made, pointer_told, pointer_val}
+pub use Rattle.piper_cells.proofs.Fields.{GhostData, PointerData, ghost_made, ghost_told, ghost_val, owns_of, pointer_made, pointer_told, pointer_val}
 pub use Rattle.piper_cells.specs.TokenCell.{right}
 pub use Rattle.piper_protocol.specs.declared.table.Found.{Found}
 pub use Rattle.piper_protocol.specs.declared.table.Point.{Point}

@@ -1,5 +1,5 @@
 -- `open` writes the six words, and puts them under the ring's invariant, with the rights to two cells. Assumes `Logic`.
-use Rattle.piper_ring.proofs.Kit.{Bool, nothing_stored, block_of, count_of, at_block, arith, ◌<◌, ◌^◌, ◌≡◌, ℕ, true, false, [], ◌∷◌, refl, ap, sym, lit<, named, Val, vptr, SProp, emp, ftrue, ‵, raw, ◌⊛◌, some, given, later, await, pick, at_ret, ◌$◌, ◌∵◌, !, qed, by, move, keep, drop, split, split3, join, fsplit, fsplit3, fjoin, fjoin3, fpick, fpack, learn, use0, use1, use2, use3, rewrite, stop, fld, init, lit, of_opd, bin, no_more, and_then, first, blocks, exec, assigns_last, returns, enter, alloc_all, pass_all, free_all, look_at, get, get_in, through, sets, is, env, agg, sub, whole, fact, fact_i, tables, yes, RattleType, owns, types_at, plain, Ptr, block_ptr, ptr_val, RefOf, nothing, alive, Stays, stay_dropped, walk_of, Goes-dropped, after as from_on, word-Good, span, proved, leaves, unset, Names, reader_owns, writer_owns, shr_vals, shr_Tells, pointer_val, ghost_val, ghost_told, GhostData, ghost_made, right, List, nine_val, nine_of, pointer_told, PointerData, pointer_made, did_owns, behind, size_of_block, space_of, token_of}
+use Rattle.piper_ring.proofs.Kit.{Bool, nothing_stored, block_of, count_of, at_block, arith, ◌<◌, ◌^◌, ◌≡◌, ℕ, true, false, [], ◌∷◌, refl, ap, sym, lit<, named, Val, vptr, SProp, emp, ftrue, ‵, raw, ◌⊛◌, some, given, later, await, pick, at_ret, ◌$◌, ◌∵◌, !, qed, by, move, keep, drop, split, split3, join, fsplit, fsplit3, fjoin, fjoin3, fpick, fpack, learn, use0, use1, use2, use3, rewrite, stop, fld, init, lit, of_opd, bin, no_more, and_then, first, blocks, exec, assigns_last, returns, enter, alloc_all, pass_all, free_all, look_at, get, get_in, through, sets, is, env, agg, sub, whole, fact, fact_i, tables, yes, RattleType, owns, types_at, plain, Ptr, block_ptr, ptr_val, RefOf, nothing, alive, Stays, stay_dropped, walk_of, Goes-dropped, after as from_on, word-Good, span, proved, leaves, unset, Names, reader_owns, writer_owns, shr_vals, shr_Tells, pointer_val, ghost_val, ghost_told, GhostData, ghost_made, right, List, pointer_told, PointerData, pointer_made, did_owns, behind, size_of_block, space_of, token_of, Denots, Valss, owns_of, within, tuple_type, declared, of_list, vstruct, feq_i}
 use types.Run.{assigns}
 use Rattle.piper_ring.specs.Places as P
 use Rattle.piper_ring.specs.SlotValues.{IsUnused, LooksFirst}
@@ -56,8 +56,9 @@ open_spec 𝓤 𝓛 𝓜 𝓡 wired =
     use0 𝓛 (‵ (GhostData.own_val (record {}, tt) (g ∷ []))) (ghost_made 𝓛) $ fjoin ! $ move ! (1 ∷ []) $ use0 𝓛 (‵ (GhostData.own_val (record {}, tt) (g ∷ []))) (ghost_made 𝓛) $ fjoin ! $ move ! (0 ∷ 7 ∷ []) $ join ! $ move ! (1 ∷ 0 ∷ []) $ join ! $ move ! (2 ∷ []) $
     use0 𝓛 (‵ (GhostData.own_val (record {}, tt) (g ∷ []))) (ghost_made 𝓛) $ fjoin ! $ join ! $ move ! (1 ∷ []) $ use0 𝓛 (‵ (GhostData.own_val (record {}, tt) (g ∷ []))) (ghost_made 𝓛) $ fjoin ! $ join ! $
     move ! (1 ∷ 0 ∷ []) $ join ! $ move ! (1 ∷ 0 ∷ []) $ join ! $ move ! (1 ∷ 0 ∷ []) $
-    use2 𝓛 (‵ ((denote.Struct.Tuple.Tuple (ReadSeat.the_row ∷ WriteSeat.the_row ∷ Blank.the_row ∷ Waits.the_row ∷ Wakes.the_row ∷ Waits.the_row ∷ Wakes.the_row ∷ Log.the_row ∷ Log.the_row ∷ [])).own_val (one, two, three, waits true, wakes true, waits false, wakes false, log true, log false) (nine_val v v g g g g g g g ∷ [])))
-    (nine_of 𝓛 ReadSeat.the_row WriteSeat.the_row Blank.the_row Waits.the_row Wakes.the_row Waits.the_row Wakes.the_row Log.the_row Log.the_row one two three (waits true) (wakes true) (waits false) (wakes false) (log true) (log false) v v g g g g g g g) $
+    let Rs : List RattleType = ReadSeat.the_row ∷ WriteSeat.the_row ∷ Blank.the_row ∷ Waits.the_row ∷ Wakes.the_row ∷ Waits.the_row ∷ Wakes.the_row ∷ Log.the_row ∷ Log.the_row ∷ [] in let all : Val = vstruct (of_list (v ∷ v ∷ g ∷ g ∷ g ∷ g ∷ g ∷ g ∷ g ∷ [])) in
+    let xs : Denots Rs = (one, (two, (three, (waits true, (wakes true, (waits false, (wakes false, (log true, (log false, tt))))))))) in let vss : Valss Rs = (v ∷ [], (v ∷ [], (g ∷ [], (g ∷ [], (g ∷ [], (g ∷ [], (g ∷ [], (g ∷ [], (g ∷ [], tt))))))))) in
+    use2 𝓛 (‵ (owns Rs xs vss)) (owns_of 𝓛 Rs xs vss) $ feq_i ! (List Val) (all ∷ []) (all ∷ []) refl $ fjoin ! $ fpack ! (Valss Rs) (within (declared (tuple_type Rs)) xs (all ∷ [])) vss $
     sets ! (agg ! (and_then ! (get ! refl) (no_more !))) refl (tt, (tt, tt)) $ sets ! (agg ! (and_then ! (get ! refl) (no_more !))) refl (tt, (tt, tt)) $
     sets ! (agg ! (no_more !)) refl (tt, tt) $ sets ! (agg ! (and_then ! (get ! refl) (no_more !))) refl (tt, (tt, tt)) $
     sets ! (agg ! (no_more !)) refl (tt, tt) $ sets ! (agg ! (and_then ! (get ! refl) (no_more !))) refl (tt, (tt, tt)) $
@@ -81,4 +82,4 @@ open_spec 𝓤 𝓛 𝓜 𝓡 wired =
     use0 𝓛 (raw (fact 𝓤 (z.cells ≡ cells))) (fact_i 𝓤 (z.cells ≡ cells) (emp 𝓤) ez.1) $ join ! $
     use0 𝓛 (raw (fact 𝓤 ((w ≡ w₀) × (z.capacity ≡ cap) × (z.life ≡ life)))) (fact_i 𝓤 ((w ≡ w₀) × (z.capacity ≡ cap) × (z.life ≡ life)) (emp 𝓤) (sym at_w, ez.0, ez.2)) $ join ! $
     nothing ! $ nothing ! $ fjoin ! $ nothing ! $ fjoin ! $ nothing ! $ fjoin ! $ nothing ! $ fjoin ! $ nothing ! $ fjoin ! $ nothing ! $ fjoin ! $
-    returns ! (look_at ! 0 refl) $ free_all ! refl $ keep ! (3 ∷ 0 ∷ 2 ∷ 1 ∷ []) $ by ! (leaves 𝓛 En hs c y (nine_val v v g g g g g g g) (one, two, three, waits true, wakes true, waits false, wakes false, log true, log false) (tt, (tt, (tt, (tt, (tt, (tt, tt)))))) (tt, (tt, (tt, (tt, (tt, (tt, tt)))))))))))))))
+    returns ! (look_at ! 0 refl) $ free_all ! refl $ keep ! (3 ∷ 0 ∷ 2 ∷ 1 ∷ []) $ by ! (leaves 𝓛 En hs c y all (one, two, three, waits true, wakes true, waits false, wakes false, log true, log false) (tt, (tt, (tt, (tt, (tt, (tt, tt)))))) (tt, (tt, (tt, (tt, (tt, (tt, tt)))))))))))))))

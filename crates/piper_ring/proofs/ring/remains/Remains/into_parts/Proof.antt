@@ -1,5 +1,5 @@
 -- `into_parts` takes apart what both ends left. Assumes `Logic`.
-use Rattle.piper_ring.proofs.Kit.{◌+◌, arith, load, through, look, u64, vint, w64, flt_i, feq_i, List, fwand, Filled, number, use2, fsplit3, word_room, GhostData, ghost_made, ghost_val, false, join, first, blocks, bin, lit, sets_last, exec, at_ret, use1, after as from_on, ◌≡◌, ℕ, ◌<◌, ◌^◌, Bool, true, [], ◌∷◌, refl, ap, Val, SProp, emp, ftrue, ‵, raw, ◌⊛◌, given, ◌$◌, ◌∵◌, !, qed, by, move, keep, drop, split, fsplit, fjoin, fpick, fpack, learn, use0, rewrite, stop, fld, of_opd, no_more, and_then, returns, enter, alloc_all, pass_all, free_all, look_at, get, get_in, sets, is, env, agg, sub, whole, fact, fact_i, tables, yes, owns, types_at, plain, Ptr, block_ptr, ptr_val, block_of, count_of, at_block, nothing, alive, Stays, stay_dropped, walk_of, Goes-dropped, word-Good, proved, leaves, Names, heap_token, where_gone, pointer_val, pointer_told, PointerData, pointer_made, eight_val, eight_of, Ty, ty_int, group, purpose, size_of_block, space_of, IsPlaced, slice_index, block_room, space_room}
+use Rattle.piper_ring.proofs.Kit.{◌+◌, arith, load, through, look, u64, vint, w64, flt_i, feq_i, List, fwand, Filled, number, use2, fsplit3, word_room, GhostData, ghost_made, ghost_val, false, join, first, blocks, bin, lit, sets_last, exec, at_ret, use1, after as from_on, ◌≡◌, ℕ, ◌<◌, ◌^◌, Bool, true, [], ◌∷◌, refl, ap, Val, SProp, emp, ftrue, ‵, raw, ◌⊛◌, given, ◌$◌, ◌∵◌, !, qed, by, move, keep, drop, split, fsplit, fjoin, fpick, fpack, learn, use0, rewrite, stop, fld, of_opd, no_more, and_then, returns, enter, alloc_all, pass_all, free_all, look_at, get, get_in, sets, is, env, agg, sub, whole, fact, fact_i, tables, yes, owns, types_at, plain, Ptr, block_ptr, ptr_val, block_of, count_of, at_block, nothing, alive, Stays, stay_dropped, walk_of, Goes-dropped, word-Good, proved, leaves, Names, heap_token, where_gone, pointer_val, pointer_told, PointerData, pointer_made, Ty, ty_int, group, purpose, size_of_block, space_of, IsPlaced, slice_index, block_room, space_room, Denots, Valss, RattleType, owns_of, within, tuple_type, declared, of_list, vstruct}
 use Rattle.piper_cells.specs.contracts.lent_space.Lease as Lease
 use Rattle.piper_cells.specs.contracts.lent_space.Lender as Lender
 use Rattle.piper_ring.specs.Shared as shared
@@ -47,15 +47,16 @@ into_parts_spec 𝓤 𝓛 𝓜 𝓡 wired =
     -- [the right to free the block; the lender; the leases; the block but for the space; the rights to the places]
     rewrite ! 0 (λ (q : Ptr). ‵ (heap_token (purpose (size_of_block cap)) q)) is_w refl $ move ! (3 ∷ 0 ∷ []) $ fjoin ! $ nothing ! $ fpack ! (IsPlaced cap w') (λ _. ftrue) (tt, at.2) $ fjoin ! $
     let five : u64.Denot = number r in let six : Token.the_row.Denot = record { mark = record {}; name = slice_index z.cells r.0; there = true; filled = r.1 } in let seven : u64.Denot = number t' in let eight : Token.the_row.Denot = record { mark = record {}; name = slice_index z.cells t'.0; there = true; filled = t'.1 } in
-    let all : Val = eight_val u v g g (vint w64 five) t (vint w64 seven) t in let lies : (s : Filled) → s.0 < 4 → IsTokenAt z.cells (number s) (record { mark = record {}; name = slice_index z.cells s.0; there = true; filled = s.1 }) = λ s small. (s.0, record { small = small; name = refl; there = refl; filled = refl }, refl) in
+    let all : Val = vstruct (of_list (u ∷ v ∷ g ∷ g ∷ vint w64 five ∷ t ∷ vint w64 seven ∷ t ∷ [])) in let lies : (s : Filled) → s.0 < 4 → IsTokenAt z.cells (number s) (record { mark = record {}; name = slice_index z.cells s.0; there = true; filled = s.1 }) = λ s small. (s.0, record { small = small; name = refl; there = refl; filled = refl }, refl) in
     use0 𝓛 (‵ (PointerData.own_val (w', tt) (u ∷ []))) (pointer_made 𝓛 w') $ fjoin ! $ move ! (1 ∷ []) $ use0 𝓛 (‵ (PointerData.own_val (at', tt) (v ∷ []))) (pointer_made 𝓛 at') $ fjoin ! $
     move ! (2 ∷ []) $ fsplit ! $ use0 𝓛 (‵ (GhostData.own_val (record {}, tt) (g ∷ []))) (ghost_made 𝓛) $ fjoin ! $ move ! (1 ∷ []) $ use0 𝓛 (‵ (GhostData.own_val (record {}, tt) (g ∷ []))) (ghost_made 𝓛) $ fjoin ! $
     move ! (4 ∷ []) $ use0 𝓛 (‵ (GhostData.own_val (record {}, tt) (t ∷ []))) (ghost_made 𝓛) $ fjoin ! $ move ! (5 ∷ []) $ use0 𝓛 (‵ (GhostData.own_val (record {}, tt) (t ∷ []))) (ghost_made 𝓛) $ fjoin ! $
     -- [the tokens, the writer's first; the leases, the second first; the lender; the frame]
     flt_i ! five (2 ^ 64) small $ feq_i ! (List Val) (vint w64 five ∷ []) (vint w64 five ∷ []) refl $ fjoin ! $ flt_i ! seven (2 ^ 64) small' $ feq_i ! (List Val) (vint w64 seven ∷ []) (vint w64 seven ∷ []) refl $ fjoin ! $
     move ! (7 ∷ 6 ∷ 5 ∷ 4 ∷ 1 ∷ 3 ∷ 0 ∷ 2 ∷ []) $ group ! 8 $
-    use1 𝓛 (‵ ((denote.Struct.Tuple.Tuple (Frame.the_row ∷ Lender.the_row ∷ Lease.the_row ∷ Lease.the_row ∷ u64 ∷ Token.the_row ∷ u64 ∷ Token.the_row ∷ [])).own_val (one, two, three, four, five, six, seven, eight) (all ∷ [])))
-    (eight_of 𝓛 Frame.the_row Lender.the_row Lease.the_row Lease.the_row u64 Token.the_row u64 Token.the_row one two three four five six seven eight u v g g (vint w64 five) t (vint w64 seven) t) $
+    let Rs : List RattleType = Frame.the_row ∷ Lender.the_row ∷ Lease.the_row ∷ Lease.the_row ∷ u64 ∷ Token.the_row ∷ u64 ∷ Token.the_row ∷ [] in let xs : Denots Rs = (one, (two, (three, (four, (five, (six, (seven, (eight, tt)))))))) in
+    let vss : Valss Rs = (u ∷ [], (v ∷ [], (g ∷ [], (g ∷ [], (vint w64 five ∷ [], (t ∷ [], (vint w64 seven ∷ [], (t ∷ [], tt)))))))) in
+    use1 𝓛 (‵ (owns Rs xs vss)) (owns_of 𝓛 Rs xs vss) $ feq_i ! (List Val) (all ∷ []) (all ∷ []) refl $ fjoin ! $ fpack ! (Valss Rs) (within (declared (tuple_type Rs)) xs (all ∷ [])) vss $
     use0 𝓛 (raw (fact 𝓤 (IsLeft z false seven eight))) (fact_i 𝓤 (IsLeft z false seven eight) (emp 𝓤) (lies t' le', as_lying z false t'.1)) $
     use0 𝓛 (raw (fact 𝓤 (IsLeft z true five six))) (fact_i 𝓤 (IsLeft z true five six) (emp 𝓤) (lies r le, as_lying z true r.1)) $ join ! $
     use0 𝓛 (raw (fact 𝓤 Firsts)) (fact_i 𝓤 Firsts (emp 𝓤) (refl, refl)) $ join ! $ use0 𝓛 (raw (fact 𝓤 Lives)) (fact_i 𝓤 Lives (emp 𝓤) (refl, refl, refl)) $ join ! $
