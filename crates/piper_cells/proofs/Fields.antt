@@ -1,11 +1,10 @@
 -- What the machine keeps of this crate's types: a pointer, or nothing of a lease and of a right. A
 -- formula says no struct's name, and so one lemma serves each struct of one pointer, and one each that
 -- takes no space. Assumes `Logic`.
-use Rattle.piper_cells.proofs.SpaceKit.{◌≡◌, [], ◌∷◌, ◌++◌, List, T, WT, SProp, sep, id⊢, ‵, raw, ◌$◌, ◌∵◌, !, qed, move, fjoin, done, nothing, use1, owns, Valss, word-Good, refl, ap, ◌∙◌, Ura, Ty, Val, vstruct, vcons, vnil, of_list, ent, emp, Logic, sem, RattleType, Is, Ptr, ptr_val, Struct, shape, makes_shadow}
+use Rattle.piper_cells.proofs.SpaceKit.{◌≡◌, [], ◌∷◌, ◌++◌, List, T, WT, SProp, sep, id⊢, ‵, raw, ◌$◌, ◌∵◌, !, qed, move, fjoin, done, nothing, use1, owns, Valss, word-Good, refl, ap, ◌∙◌, Ura, Ty, Val, vstruct, vcons, vnil, of_list, ent, emp, Logic, sem, RattleType, Is, Ptr, ptr_val, Struct, shape, makes_shadow, Denots}
 use mir.Syntax.{tcons, tnil, ty_struct, ty_ptr}
 use mir.Val.{has_tys}
 use denote.Struct.Struct.{as_fields}
-use denote.RattleType.{Denots}
 use Rattle.piper_cells.specs.contracts.lent_space.Space as Space
 use Rattle.piper_cells.specs.contracts.lent_space.Lease as Lease
 

@@ -28,7 +28,7 @@ pub use denote.Moves.{moves_from}
 pub use denote.Opens.{hide, unhide}
 pub use denote.Param.{param, layout, layouts, bounded}
 pub use denote.Param.Laws.{Laws, param_laws}
-pub use denote.RattleType.{RattleType, Valss, owns}
+pub use denote.RattleType.{RattleType, Valss, owns, Denots}
 pub use denote.RawPtr.{Ptr, block_ptr, InBlock, block_of, count_of, ptr_val, at_block}
 pub use denote.Ref.{shr_vals, shr_Tells}
 pub use denote.Signature.{plain, types_at}

@@ -5,6 +5,11 @@ use base.Growing.{Least}
 use types.Growing.{at_least_dup, at_least_join}
 use Rattle.piper_ring.proofs.Reaching.{in_line, prefix_length, flag_reaches, Joined}
 
+module _ {M : Type 1} {𝓤 : Ura M} (𝓛 : Logic 𝓤) where
+  pub raised_twice : (γ : ℕ) (b : Bool) → ent 𝓤 (sem 𝓛 (raised γ b)) (sep 𝓤 (sem 𝓛 (raised γ b)) (sem 𝓛 (raised γ b)))
+  raised_twice γ false = emp∗ 𝓤 (emp 𝓤)
+  raised_twice γ true = at_least_dup numbers 𝓛 γ 1
+
 module _ {M : Type 1} {𝓤 : Ura M} (𝓛 : Logic 𝓤) (z : Names) where
   pub took_twice : (n : ℕ) → ent 𝓤 (sem 𝓛 (took z n)) (sep 𝓤 (sem 𝓛 (took z n)) (sem 𝓛 (took z n)))
   took_twice n = at_least_dup numbers 𝓛 z.head n
@@ -19,12 +24,6 @@ module _ {M : Type 1} {𝓤 : Ura M} (𝓛 : Logic 𝓤) (z : Names) where
   pub greater : (m n : ℕ) → ent 𝓤 (sep 𝓤 (sem 𝓛 (took z m)) (sem 𝓛 (took z n))) (ex 𝓤 (Greater m n))
   greater m n = one_or_other m n (leb_tells m n)
 
-module _ {M : Type 1} {𝓤 : Ura M} (𝓛 : Logic 𝓤) where
-  pub raised_twice : (γ : ℕ) (b : Bool) → ent 𝓤 (sem 𝓛 (raised γ b)) (sep 𝓤 (sem 𝓛 (raised γ b)) (sem 𝓛 (raised γ b)))
-  raised_twice γ false = emp∗ 𝓤 (emp 𝓤)
-  raised_twice γ true = at_least_dup numbers 𝓛 γ 1
-
-module _ {M : Type 1} {𝓤 : Ura M} (𝓛 : Logic 𝓤) (z : Names) where
   abbrev E : Stream → Fml
   E a = announced z a.0 a.1
 
@@ -43,10 +42,9 @@ module _ {M : Type 1} {𝓤 : Ura M} (𝓛 : Logic 𝓤) (z : Names) where
       use2 𝓛 (some (λ (c : Stream). given (Least Reaches a b c) (‵ (at_least streams z.sent c)))) (at_least_join streams 𝓛 z.sent a b) $ pick ! (λ c. learn ! (λ least. forget ! $ move ! (1 ∷ 0 ∷ []) $
       by ! (chosen a b (in_line a.0 a.1 b.0 b.1 c least.0 least.1))))
 
-module _ {M : Type 1} {𝓤 : Ura M} (𝓛 : Logic 𝓤) (z : Names) where
   pub evidence_twice : (r : Bool) (x : Stored) → ent 𝓤 (sem 𝓛 (evidence z r x)) (sep 𝓤 (sem 𝓛 (evidence z r x)) (sem 𝓛 (evidence z r x)))
-  evidence_twice true x = announced_twice 𝓛 z x.bytes x.closed
-  evidence_twice false x = let T : Fml = took z x.count in let S : Fml = raised z.closed x.closed in qed 𝓛 (‵ (evidence z false x) ∷ []) ∵ fsplit ! $ use1 𝓛 (‵ T ⊛ ‵ T) (took_twice 𝓛 z x.count) $ split ! $ move ! (2 ∷ []) $
+  evidence_twice true x = announced_twice x.bytes x.closed
+  evidence_twice false x = let T : Fml = took z x.count in let S : Fml = raised z.closed x.closed in qed 𝓛 (‵ (evidence z false x) ∷ []) ∵ fsplit ! $ use1 𝓛 (‵ T ⊛ ‵ T) (took_twice x.count) $ split ! $ move ! (2 ∷ []) $
       use1 𝓛 (‵ S ⊛ ‵ S) (raised_twice 𝓛 z.closed x.closed) $ split ! $ move ! (2 ∷ 0 ∷ []) $ fjoin ! $ move ! (2 ∷ 1 ∷ []) $ fjoin ! $ done !
 
 pub took-Keyless : (z : Names) (n : ℕ) → Keyless (took z n)

@@ -63,7 +63,7 @@ pub use Rattle.piper_ring.specs.Streams.{Stream, Reaches, streams, reaches_same,
 pub use Rattle.piper_ring.specs.WriteView.{WriteView, IsBounded, lendable}
 pub use Rattle.rtrb.proofs.Asks.{Lies}
 pub use Rattle.rtrb.proofs.Calls.{fm, seq_cst, found, finds, swaps, stored, has_stored, stores, loads}
-pub use Rattle.rtrb.proofs.Positions.{slot_small, slot_add, slot_turn}
+pub use Rattle.rtrb.proofs.Positions.{slot_small, slot_add, slot_turn, slot_lt}
 pub use Rattle.rtrb.proofs.Spans.{run_join, span_join, span_map}
 pub use Rattle.rtrb.proofs.Values.{pair_val, pair_of}
 pub use Rattle.rtrb.proofs.Walks.{proved, leaves}

@@ -1,10 +1,9 @@
 -- What the parts of a reader's end say of its indices, and its view of its known bytes.
-use Rattle.std.proofs.Common.{◌≡◌, ℕ, ◌+◌, ◌-◌, ◌≤◌, Bool, true, false, length, refl, ap, arith}
 use Rattle.piper_protocol.specs.ReaderIndices.{known_in}
 use Rattle.piper_ring.specs.Streams.{Stream, Reaches, either}
 use Rattle.piper_ring.specs.ReadView.{ReadView, read_view_of, IsReadEnd, KnowsEnd, in_one_piece}
 use Rattle.piper_ring.specs.declared.ends.reader.ReadParts.{ReadParts}
-use Rattle.piper_ring.proofs.Kit.{sym, ◌∙◌, position_of, distance}
+use Rattle.piper_ring.proofs.Kit.{sym, ◌∙◌, position_of, distance, ◌≡◌, ℕ, ◌+◌, ◌-◌, ◌≤◌, Bool, true, false, length, refl, ap, arith}
 use Rattle.piper_ring.proofs.Indices.{apart}
 use Rattle.piper_ring.proofs.Reaching.{ended_still}
 

@@ -247,13 +247,9 @@ module _ {M : Type 1} {𝓤 : Ura M} (𝓛 : Logic 𝓤) (w p : Ptr) (z : Names)
         move ! (3 ∷ 4 ∷ []) $ fjoin ! $ move ! (1 ∷ 0 ∷ []) $ fjoin ! $ nothing ! $ fpack ! (AreAt Stored next new b) (λ _. ftrue) (keeps b so') $ fjoin ! $ fpack ! (Waits Stored × Wakes Stored) (both_at w far z.cells μ γ δ stored_code shows next) (new, b) $ frame ! $
         move ! (1 ∷ 0 ∷ []) $ fjoin ! $ nothing ! $ fpack ! (Q new) (λ _. ftrue) (tells b so') $ fjoin ! $ fpack ! (Waits Stored) (λ a'. fsep (fact (Q a')) (Waiting a')) new $ done !)))
 
-    -- evidence can be had twice
-    abbrev pub Twice : Type 1
-    Twice = (x : Stored) → ⟦ shows x ⟧ ⊢ ⟦ shows x ⟧ ∗ ⟦ shows x ⟧
-
     -- who registers hears what the other had stored
-    hears_new : Twice → (x y : Stored) → ⟦ shows x ⟧ ∗ ⟦ shows y ⟧ ⊢ ⟦ shows y ⟧ ∗ ⟦ shows y ⟧
-    hears_new twice x y = qed 𝓛 (‵ (shows x) ∷ ‵ (shows y) ∷ []) ∵ forget ! $ by ! (twice y)
+    hears_new : (x y : Stored) → ⟦ shows x ⟧ ∗ ⟦ shows y ⟧ ⊢ ⟦ shows y ⟧ ∗ ⟦ shows y ⟧
+    hears_new x y = qed 𝓛 (‵ (shows x) ∷ ‵ (shows y) ∷ []) ∵ forget ! $ by ! (evidence_twice 𝓛 z r y)
 
     hears_old : (x y : Stored) → ⟦ shows x ⟧ ∗ ⟦ shows y ⟧ ⊢ ⟦ shows y ⟧ ∗ ⟦ shows x ⟧
     hears_old x y = qed 𝓛 (‵ (shows x) ∷ ‵ (shows y) ∷ []) ∵ move ! (1 ∷ 0 ∷ []) $ done !
@@ -268,14 +264,14 @@ module _ {M : Type 1} {𝓤 : Ura M} (𝓛 : Logic 𝓤) (w p : Ptr) (z : Names)
     abbrev pub Exchanged : Waits Stored → Bool → Option ℕ → Fml
     Exchanged a filled lies = fex (Waits Stored) (exchanged_as a filled lies)
 
-    hears : Twice → (filled : Bool) (a : Waits Stored) (b : Wakes Stored) → ⟦ shows a.1.1 ⟧ ∗ ⟦ shows b.1 ⟧ ⊢ ⟦ shows b.1 ⟧ ∗ ⟦ shows (after filled a b.1).1.1 ⟧
-    hears twice true a b = hears_new twice a.1.1 b.1
-    hears twice false a b = hears_old a.1.1 b.1
+    hears : (filled : Bool) (a : Waits Stored) (b : Wakes Stored) → ⟦ shows a.1.1 ⟧ ∗ ⟦ shows b.1 ⟧ ⊢ ⟦ shows b.1 ⟧ ∗ ⟦ shows (after filled a b.1).1.1 ⟧
+    hears true a b = hears_new a.1.1 b.1
+    hears false a b = hears_old a.1.1 b.1
 
-    exchange : Twice → (a : Waits Stored) (i : ℕ) (full : Bool) → i < 4 → (k : Log) → k.keeps ≡ true → k.names ≡ z
+    exchange : (a : Waits Stored) (i : ℕ) (full : Bool) → i < 4 → (k : Log) → k.keeps ≡ true → k.names ≡ z
         → ⟦ C ⟧ ∗ (⟦ K ⟧ ∗ ⟦ fsep (Cell (filled (i, put_in full a))) (Waiting a) ⟧) ∗ ⟦ Kept 𝓛 w p z k (accesses_in k.lines) ⟧ ⊢ access far (λ _. number (filled (i, put_in full a))) (Swapped (i, put_in full a) (Exchanged a full) k)
-    exchange twice a i full small = trades (i, put_in full a) small (Waiting a) (Exchanged a full) (λ lies.
-        waits_on lies (put_in full a) a (λ b. after full a b.1) (λ b h. goes_in full lies a b h) (IsExchanged a full lies) (λ b h. let was = waited lies a b h in (exchanges full a b.1, was.0, was.1)) (hears twice full a))
+    exchange a i full small = trades (i, put_in full a) small (Waiting a) (Exchanged a full) (λ lies.
+        waits_on lies (put_in full a) a (λ b. after full a b.1) (λ b h. goes_in full lies a b h) (IsExchanged a full lies) (λ b h. let was = waited lies a b h in (exchanges full a b.1, was.0, was.1)) (hears full a))
 
     -- what the side is that loaded its own slot
     abbrev pub IsSeen : Waits Stored → Option ℕ → Waits Stored → Type 0
@@ -366,7 +362,7 @@ module _ {M : Type 1} {𝓤 : Ura M} (𝓛 : Logic 𝓤) (w p : Ptr) (z : Names)
     exchange_own a own new small e k kept is = let same : is_some (put_in own.1 a) ≡ own.1 = put_filled own.1 (a.1.0 + 1) in
         subst (λ (u : ℕ × Bool). ⟦ C ⟧ ∗ (⟦ K ⟧ ∗ ⟦ fsep (Cell (own.0, u.1)) (Waiting a) ⟧) ∗ ⟦ Kept 𝓛 w p z k (accesses_in k.lines) ⟧ ⊢ access far (λ _. u.0) (SwapsOwn a own k))
         {x = (number (own.0, is_some (put_in own.1 a)), is_some (put_in own.1 a))} {y = (new, own.1)} (λ j. ((ap (λ (b : Bool). number (own.0, b)) same ∙ sym e) j, same j))
-        (exchange (evidence_twice 𝓛 z r) a own.0 own.1 small k kept is)
+        (exchange a own.0 own.1 small k kept is)
 
     abbrev pub LoadsOwn : Waits Stored → Log → ℕ → Fml
     LoadsOwn a = Loaded (Seen a)

@@ -1,7 +1,6 @@
 -- An access under an invariant of the words is one under the invariant with the list of all accesses,
 -- and adds itself to that list. Assumes `Logic`.
-use Rattle.piper_ring.proofs.Kit.{◌≡◌, ℕ, ◌+◌, Bool, true, false, List, [], ◌∷◌, refl, sym, subst, Ura, Fml, ftrue, fsep, fex, finv, fauth, fobs, Logic, ‵, raw, ◌⊛◌, some, ◌$◌, ◌∵◌, !, qed, move, split, fsplit, fsplit3, fjoin, fpick, fpack, pick, check, show, frame, assume, settle, suffices, rewrite, use1, use2, done, drop as forget, name_agree, Ptr, block_ptr, block_of, count_of, nothing, asks, always, Coded, coded_ℕ, coded_bool, Reader, Writer, signs}
-use base.Logic.{upd, ex, guard, upd_i, apply∗}
+use Rattle.piper_ring.proofs.Kit.{◌≡◌, ℕ, ◌+◌, Bool, true, false, List, [], ◌∷◌, refl, sym, subst, Ura, Fml, ftrue, fsep, fex, finv, fauth, fobs, Logic, ‵, raw, ◌⊛◌, some, ◌$◌, ◌∵◌, !, qed, move, split, fsplit, fsplit3, fjoin, fpick, fpack, pick, check, show, frame, assume, settle, suffices, rewrite, use1, use2, done, drop as forget, name_agree, Ptr, block_ptr, block_of, count_of, nothing, asks, always, Coded, coded_ℕ, coded_bool, Reader, Writer, signs, upd, ex, guard, upd_i, apply∗}
 use Rattle.rtrb.proofs.Asks.{Lies, shared}
 use Rattle.piper_protocol.specs.OneList.{Access, By, Words, AreInOrder, AreOneList, FindsWords, did_by, slot_in, with_slot, words_after, words_of, by as turn}
 use Rattle.piper_ring.specs.Trace.{access_code, bytes_code, closed_name, did_name, did_owns, head_name, mirrors, side_of, sides, slot_name, tail_name, ticket_code, trace, traced}

@@ -1,8 +1,6 @@
 -- `lend` borrows the room for a new lifetime, and cuts its token in two. Assumes `Logic`.
-use Rattle.piper_cells.proofs.SpaceKit.{◌≡◌, ℕ, true, false, [], ◌∷◌, refl, Val, SProp, emp, full_share, ftrue, tables, fact, fact_i, ‵, raw, ◌⊛◌, ◌$◌, ◌∵◌, !, qed, by, move, keep, drop, split, join, group, fsplit, fjoin, fpick, fpack, use0, use1, stop, fld, of_opd, no_more, and_then, returns, enter, alloc_all, pass_all, free_all, look_at, get, get_in, sets, env, agg, sub, whole, lft_new, bor_new, yes, RattleType, owns, Ptr, InBlock, plain, types_at, nothing, alive, Stays, stay_dropped, walk_of, Goes-dropped, proved, leaves, word-Good, ptr-Good, lease, List, Valss, feq_i, of_list, vstruct}
-use denote.RattleType.{Denots}
+use Rattle.piper_cells.proofs.SpaceKit.{◌≡◌, ℕ, true, false, [], ◌∷◌, refl, Val, SProp, emp, full_share, ftrue, tables, fact, fact_i, ‵, raw, ◌⊛◌, ◌$◌, ◌∵◌, !, qed, by, move, keep, drop, split, join, group, fsplit, fjoin, fpick, fpack, use0, use1, stop, fld, of_opd, no_more, and_then, returns, enter, alloc_all, pass_all, free_all, look_at, get, get_in, sets, env, agg, sub, whole, lft_new, bor_new, yes, RattleType, owns, Ptr, InBlock, plain, types_at, nothing, alive, Stays, stay_dropped, walk_of, Goes-dropped, proved, leaves, word-Good, ptr-Good, lease, List, Valss, feq_i, of_list, vstruct, Denots, within}
 use denote.Struct.Declared as Declared
-use denote.Struct.Struct.{within}
 use denote.Struct.Tuple.{tuple_type}
 use Rattle.piper_cells.proofs.Fields.{pointer_val, ghost_val, PointerData, GhostData, pointer_told, pointer_made, ghost_made, owns_of, four_Good}
 use Rattle.piper_cells.specs.contracts.lent_space.Space as Space

@@ -1,7 +1,7 @@
 -- A `&` to a place is made of a borrow of it: the content's borrow goes under an invariant.
 -- Assumes `Logic`.
 use Rattle.std.proofs.Common.{◌≡◌, ℕ, zero, ◌+◌, List, [], ◌∷◌, sym, subst}
-use Rattle.piper_cells.proofs.SpaceKit.{Ura, Ty, Val, full_share, Logic, lfts, part_of, part_at, cell_at, block_ptr, layout, Laws, Struct, Ghosts}
+use Rattle.piper_cells.proofs.SpaceKit.{Ura, Ty, Val, full_share, Logic, lfts, part_of, part_at, cell_at, block_ptr, layout, Laws, Struct, Ghosts, RattleType, Denots}
 use base.Stored.{gnum}
 use base.Logic.{ex, upd_i, all_e, apply∗, id⊢}
 use base.Fml.{Lft, Share, Incl, Incl-refl, Fml, ftrue, fsep, fseps, fwand, fupd, fdead, fbor, flft, finv}
@@ -10,7 +10,6 @@ use ghost.Rules.{Toks, span}
 use types.Kit.{‵, raw, ◌⊛◌, some, later, ◌$◌, ◌∵◌, !, qed, by, move, keep, drop, use0, use1, use2, split, fsplit, fsplit3, fjoin, fpick, fpack, pick, show, assume, suffices, await, updating, now, done}
 use types.Tokens.{bor_open, obor_alter, name_new}
 use types.Na.{before-Incl}
-use denote.RattleType.{RattleType, Denots}
 use denote.Laws.{Lawful}
 use denote.Sharing.{ShrLaws, ends, always}
 use denote.SharingLaws.{some_shr_laws, beside_shr_laws, ends_shr_laws, always_shr_laws}

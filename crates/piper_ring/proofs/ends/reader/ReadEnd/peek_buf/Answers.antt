@@ -1,8 +1,7 @@
 -- The known bytes that are contiguous lie from the head's offset on.
-use Rattle.piper_ring.proofs.Kit.{◌≡◌, ℕ, ◌-◌, ◌<◌, length, take, min, arith, sym, ap, ◌∙◌, length-take-le, slot_of as offset_of, ReadView, in_one_piece}
+use Rattle.piper_ring.proofs.Kit.{◌≡◌, ℕ, ◌-◌, ◌<◌, length, take, min, arith, sym, ap, ◌∙◌, length-take-le, slot_of as offset_of, ReadView, in_one_piece, slot_lt}
 use Rattle.piper_ring.proofs.Indices.{offset_at}
 use Rattle.piper_ring.proofs.ReaderFacts.{known_apart, within_known}
-use Rattle.rtrb.proofs.Positions.{slot_lt}
 use Rattle.piper_ring.proofs.ends.reader.ReadEnd.peek_buf.Goals as goal
 
 pub slice-requires : goal.slice-requires
