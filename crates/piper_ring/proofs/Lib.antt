@@ -12,8 +12,6 @@ pub mod Crosses
 pub mod Trace
 pub mod Terms
 pub mod Steps
-pub mod LoadIfNone
-pub mod Reclaim
 pub mod Leaving
 pub mod Meet
 pub mod Slots

@@ -3,7 +3,7 @@ use Rattle.piper_ring.proofs.Kit.{◌≡◌, ℕ, ◌+◌, ◌≤◌, List, [], 
 use Rattle.piper_ring.specs.Places as P
 use Rattle.piper_ring.specs.Stretches.{ReadGains}
 use Rattle.piper_ring.proofs.Rights.{common_twice}
-use Rattle.piper_ring.proofs.LoadIfNone.{Gained, accepts}
+use Rattle.piper_ring.proofs.Meet.{Gained, accepts}
 use Rattle.piper_ring.specs.contracts.ring.places.Places as Places
 use Rattle.piper_ring.specs.contracts.ring.marks.WriteMark as Mark
 use Rattle.piper_ring.specs.contracts.ring.seats.ReadSeat as Own

@@ -3,7 +3,7 @@ use Rattle.piper_ring.proofs.Kit.{◌≡◌, ℕ, ◌+◌, ◌≤◌, List, [], 
 use Rattle.piper_ring.specs.Places as P
 use Rattle.piper_ring.proofs.Rights.{common_twice}
 use Rattle.piper_ring.specs.Stretches.{WriteGains}
-use Rattle.piper_ring.proofs.Reclaim.{accepts}
+use Rattle.piper_ring.proofs.Meet.{reclaims}
 use Rattle.piper_ring.specs.contracts.ring.places.Places as Places
 use Rattle.piper_ring.specs.contracts.ring.marks.ReadMark as Mark
 use Rattle.piper_ring.specs.contracts.ring.seats.WriteSeat as Own
@@ -29,7 +29,7 @@ accept_spec 𝓤 𝓛 𝓜 𝓡 wired =
     opens ! tt Row b o (λ vs. move ! (1 ∷ []) $ fsplit ! $ peeks ! PointerData (Is PointerData) (shows 𝓛 PointerData) (w, tt) vs (λ is-so. let ev : vs ≡ us = pointer_told w vs is-so in
     drop ! $ rewrite ! 1 (λ (ws : List Val). ‵ (cell_at full_share Row.mir ws b o)) ev refl $ fsplit ! $ use1 𝓛 (‵ C ⊛ ‵ C) (common_twice 𝓛 w p z) $ split ! $ move ! (0 ∷ 2 ∷ 13 ∷ []) $
     use3 𝓛 (later (some (λ (xs : List ℕ). given (full ≡ h.limit + length xs) (‵ (run B h.limit xs) ⊛ ‵ WK'))))
-    (accepts 𝓛 w p z h.sent h.limit h.shut t.count asked.4) $ await ! tt $ pick ! (λ xs. learn ! (λ gained. split ! $ move ! (2 ∷ 1 ∷ []) $ fjoin ! $ move ! (1 ∷ []) $
+    (reclaims 𝓛 w p z h.sent h.limit h.shut t.count asked.4) $ await ! tt $ pick ! (λ xs. learn ! (λ gained. split ! $ move ! (2 ∷ 1 ∷ []) $ fjoin ! $ move ! (1 ∷ []) $
     move ! (7 ∷ []) $ fsplit ! $ fpick ! (λ fine. drop ! $
     let h' : Row.Denot = record h { limit = full } in let k' : KRow.Denot = record k { bytes = k.bytes ++ xs } in
     rewrite ! 1 (λ (r : Ptr × ℕ). ‵ (run (byte r.0 r.1) h.limit xs)) {x = (k.at, k.capacity)} {y = (p, z.capacity)} (λ i. (sym asked.0 i, sym asked.1 i)) refl $
