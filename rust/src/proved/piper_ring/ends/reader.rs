@@ -66,6 +66,7 @@ impl ReadEnd {
     }
 
     /// How many bytes this end knows of.
+    /* #[tactic(auto, using(crate::proofs::ReaderFacts::known_apart))] */
     #[inline] pub fn known_len(&self) -> usize
         /* ensures { result ≡ length self.now.known } */
     {
@@ -73,6 +74,7 @@ impl ReadEnd {
     }
 
     /// Whether this end knows of no byte.
+    /* #[tactic(auto, using(crate::proofs::ReaderFacts::known_apart))] */
     #[inline] pub fn knows_none(&self) -> bool
         /* ensures none { IsTrue result ↔ (length self.now.known ≡ 0) }
         ensures few { 2 * length self.now.known < 2 ^ 64 } */
@@ -82,6 +84,7 @@ impl ReadEnd {
 
     /// How many bytes are unread now. The writer may publish more at any time, until it is known
     /// where the pipe ends: then these are all that come.
+    /* #[tactic(auto, using(rtrb::proofs::Positions::position_inside))] */
     #[inline] pub fn len(&self) -> usize
         /* ensures { ReadEndMayHave self.now result } */
     {
@@ -141,6 +144,7 @@ impl ReadEnd {
     /// Loads the tail, and so knows of bytes that were published: of all there are, once it is known
     /// where the pipe ends. It is for an end that knows of none: one that does has something to do,
     /// and need not touch the other's word.
+    /* #[tactic(auto, using(rtrb::proofs::Positions::position_inside))] */
     #[inline] pub fn load_tail(&mut self, log: &mut Log)
         /* requires none { length self.old.known ≡ 0 }
         requires log { MayNote self.old.ring.names true log.old }

@@ -105,6 +105,7 @@ impl Room {
 }
 
 /// Zeroes the places from the offset `from` up to `end`, which follow `front` and come to it.
+/* #[tactic(auto, using(rtrb::proofs::Positions::slot_small))] */
 #[cold]
 #[inline(never)]
 fn zero(front: &mut Places, blank: &mut Blank, base: Base, from: usize, end: usize)

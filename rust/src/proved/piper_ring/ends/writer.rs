@@ -63,6 +63,7 @@ impl WriteEnd {
     }
 
     /// How many bytes this end knows to have room for.
+    /* #[tactic(auto, using(crate::proofs::WriterFacts::room_apart))] */
     #[inline] pub fn room(&self) -> usize
         /* ensures { result ≡ self.now.room } */
     {
@@ -79,6 +80,7 @@ impl WriteEnd {
     }
 
     /// Whether this end knows of no room.
+    /* #[tactic(auto, using(crate::proofs::WriterFacts::room_apart, crate::proofs::WriterFacts::bounded))] */
     #[inline] pub fn knows_none(&self) -> bool
         /* ensures none { IsTrue result ↔ (self.now.room ≡ 0) }
         ensures few { 2 * self.now.room < 2 ^ 64 }
@@ -88,6 +90,7 @@ impl WriteEnd {
     }
 
     /// How many bytes are unread now. The reader may consume some at any time.
+    /* #[tactic(auto, using(rtrb::proofs::Positions::position_inside))] */
     #[inline] pub fn len(&self) -> usize
         /* ensures { WriteEndMayHave self.now result } */
     {
@@ -150,6 +153,7 @@ impl WriteEnd {
     }
 
     /// `load_head`, with evidence of what was consumed besides: it finds that room, too.
+    /* #[tactic(auto, using(rtrb::proofs::Positions::position_inside))] */
     #[inline] pub(crate) fn load_head_knowing(&mut self, more: &ReadMark, log: &mut Log)
         /* requires none { self.old.room ≡ 0 }
         requires ring { more.now.names ≡ self.old.ring.names }

@@ -115,6 +115,7 @@ impl<T> Side<ReadEnd, T> {
     }
 
     /// A call begins that gives up the first `n` known bytes.
+    /* #[tactic(auto, using(crate::proofs::Told::is_within, crate::proofs::Told::shown_is))] */
     #[inline(always)]
     pub fn begin_consume(&mut self, n: usize)
         /* requires there { n ≤ in_one_piece self.old.end }

@@ -160,6 +160,7 @@ impl<T> Side<WriteEnd, T> {
     }
 
     /// A call begins that publishes the first `n` bytes of what is left of the slice last lent.
+    /* #[tactic(auto, using(crate::proofs::Told::is_within, crate::proofs::Told::lent_is))] */
     #[inline(always)]
     pub fn begin_produce(&mut self, n: usize)
         /* requires there { n ≤ length self.old.end.lent }
