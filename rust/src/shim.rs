@@ -5,11 +5,13 @@
 //! - **Overflow, indices.** No sum overflows and no index is too large, which is proved. Rust checks indices all the same,
 //!   and sums in debug builds.
 //! - **Conditions.** A safe function with a `requires` may be unsound to call without it. All of `proved` is private to the
-//!   crate; of what `lib`, `reader` and `writer` call, `pipe`, `consume` and `produced` have one, and an assertion for it.
-//!   What the proof takes of `Read` and `Write`, `Checked` in `lib` asserts.
+//!   crate; of what `lib`, `reader` and `writer` call, `pipe_with_seed`, `consume` and `produced` have one, and an
+//!   assertion for it; that of `cancel` is of the log alone, which the package doesn't keep. What the proof takes of `Read`
+//!   and `Write`, `Checked` in `lib` asserts.
 //! - **`usize`** has 64 bits in the proofs. With 32 the same source is built and tested: `IS_PROVED` is `false` there.
 //! - **Drops** of Rattle are by value. Those of the source only let evidence go, which takes no bytes, or do what Rust does
-//!   for fields; `tools/erase` refuses any other. Fields are moved out of a value only where its type has no `Drop`.
+//!   for fields; that of a handle the package's own handle makes, by `finish`. `tools/erase` refuses any other. Fields are
+//!   moved out of a value only where its type has no `Drop`.
 //! - **Cells.** Rattle lets a type say what lies behind a `&` to it. Rust has `UnsafeCell` for that: the one such type,
 //!   `TokenCell`, holds one.
 //! - **Aliasing.** The ring is reached by raw pointers of one allocation. A slice is made only of places that its side has.

@@ -98,7 +98,6 @@ def type_of(variable, above):
             first = re.match(MADE, one["made"])
             pair = re.match(rf"\({MADE}.*\), {MADE}", one["made"])
             types = PAIRS.get(by[0], ()) if by else pair.groups() if pair else ()
-            types = PAIRS["pipe"] if re.match(r"\(reader\.(into_inner|get_mut)\(\), writer", one["made"]) else types
             types = types if len(names) == 2 else first.groups() if first else ()
             found = types[names.index(variable)] if types else None
     return found

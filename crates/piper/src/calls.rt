@@ -1,5 +1,5 @@
 //! The calls of both handles, except copies (copies/), those that their end of the ring answers
-//! (handles/ends.rt) and their end (handles.rt).
+//! (handles/ends.rt) and how they end (handles.rt).
 ghost use Rattle.std.specs.Prelude.{◌≡◌, ◌-◌, ◌<◌, ◌≤◌, ◌++◌, length, take, drop, true};
 ghost use Rattle.piper.specs.Runs.{ReaderRan, WriterRan, poll_answer, reader_looks, writer_looks};
 

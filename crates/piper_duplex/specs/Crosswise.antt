@@ -19,7 +19,7 @@ pub record IsNewPipe (cap seed : ℕ) (reader : Reader) (writer : Writer) : Type
   pub fresh : AreFresh cap reader writer
   pub draws : DrawFrom seed reader writer
 
--- the handles of one pipe, once they were held by one thread: all that `Reader::meet` ensures
+-- the handles of one pipe, once they were held by one thread: what `Reader::meet` ensures, except for `logs`
 pub record HaveMet (r0 r1 : Reader) (w0 w1 : Writer) : Type 0 where
   pub met : Meets r0 r1 w0 w1
   pub woken : MeetWoken r0 r1 w0 w1

@@ -124,7 +124,7 @@ impl End {
     /// other end can still read what it has not read yet.
     ///
     /// Returns: evidence for `meet_finished` of the other end's handles, as `finish` of both handles
-    /// gives it.
+    /// gives it, but for their clause `ran`.
     /// Wakes: who waits at the other end. A task that is still registered at this end may also be
     /// woken, as by `Reader::finish` and `Writer::finish`.
     pub fn finish(self) -> (FinishedReader, FinishedWriter)

@@ -98,7 +98,7 @@ impl<R: AsyncBufRead + Drop> Stream for LineStream<R> {
     /// The next line.
     ///
     /// Returns: `Some` line with the byte that ends it, or a piece of one; at the reader's end what
-    /// follows the last line, and then `None`.
+    /// follows the last line, if that is not empty, and then `None`.
     /// Pending: the reader knows no byte, and its call is pending.
     /// Errors: the reader's own; or `Memory`, before the bytes are taken that lack room. After an
     /// error the stream goes on where it was.

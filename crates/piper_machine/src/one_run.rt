@@ -16,7 +16,8 @@ ghost use Rattle.piper_protocol.specs.declared.table.Side.TheVariants.{Reader, W
 /// Two logs whose accesses are what is left of one list, each a list of runs of the call table,
 /// are one run of the model. It has acts of its own for what the model does not have: what a meet
 /// taught, a waker that a side takes out of its own slot before it registers, and a copy without a
-/// context whose source or destination is no slice.
+/// context whose source or destination is no slice. Logs with none of these are one run of the
+/// machine itself (`plain`).
 pub fn is_one_run()
     ensures plain { (capacity : ℕ) (reader writer : List Line) → AreLogs capacity reader writer →
         goes_beyond Reader capacity reader ≡ false → goes_beyond Writer capacity writer ≡ false →
@@ -35,8 +36,8 @@ pub fn is_one_run_by_counts()
         AreCountedLogs capacity reader writer → IsOneWideRun capacity reader writer }
 {}
 
-/// If the accesses of two logs are those that the logs of two handles have at a meet, they are what is
-/// left of one list.
+/// If two lists of accesses are what is left of one list, as those of two handles at a meet, then so
+/// are the accesses of two logs of the model that are the same, line by line.
 pub fn are_listed()
     ensures { (reader writer : List Line) (a b : List Access) → AreOneList a b →
         accesses reader ≡ lines_of a → accesses writer ≡ lines_of b →

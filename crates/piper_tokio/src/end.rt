@@ -25,8 +25,8 @@ use tokio::io::{AsyncBufRead, AsyncRead, AsyncWrite};
 
 /// An end of a duplex stream, as a reader and a writer of `tokio`.
 ///
-/// It is dropped automatically: that wakes who waits at the other end, and closes both pipes, first
-/// the one that it writes into (the close and the order are tested, not proved).
+/// Its drop is that of both halves: it closes both pipes, first the one that it writes into, and
+/// wakes who waits at the other end (the order is tested, not proved).
 ///
 /// In clauses, `read_half` and `write_half` are what `into_halves` gives, and `reading` and
 /// `writing` are their handles.

@@ -8,7 +8,7 @@ use piper::{Reader, Writer};
 
 /// The reading side of a pipe, as a reader of `tokio`.
 ///
-/// It is dropped automatically: that wakes the writer, and closes the pipe (tested, not proved).
+/// Its drop is that of its handle, which closes the pipe and wakes the writer.
 ///
 /// In clauses, `handle_of` is its handle, and `shown_by` are the bytes that `buffer` shows. `reads
 /// a xs b` says that the handle `a` took the bytes `xs`, in this order, and is `b` now (`Took`).
@@ -22,7 +22,7 @@ pub struct CompatReader {
 
 /// The writing side of a pipe, as a writer of `tokio`.
 ///
-/// It is dropped automatically: that wakes the reader, and closes the pipe (tested, not proved).
+/// Its drop is that of its handle, which closes the pipe and wakes the reader.
 ///
 /// In clauses, `writing` is its handle. `writes a xs b` says that a front of `xs` was published,
 /// and all of it unless the pipe was seen closed (`Gave`).

@@ -1,4 +1,4 @@
-//! The ring's two ends over their public calls, and the places below it.
+//! The ring's two ends over their public calls.
 mod acts;
 mod one_thread;
 mod two_threads;

@@ -112,6 +112,7 @@ impl WriteLike for WriteBytes<'_> {
       written_on a.bytes.now b.bytes.now c.bytes.now a.place b.place xs ys a.within p.2 p.1 q.2,
     ) };
 
+    /// Writes as many bytes from the front of `source` as there is place for. It never fails.
     #[inline(always)]
     fn write(&mut self, source: &[u8]) -> Result<usize, Infallible>
         ensures bound { IfOk result (λ n. n ≤ length source.now) }

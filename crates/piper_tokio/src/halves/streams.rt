@@ -35,7 +35,7 @@ impl CompatReader {
         &self.reader
     }
 
-    /// Gives the handle, which has to be spent by its call `drop`. What was shown and not consumed
+    /// Gives the handle. No pipe is closed. What was shown and not consumed
     /// is still unread.
     pub fn into_inner(self) -> Reader
         ensures { result ≡ handle_of self }
@@ -149,7 +149,7 @@ impl CompatWriter {
         &self.writer
     }
 
-    /// Gives the handle, which has to be spent by its call `drop`. No pipe is closed.
+    /// Gives the handle. No pipe is closed. No pipe is closed.
     pub fn into_inner(self) -> Writer
         ensures { result ≡ writing self }
     {

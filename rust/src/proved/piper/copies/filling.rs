@@ -30,7 +30,8 @@ impl Writer {
 
     /// Publishes bytes that a reader of std gives.
     ///
-    /// Returns: how many bytes `source` gave. 0 says that the pipe is closed, for good, or that
+    /// Returns: how many bytes `source` gave. All of them are published, unless this call saw the pipe
+    /// closed: then those of its last round are not. 0 says that the pipe is closed, for good, or that
     /// `source` gave none.
     /// Pending: there is no room, and the pipe was not seen closed; or the call yields. `source`
     /// stays as it was.
@@ -100,7 +101,8 @@ impl Writer {
 
     /// Publishes bytes that any source gives, as `poll_fill` does those of a reader of std.
     ///
-    /// Returns: how many bytes `source` gave. 0 says that the pipe is closed, for good, or that
+    /// Returns: how many bytes `source` gave. All of them are published, unless this call saw the pipe
+    /// closed: then those of its last round are not. 0 says that the pipe is closed, for good, or that
     /// `source` gave none.
     /// Pending: as `poll_fill`.
     /// Errors: `Memory`, as `poll_fill`. `Like`, with the error of `source`: as `Io` of
@@ -126,7 +128,8 @@ impl Writer {
     /// Publishes bytes that any source gives, and doesn't wait: it registers no task and never
     /// yields.
     ///
-    /// Returns: how many bytes `source` gave. 0 says that the pipe is closed, for good, or that
+    /// Returns: how many bytes `source` gave. All of them are published, unless this call saw the pipe
+    /// closed: then those of its last round are not. 0 says that the pipe is closed, for good, or that
     /// `source` gave none.
     /// Pending: there is no room, and the pipe was not seen closed. The call registers no task; one
     /// that was registered before stays so.
