@@ -22,6 +22,8 @@ impl Model for Bytes {
 
 impl Bytes {
     /// A copy of `bytes`.
+    ///
+    /// Errors: `OutOfMemory` if memory is refused.
     pub fn copy_of(alloc: Global, bytes: &[u8]) -> Result<Self, OutOfMemory>
         ensures copy { IfOk result (λ copy. copy ≡ bytes.now) }
         ensures refused { IfErr result HasFailed }

@@ -26,12 +26,19 @@ pub enum Seen {
 pub enum Event {
     /// A call was opened, with the waker handed to it.
     Began(Side, Kind, Option<u32>),
+    /// A side loaded an index or the closed flag, and found this.
     Looked(Side, Seen),
+    /// The writer stored tail past these bytes.
     Published(Bytes),
+    /// The reader stored head past these bytes.
     Consumed(Bytes),
+    /// A side stored the closed flag.
     Closed(Side),
+    /// A side put this waker into its slot.
     Registered(Side, u32),
+    /// This waker was called.
     Woken(u32),
+    /// The call of a side returned this.
     Answered(Side, Answer),
 }
 
