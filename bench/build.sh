@@ -13,6 +13,6 @@ cd "$1"
 rm -rf crates/piper_bench/src crates/piper_bench/proofs
 (cd "$here" && find piper_bench -name '*.txt' -print0 | tar -c --null -T -) | tar -x -C crates --transform 's/\.txt$//'
 grep -q '^piper_bench:' crates.txt ||
-    echo 'piper_bench: piper piper_lines piper_tokio futures rtrb tokio crossbeam_channel' >> crates.txt
+    echo 'piper_bench: piper piper_protocol piper_lines piper_tokio futures rtrb tokio crossbeam_channel' >> crates.txt
 cd crates/piper_bench
 rt run -- ring 64 64 64 < /dev/null
